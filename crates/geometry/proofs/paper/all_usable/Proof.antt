@@ -1,0 +1,38 @@
+-- `geometry::paper::all_usable` meets its contract. Assumes nothing.
+use mathlib.Core.Path.{refl}
+use borrow.Author.Needs.{needs}
+use Rattle.geometry.proofs.paper.all_usable.Statement.{statement}
+use Rattle.geometry.proofs.paper.all_usable.Tie as tie
+
+usable-requires : tie.Need-usable-requires
+usable-requires c κs = search needs
+
+usable-requires-2 : tie.Need-usable-requires-2
+usable-requires-2 c κs = search needs
+
+usable-requires-3 : tie.Need-usable-requires-3
+usable-requires-3 c κs = search needs
+
+usable-requires-4 : tie.Need-usable-requires-4
+usable-requires-4 c κs = search needs
+
+usable-requires-5 : tie.Need-usable-requires-5
+usable-requires-5 c κs = search needs
+
+usable-requires-6 : tie.Need-usable-requires-6
+usable-requires-6 c κs = search needs
+
+returns : tie.Need-returns
+returns c = rw (c .before .before .before .before .before .usable .ensures, c .before .before .before .before .usable2 .ensures, c .before .before .before .usable3 .ensures, c .before .before .usable4 .ensures, c .before .usable5 .ensures, c .usable6 .ensures)
+
+pub all-usable-spec : {M : Type 1} → statement M
+all-usable-spec =
+    tie.close
+    (tie.spec
+    usable-requires
+    usable-requires-2
+    usable-requires-3
+    usable-requires-4
+    usable-requires-5
+    usable-requires-6
+    returns)

@@ -1,0 +1,62 @@
+-- `geometry::units::unscaled_capacity` meets its contract: the helpers' contracts follow the definition. Assumes nothing.
+use mathlib.Core.Path.{_≡_, sym, ap, _∙_}
+use Prim.Native.Nat.{ℕ}
+use lib.IntN.{ℤ}
+use Rattle.geometry.specs.Outcome.{Outcome, given, refused}
+use Rattle.geometry.specs.Units.{lengthOutcome, unscaledCapacity, lessOf, atLeastOne}
+use Rattle.geometry.proofs.Scaling.{capacity-of}
+use borrow.Author.Needs.{needs}
+use Rattle.geometry.proofs.units.unscaled_capacity.Statement.{statement}
+use Rattle.geometry.proofs.units.unscaled_capacity.Tie as tie
+
+returns : tie.Need-returns
+unfolding unscaledCapacity
+returns c =
+    let a = c .before .args in
+    sym (ap (λ (p : ℕ). unscaledCapacity (a .side .0) p (a .titles .0) (a .headings .0)) (c .if1 .taken))
+
+quotient-requires : tie.Need-quotient-requires
+quotient-requires c κs = search needs
+
+enum-known-whole : tie.Need-enum-known-whole
+enum-known-whole c = search needs
+
+enum-told : tie.Need-enum-told
+enum-told c = search needs
+
+returns-2 : tie.Need-returns-2
+returns-2 c =
+    let q = c .before .before in
+    let a = q .before .before .args in
+    capacity-of (a .side .0) (a .permille) (a .titles .0) (a .headings .0) (refused 10) (q .before .if1 .left) (sym (ap lengthOutcome (c .enum-told .given .1)) ∙ q .quotient .ensures)
+
+less-requires : tie.Need-less-requires
+less-requires c κs = search needs
+
+less-requires-2 : tie.Need-less-requires-2
+less-requires-2 c κs = search needs
+
+at-least-one-requires : tie.Need-at-least-one-requires
+at-least-one-requires c κs = search needs
+
+returns-3 : tie.Need-returns-3
+returns-3 c =
+    let s = c .before .before .before .before in
+    let q = s .before .before in
+    let a = q .before .before .args in
+    ap given (c .at-least-one .ensures ∙ ap atLeastOne (c .before .less2 .ensures ∙ ap (λ (o : Outcome ℤ). lessOf o (given (a .headings .0))) (c .before .before .less .ensures)))
+    ∙ capacity-of (a .side .0) (a .permille) (a .titles .0) (a .headings .0) (given (s .whole .given .0 .0 .0)) (q .before .if1 .left) (sym (ap lengthOutcome (s .whole .given .1)) ∙ q .quotient .ensures)
+
+pub unscaled-capacity-spec : {M : Type 1} → statement M
+unscaled-capacity-spec =
+    tie.close
+    (tie.spec
+    returns
+    quotient-requires
+    enum-known-whole
+    enum-told
+    returns-2
+    less-requires
+    less-requires-2
+    at-least-one-requires
+    returns-3)
