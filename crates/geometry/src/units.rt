@@ -36,6 +36,13 @@ impl Fixed {
     {
         self.0
     }
+
+    // The length without its sign.
+    pub fn magnitude(self) -> u64
+        ensures { λ r. ⌜ r ≡ natAbs (self .0) ⌝ }
+    {
+        magnitude(self.0)
+    }
 }
 
 // |z|

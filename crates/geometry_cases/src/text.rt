@@ -1,0 +1,18 @@
+// Words and numbers on standard output.
+use geometry::Fixed;
+use libc::STDOUT_FILENO;
+
+pub fn word(bytes: &[u8]) {
+    io::write_all(STDOUT_FILENO, bytes);
+}
+
+pub fn count(n: u64) {
+    io::print_decimal(STDOUT_FILENO, n);
+}
+
+pub fn number(length: Fixed) {
+    if length.raw() < 0 {
+        word(b"-");
+    }
+    count(length.magnitude());
+}

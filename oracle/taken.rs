@@ -1,0 +1,495 @@
+// Taken unchanged from rxls at commit 04f9f004cc (licence MIT, see NOTICE).
+// Made by oracle/take.py; not to be edited.
+
+// render/src/error.rs:6
+/// A bounded resource category.
+#[derive(Debug, Clone, Copy, PartialEq, Eq, Hash)]
+pub enum LimitKind {
+    /// Source rows in the selected range.
+    Rows,
+    /// Source columns in the selected range.
+    Columns,
+    /// Rectangular source cells before hidden-row filtering.
+    Cells,
+    /// Conditional-formatting rules retained for one worksheet.
+    ConditionalRules,
+    /// Cell/rule evaluations performed while resolving conditional formatting.
+    ConditionalEvaluations,
+    /// Drawing, chart, image, and sparkline objects retained for one worksheet.
+    DrawingObjects,
+    /// Embedded image payload bytes inspected before placeholder rendering.
+    MediaBytes,
+    /// Width or height declared by one decoded embedded image.
+    ImageDimension,
+    /// Decoded pixels declared by one embedded image.
+    ImagePixels,
+    /// Aggregate decoded RGBA bytes retained for embedded images.
+    DecodedMediaBytes,
+    /// Data series retained across charts on one worksheet.
+    ChartSeries,
+    /// Resolved source points retained across charts and sparklines.
+    ChartPoints,
+    /// Accumulated UTF-8 display-text bytes.
+    TextBytes,
+    /// Unicode scalar values passed to the text backend.
+    Glyphs,
+    /// Shaped visual text runs.
+    TextRuns,
+    /// Laid-out text lines.
+    TextLines,
+    /// Vector path commands generated from glyph outlines.
+    PathCommands,
+    /// Backend-neutral scene nodes.
+    SceneNodes,
+    /// Canvas width or height in raw 1/1024-pixel units.
+    Dimension,
+    /// Serialized SVG bytes.
+    OutputBytes,
+    /// Logical page slots before sparse omission.
+    LogicalPages,
+    /// Emitted print pages.
+    Pages,
+    /// Scene nodes on one print page.
+    PageSceneNodes,
+    /// Scene nodes accumulated across a print document.
+    TotalSceneNodes,
+    /// Backend vector commands.
+    BackendCommands,
+    /// Serialized PDF bytes.
+    PdfBytes,
+    /// Raster width or height in pixels.
+    RasterDimension,
+    /// Raster pixels on one page.
+    RasterPixels,
+    /// Encoded PNG bytes on one page.
+    PngBytes,
+}
+
+// render/src/error.rs:106
+/// A typed layout or serialization error.
+#[derive(Debug, Clone, PartialEq, Eq)]
+pub enum RenderError {
+    /// The requested sheet does not exist.
+    SheetIndexOutOfRange {
+        /// Requested zero-based sheet index.
+        requested: usize,
+        /// Number of available sheets.
+        sheet_count: usize,
+    },
+    /// The requested inclusive rectangle is reversed.
+    InvalidRange {
+        /// First row.
+        first_row: u32,
+        /// First column.
+        first_col: u16,
+        /// Last row.
+        last_row: u32,
+        /// Last column.
+        last_col: u16,
+    },
+    /// The requested rectangle exceeds the spreadsheet grid.
+    RangeOutsideGrid {
+        /// Requested final row.
+        last_row: u32,
+        /// Requested final column.
+        last_col: u16,
+        /// Largest supported zero-based row.
+        max_row: u32,
+        /// Largest supported zero-based column.
+        max_col: u16,
+    },
+    /// A configured resource cap was exceeded.
+    LimitExceeded {
+        /// Resource category.
+        kind: LimitKind,
+        /// Configured inclusive upper bound.
+        limit: u64,
+        /// Required amount, when exactly known.
+        actual: u64,
+    },
+    /// Fixed-point coordinate arithmetic overflowed.
+    CoordinateOverflow,
+    /// The verified typography backend rejected otherwise bounded input.
+    Typography {
+        /// Stable, path-free reason code.
+        reason: &'static str,
+    },
+    /// A deterministic output backend rejected the bounded scene.
+    Backend {
+        /// Stable, path-free reason code.
+        reason: &'static str,
+    },
+}
+
+// render/src/scene.rs:8
+/// Number of fixed-point units in one CSS pixel.
+pub const FIXED_UNITS_PER_PIXEL: i64 = 1_024;
+
+// render/src/scene.rs:11
+/// A deterministic signed fixed-point CSS-pixel coordinate.
+///
+/// Geometry uses 1/1024 pixel units. This avoids backend-specific floating-point
+/// formatting and gives SVG, raster, and PDF backends one shared layout surface.
+#[derive(Clone, Copy, Default, PartialEq, Eq, PartialOrd, Ord, Hash)]
+pub struct Fixed(i64);
+
+// render/src/scene.rs:18
+impl Fixed {
+    /// Zero pixels.
+    pub const ZERO: Self = Self(0);
+
+    /// Construct a coordinate from raw 1/1024-pixel units.
+    pub const fn from_raw(raw: i64) -> Self {
+        Self(raw)
+    }
+
+    /// Construct a coordinate from a whole number of CSS pixels.
+    pub const fn from_pixels(pixels: i64) -> Self {
+        Self(pixels.saturating_mul(FIXED_UNITS_PER_PIXEL))
+    }
+
+    /// Return the raw 1/1024-pixel value.
+    pub const fn raw(self) -> i64 {
+        self.0
+    }
+
+    pub(crate) fn checked_add(self, other: Self) -> Option<Self> {
+        self.0.checked_add(other.0).map(Self)
+    }
+
+    pub(crate) fn checked_sub(self, other: Self) -> Option<Self> {
+        self.0.checked_sub(other.0).map(Self)
+    }
+
+    pub(crate) fn max(self, other: Self) -> Self {
+        Self(self.0.max(other.0))
+    }
+}
+
+// render/src/scene.rs:50
+impl fmt::Debug for Fixed {
+    fn fmt(&self, f: &mut fmt::Formatter<'_>) -> fmt::Result {
+        write!(f, "Fixed({})", format_fixed(*self))
+    }
+}
+
+// render/src/scene.rs:56
+/// Format a fixed value as the shortest exact decimal representation.
+pub(crate) fn format_fixed(value: Fixed) -> String {
+    let raw = i128::from(value.raw());
+    if raw == 0 {
+        return "0".to_string();
+    }
+    let negative = raw < 0;
+    let magnitude = raw.unsigned_abs();
+    let scale = FIXED_UNITS_PER_PIXEL as u128;
+    let whole = magnitude / scale;
+    let mut remainder = magnitude % scale;
+    let mut out = String::new();
+    if negative {
+        out.push('-');
+    }
+    out.push_str(&whole.to_string());
+    if remainder != 0 {
+        out.push('.');
+        while remainder != 0 {
+            remainder *= 10;
+            out.push(char::from(b'0' + (remainder / scale) as u8));
+            remainder %= scale;
+        }
+    }
+    out
+}
+
+// render/src/scene.rs:108
+/// A fixed-point rectangle.
+#[derive(Debug, Clone, Copy, PartialEq, Eq, Hash)]
+pub struct Rect {
+    /// Left coordinate.
+    pub x: Fixed,
+    /// Top coordinate.
+    pub y: Fixed,
+    /// Width.
+    pub width: Fixed,
+    /// Height.
+    pub height: Fixed,
+}
+
+// render/src/print.rs:28
+const DEFAULT_LEFT_RIGHT_INCHES: f64 = 0.7;
+
+// render/src/print.rs:29
+const DEFAULT_TOP_BOTTOM_INCHES: f64 = 0.75;
+
+// render/src/print.rs:30
+const DEFAULT_HEADER_FOOTER_INCHES: f64 = 0.3;
+
+// render/src/print.rs:125
+/// Stable typed print approximation or recovery.
+#[derive(Debug, Clone, Copy, PartialEq, Eq, PartialOrd, Ord, Hash)]
+pub enum PrintWarningCode {
+    /// A source print-area reference was malformed and omitted by the reader.
+    SourceInvalidPrintArea,
+    /// A source manual page break was malformed and omitted by the reader.
+    SourceInvalidPageBreak,
+    /// Source print metadata referenced a missing definition or relationship.
+    SourcePrintReferenceMissing,
+    /// A source print property could not be represented by the reader.
+    SourcePrintPropertyUnsupported,
+    /// Malformed source header/footer content could not be retained exactly.
+    SourceHeaderFooterMalformed,
+    /// A source or rxls print-metadata retention limit was reached.
+    SourcePrintMetadataLimitExceeded,
+    /// An unknown paper code used the deterministic Letter fallback.
+    UnknownPaperSizeFallback,
+    /// Invalid margins used deterministic Excel-compatible defaults.
+    InvalidMarginsFallback,
+    /// An explicit percentage was outside 10-400% and was clamped.
+    PrintScaleClamped,
+    /// Fit-to-page could not satisfy its target at the minimum scale.
+    FitTargetUnreachable,
+    /// A repeated-title range was reversed, outside the grid, or unusable.
+    InvalidPrintTitlesIgnored,
+    /// Legacy warning identifier for a repeated-title range in the middle of
+    /// a print area. Current page composition deduplicates these overlaps.
+    MidAreaPrintTitlesDuplicated,
+    /// A merge larger than the available body box forced one page to overflow.
+    MergeExpandedPage,
+    /// Repeated title axes expanded so a merge was never split at the title/body
+    /// seam.
+    PrintTitlesExpandedForMerge,
+    /// A manual page break was moved to a merge boundary so the merge remained
+    /// indivisible.
+    ManualBreakShiftedForMerge,
+    /// One or more indivisible rows, columns, or merges exceed the printable
+    /// body box at the selected scale.
+    PageContentOverflow,
+    /// Logical blank pages were omitted after scale and breaks were finalized.
+    SparsePagesOmitted,
+    /// A volatile header/footer date or time field was omitted.
+    VolatileHeaderFooterFieldOmitted,
+    /// Header/footer font/style control codes were flattened.
+    HeaderFooterFormattingSimplified,
+    /// A filename/path/picture field could not be resolved from the public
+    /// workbook model and was omitted.
+    HeaderFooterSourceFieldOmitted,
+    /// Multiple authored print areas selected different fit scales; page-map
+    /// entries retain each exact scale.
+    MultipleAreaScales,
+}
+
+// render/src/print.rs:207
+/// Aggregated print warning.
+#[derive(Debug, Clone, PartialEq, Eq)]
+pub struct PrintWarning {
+    /// Warning category.
+    pub code: PrintWarningCode,
+    /// Occurrence count.
+    pub occurrences: u64,
+}
+
+// render/src/print.rs:216
+/// Deterministic paper geometry in fixed-point CSS pixels.
+#[derive(Debug, Clone, Copy, PartialEq, Eq)]
+pub struct PaperGeometry {
+    /// Source paper code after fallback. Zero denotes the content-sized canvas
+    /// used by [`PrintLayoutOverride::SinglePageSheets`].
+    pub paper_code: u16,
+    /// Page width after orientation.
+    pub width: Fixed,
+    /// Page height after orientation.
+    pub height: Fixed,
+}
+
+// render/src/print.rs:430
+#[derive(Default)]
+struct PrintWarnings(BTreeMap<PrintWarningCode, u64>);
+
+// render/src/print.rs:433
+impl PrintWarnings {
+    fn add(&mut self, code: PrintWarningCode) {
+        self.add_count(code, 1);
+    }
+
+    fn add_count(&mut self, code: PrintWarningCode, count: u64) {
+        if count != 0 {
+            let entry = self.0.entry(code).or_default();
+            *entry = entry.saturating_add(count);
+        }
+    }
+
+    fn finish(self) -> Vec<PrintWarning> {
+        self.0
+            .into_iter()
+            .map(|(code, occurrences)| PrintWarning { code, occurrences })
+            .collect()
+    }
+}
+
+// render/src/print.rs:2991
+fn paper_geometry(
+    code: Option<u16>,
+    landscape: bool,
+    warnings: &mut PrintWarnings,
+) -> Result<PaperGeometry, RenderError> {
+    let requested = code.unwrap_or(1);
+    let (resolved, width_in, height_in) = match requested {
+        1 => (1, 8.5, 11.0),
+        2 => (2, 8.5, 11.0),
+        3 => (3, 11.0, 17.0),
+        4 => (4, 17.0, 11.0),
+        5 => (5, 8.5, 14.0),
+        6 => (6, 5.5, 8.5),
+        7 => (7, 7.25, 10.5),
+        8 => (8, 11.692_913_385_8, 16.535_433_070_9),
+        9 => (9, 8.267_716_535_4, 11.692_913_385_8),
+        10 => (10, 8.267_716_535_4, 11.692_913_385_8),
+        11 => (11, 5.826_771_653_5, 8.267_716_535_4),
+        12 => (12, mm_to_inches(257.0), mm_to_inches(364.0)),
+        13 => (13, mm_to_inches(182.0), mm_to_inches(257.0)),
+        14 => (14, 8.5, 13.0),
+        15 => (15, mm_to_inches(215.0), mm_to_inches(275.0)),
+        16 => (16, 10.0, 14.0),
+        17 => (17, 11.0, 17.0),
+        18 => (18, 8.5, 11.0),
+        19 => (19, 3.875, 8.875),
+        20 => (20, 4.125, 9.5),
+        21 => (21, 4.5, 10.375),
+        22 => (22, 4.75, 11.0),
+        23 => (23, 5.0, 11.5),
+        27 => (27, mm_to_inches(110.0), mm_to_inches(220.0)),
+        28 => (28, mm_to_inches(162.0), mm_to_inches(229.0)),
+        29 => (29, mm_to_inches(324.0), mm_to_inches(458.0)),
+        30 => (30, mm_to_inches(229.0), mm_to_inches(324.0)),
+        31 => (31, mm_to_inches(114.0), mm_to_inches(162.0)),
+        42 => (42, mm_to_inches(250.0), mm_to_inches(353.0)),
+        43 => (43, mm_to_inches(100.0), mm_to_inches(148.0)),
+        66 => (66, mm_to_inches(420.0), mm_to_inches(594.0)),
+        70 => (70, mm_to_inches(105.0), mm_to_inches(148.0)),
+        _ => {
+            warnings.add(PrintWarningCode::UnknownPaperSizeFallback);
+            (1, 8.5, 11.0)
+        }
+    };
+    let mut width = inches_to_fixed(width_in)?;
+    let mut height = inches_to_fixed(height_in)?;
+    if landscape {
+        std::mem::swap(&mut width, &mut height);
+    }
+    Ok(PaperGeometry {
+        paper_code: resolved,
+        width,
+        height,
+    })
+}
+
+// render/src/print.rs:3047
+const fn mm_to_inches(millimeters: f64) -> f64 {
+    millimeters / 25.4
+}
+
+// render/src/print.rs:3051
+fn content_geometry(
+    paper: PaperGeometry,
+    margins: Option<(f64, f64, f64, f64, f64, f64)>,
+    warnings: &mut PrintWarnings,
+) -> Result<(Rect, Fixed, Fixed), RenderError> {
+    let defaults = (
+        DEFAULT_LEFT_RIGHT_INCHES,
+        DEFAULT_LEFT_RIGHT_INCHES,
+        DEFAULT_TOP_BOTTOM_INCHES,
+        DEFAULT_TOP_BOTTOM_INCHES,
+        DEFAULT_HEADER_FOOTER_INCHES,
+        DEFAULT_HEADER_FOOTER_INCHES,
+    );
+    let valid = margins.filter(|values| {
+        let all = [values.0, values.1, values.2, values.3, values.4, values.5];
+        all.iter().all(|value| value.is_finite() && *value >= 0.0)
+            && (values.0 + values.1) * 96.0
+                < paper.width.raw() as f64 / FIXED_UNITS_PER_PIXEL as f64
+            && (values.2 + values.3) * 96.0
+                < paper.height.raw() as f64 / FIXED_UNITS_PER_PIXEL as f64
+            && values.4 * 96.0 < paper.height.raw() as f64 / FIXED_UNITS_PER_PIXEL as f64
+            && values.5 * 96.0 < paper.height.raw() as f64 / FIXED_UNITS_PER_PIXEL as f64
+    });
+    if margins.is_some() && valid.is_none() {
+        warnings.add(PrintWarningCode::InvalidMarginsFallback);
+    }
+    let (left, right, top, bottom, header, footer) = valid.unwrap_or(defaults);
+    let left = inches_to_fixed(left)?;
+    let right = inches_to_fixed(right)?;
+    let top = inches_to_fixed(top)?;
+    let bottom = inches_to_fixed(bottom)?;
+    let header = inches_to_fixed(header)?;
+    let footer = inches_to_fixed(footer)?;
+    let width = paper
+        .width
+        .checked_sub(left)
+        .and_then(|value| value.checked_sub(right))
+        .ok_or(RenderError::CoordinateOverflow)?;
+    let height = paper
+        .height
+        .checked_sub(top)
+        .and_then(|value| value.checked_sub(bottom))
+        .ok_or(RenderError::CoordinateOverflow)?;
+    let header_y = header;
+    let footer_y = paper
+        .height
+        .checked_sub(footer)
+        .and_then(|value| value.checked_sub(Fixed::from_pixels(16)))
+        .ok_or(RenderError::CoordinateOverflow)?;
+    Ok((
+        Rect {
+            x: left,
+            y: top,
+            width,
+            height,
+        },
+        header_y,
+        footer_y,
+    ))
+}
+
+// render/src/print.rs:3207
+fn unscaled_capacity(
+    page_capacity: Fixed,
+    scale_permille: u16,
+    repeated: Fixed,
+    headings: Fixed,
+) -> Result<Fixed, RenderError> {
+    let raw = i128::from(page_capacity.raw())
+        .checked_mul(1_000)
+        .and_then(|value| value.checked_div(i128::from(scale_permille)))
+        .ok_or(RenderError::CoordinateOverflow)?;
+    let raw = i64::try_from(raw).map_err(|_| RenderError::CoordinateOverflow)?;
+    Ok(Fixed::from_raw(raw)
+        .checked_sub(repeated)
+        .and_then(|value| value.checked_sub(headings))
+        .unwrap_or(Fixed::from_raw(1))
+        .max(Fixed::from_raw(1)))
+}
+
+// render/src/print.rs:4092
+fn scale_fixed(value: Fixed, scale_permille: u16) -> Result<Fixed, RenderError> {
+    let product = i128::from(value.raw())
+        .checked_mul(i128::from(scale_permille))
+        .ok_or(RenderError::CoordinateOverflow)?;
+    let adjusted = if product >= 0 {
+        product + 500
+    } else {
+        product - 500
+    };
+    let raw = adjusted / 1_000;
+    Ok(Fixed::from_raw(
+        i64::try_from(raw).map_err(|_| RenderError::CoordinateOverflow)?,
+    ))
+}
+
+// render/src/print.rs:4111
+fn inches_to_fixed(inches: f64) -> Result<Fixed, RenderError> {
+    let raw = (inches * 96.0 * FIXED_UNITS_PER_PIXEL as f64).round();
+    if !raw.is_finite() || raw < 0.0 || raw > i64::MAX as f64 {
+        return Err(RenderError::CoordinateOverflow);
+    }
+    Ok(Fixed::from_raw(raw as i64))
+}
