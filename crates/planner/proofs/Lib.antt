@@ -1,0 +1,5 @@
+-- Laws that belong to no one function.
+pub mod Laws
+pub mod MergeLaws
+pub mod EndLaws
+pub mod AxisLaws

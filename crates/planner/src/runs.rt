@@ -1,0 +1,598 @@
+// Where the slots of an axis are cut into runs: document 01, section "Runs".
+use crate::titles::Title;
+ghost use mathlib.Core.Path.{_≡_};
+ghost use mathlib.Core.Bool.{cond};
+ghost use Prim.Native.Nat.{_+_, _≤_, _<_, min, max};
+ghost use lib.ListN.{length};
+ghost use Rattle.planner.specs.Slots.{Small, Slots, sum, below, through};
+ghost use Rattle.planner.specs.Titles.{titleHolds};
+ghost use Rattle.planner.specs.Runs.{earlier, nearer, holding, natural, capacityAt, resumed, resumption, taken, mergeStep, merged, runEnd, runs, firstMarked, moved, placed, nextCut, stretch, axisRuns, axisTally};
+ghost use Rattle.planner.specs.Lent.{Room, Written, RoomAt, WrittenAt, counted};
+
+// What holds a boundary: nothing, or a pair of a first and a last index.
+pub enum Held {
+    Free,
+    By(u32, u32),
+}
+
+fn greater(a: u32, b: u32) -> u32
+    ensures { λ r. ⌜ r ≡ max a b ⌝ }
+{
+    if a < b { b } else { a }
+}
+
+fn lesser(a: u32, b: u32) -> u32
+    ensures { λ r. ⌜ r ≡ min a b ⌝ }
+{
+    if a < b { a } else { b }
+}
+
+// The earlier of two pairs, by first, then last.
+fn earlier_of(first: u32, last: u32, held: Held) -> Held
+    ensures { λ r. ⌜ r ≡ earlier first last held ⌝ }
+{
+    let Held::By(f, l) = held else {
+        return Held::By(first, last);
+    };
+    if first < f {
+        return Held::By(first, last);
+    }
+    if f < first {
+        return Held::By(f, l);
+    }
+    Held::By(first, lesser(last, l))
+}
+
+// What holds b, of a pair and of what was found before.
+fn nearer_of(first: u32, last: u32, b: u32, held: Held) -> Held
+    ensures { λ r. ⌜ r ≡ nearer first last b held ⌝ }
+{
+    if first < b {
+        if b <= last {
+            return earlier_of(first, last, held);
+        }
+    }
+    held
+}
+
+// The earliest merge that holds b, clipped to the stretch.
+fn holding_merge(firsts: &[u32], lasts: &[u32], lo: u32, hi: u32, b: u32) -> Held
+    requires { ⌜ length (now firsts) ≡ length (now lasts) ⌝ }
+    ensures { λ r. ⌜ r ≡ holding lo hi b (now (firsts .entry)) (now (lasts .entry)) ⌝ }
+{
+    let mut i = firsts.len();
+    let mut held = Held::Free;
+    while i > 0 {
+        i -= 1;
+        let f = greater(firsts[i], lo);
+        let l = lesser(lasts[i], hi);
+        held = nearer_of(f, l, b, held);
+    }
+    held
+}
+
+// What the runs of an axis go by: two capacities, the title, and the stretch that merges are clipped to.
+pub struct Frame {
+    pub untitled: u64,
+    pub titled: u64,
+    pub title: Title,
+    pub lo: u32,
+    pub hi: u32,
+}
+
+// Where a run ends: how many slots it has, and 1 where a merge took it further.
+pub struct RunEnd {
+    pub slots: usize,
+    pub grown: u64,
+}
+
+fn wide(x: u32) -> u64
+    ensures { λ r. ⌜ r ≡ x ⌝ }
+{
+    x as u64
+}
+
+// How many slots at the front have an index below the limit.
+fn slots_below(indexes: &[u32], limit: u64) -> usize
+    ensures { λ r. ⌜ r ≡ below limit (now (indexes .entry)) ⌝ }
+    ensures { λ r. ⌜ r ≤ length (now (indexes .entry)) ⌝ }
+{
+    let mut n = 0;
+    while n < indexes.len() {
+        if wide(indexes[n]) >= limit {
+            return n;
+        }
+        n += 1;
+    }
+    n
+}
+
+// How many slots there are up to the last one at or below an index.
+fn slots_through(indexes: &[u32], last: u32) -> usize
+    ensures { λ r. ⌜ r ≡ through last (now (indexes .entry)) ⌝ }
+    ensures { λ r. ⌜ r ≤ length (now (indexes .entry)) ⌝ }
+{
+    let mut i = indexes.len();
+    while i > 0 {
+        if indexes[i - 1] <= last {
+            return i;
+        }
+        i -= 1;
+    }
+    0
+}
+
+// How many slots a run takes by filling alone: the first, and the next while the sum stays within the capacity.
+fn natural_fill(sizes: &[u64], capacity: u64) -> usize
+    requires { ⌜ Small (now sizes) ⌝ }
+    requires { ⌜ 0 < length (now sizes) ⌝ }
+    ensures { λ r. ⌜ r ≡ natural capacity (now (sizes .entry)) ⌝ }
+    ensures { λ r. ⌜ (1 ≤ r) × (r ≤ length (now (sizes .entry))) ⌝ }
+{
+    let mut sum = sizes[0];
+    let mut n = 1;
+    while n < sizes.len() {
+        let next = sum + sizes[n];
+        if next > capacity {
+            return n;
+        }
+        sum = next;
+        n += 1;
+    }
+    n
+}
+
+// The sum of a stretch.
+fn total(sizes: &[u64]) -> u64
+    requires { ⌜ Small (now sizes) ⌝ }
+    ensures { λ r. ⌜ r ≡ sum (now (sizes .entry)) ⌝ }
+{
+    let mut i = sizes.len();
+    let mut t = 0;
+    while i > 0 {
+        i -= 1;
+        t += sizes[i];
+    }
+    t
+}
+
+// The capacity of a run whose first slot has this index.
+fn capacity_for(k: Frame, index: u32) -> u64
+    ensures { λ r. ⌜ r ≡ capacityAt k index ⌝ }
+{
+    let title = k.title;
+    let Title::Pair(_, last) = title else {
+        return k.untitled;
+    };
+    if index > last {
+        return k.titled;
+    }
+    k.untitled
+}
+
+// How many slots are taken on from a boundary that the title holds.
+fn resumed_fill(indexes: &[u32], sizes: &[u64], capacity: u64, last: u32) -> usize
+    requires { ⌜ Slots (now indexes) (now sizes) ⌝ }
+    requires { ⌜ 0 < length (now sizes) ⌝ }
+    ensures { λ r. ⌜ r ≡ resumed capacity last (now (indexes .entry)) (now (sizes .entry)) ⌝ }
+    ensures { λ r. ⌜ r ≤ length (now (sizes .entry)) ⌝ }
+{
+    let mut sum = sizes[0];
+    let mut n = 1;
+    while n < sizes.len() {
+        let size = sizes[n];
+        let next = sum + size;
+        if next <= capacity {
+            sum = next;
+            n += 1;
+        } else {
+            if indexes[n] > last {
+                return n;
+            }
+            sum = size;
+            n += 1;
+        }
+    }
+    n
+}
+
+// How many slots a run has after the title's resumption, where filling gave n and slots remain.
+fn title_end(title: Title, capacity: u64, indexes: &[u32], sizes: &[u64], n: usize) -> usize
+    requires { ⌜ Slots (now indexes) (now sizes) ⌝ }
+    requires { ⌜ n < length (now sizes) ⌝ }
+    ensures { λ r. ⌜ r ≡ resumption title capacity n (now (indexes .entry)) (now (sizes .entry)) ⌝ }
+    ensures { λ r. ⌜ (n ≤ r) × (r ≤ length (now (sizes .entry))) ⌝ }
+{
+    let Title::Pair(first, last) = title else {
+        return n;
+    };
+    let b = indexes[n];
+    if first < b {
+        if b <= last {
+            return n + resumed_fill(&indexes[n..], &sizes[n..], capacity, last);
+        }
+    }
+    n
+}
+
+// How many slots filling and the title give a run.
+fn taken_slots(k: Frame, indexes: &[u32], sizes: &[u64]) -> usize
+    requires { ⌜ Slots (now indexes) (now sizes) ⌝ }
+    requires { ⌜ 0 < length (now sizes) ⌝ }
+    ensures { λ r. ⌜ r ≡ taken k (now (indexes .entry)) (now (sizes .entry)) ⌝ }
+    ensures { λ r. ⌜ (1 ≤ r) × (r ≤ length (now (sizes .entry))) ⌝ }
+{
+    let capacity = capacity_for(k, indexes[0]);
+    let n = natural_fill(sizes, capacity);
+    if n >= indexes.len() {
+        return n;
+    }
+    let title = k.title;
+    let titled = k.titled;
+    title_end(title, titled, indexes, sizes, n)
+}
+
+// The merge step, where a run has n slots and `held` holds the boundary after them.
+fn merge_step(indexes: &[u32], n: usize, held: Held) -> RunEnd
+    ensures { λ r. ⌜ r ≡ mergeStep held n (now (indexes .entry)) ⌝ }
+{
+    let Held::By(first, last) = held else {
+        return RunEnd { slots: n, grown: 0 };
+    };
+    let start = slots_below(indexes, wide(first));
+    if start > 0 {
+        return RunEnd {
+            slots: start,
+            grown: 0,
+        };
+    }
+    let end = slots_through(indexes, last);
+    if end > n {
+        return RunEnd {
+            slots: end,
+            grown: 1,
+        };
+    }
+    RunEnd { slots: n, grown: 0 }
+}
+
+// The end of a run that filling and the title gave n slots.
+fn merged_end(indexes: &[u32], n: usize, firsts: &[u32], lasts: &[u32], lo: u32, hi: u32) -> RunEnd
+    requires { ⌜ length (now firsts) ≡ length (now lasts) ⌝ }
+    ensures { λ r. ⌜ r ≡ merged lo hi (now (firsts .entry)) (now (lasts .entry)) n (now (indexes .entry)) ⌝ }
+{
+    if n >= indexes.len() {
+        return RunEnd { slots: n, grown: 0 };
+    }
+    let held = holding_merge(firsts, lasts, lo, hi, indexes[n]);
+    merge_step(indexes, n, held)
+}
+
+// Where a run that starts at the head of the slots ends.
+fn run_end(k: Frame, firsts: &[u32], lasts: &[u32], indexes: &[u32], sizes: &[u64]) -> RunEnd
+    requires { ⌜ length (now firsts) ≡ length (now lasts) ⌝ }
+    requires { ⌜ Slots (now indexes) (now sizes) ⌝ }
+    requires { ⌜ 0 < length (now sizes) ⌝ }
+    ensures { λ r. ⌜ r ≡ runEnd k (now (firsts .entry)) (now (lasts .entry)) (now (indexes .entry)) (now (sizes .entry)) ⌝ }
+    ensures { λ r. ⌜ (1 ≤ r .slots) × (r .slots ≤ length (now (sizes .entry))) × (r .grown ≤ 1) ⌝ }
+{
+    let n = taken_slots(k, indexes, sizes);
+    let lo = k.lo;
+    let hi = k.hi;
+    merged_end(indexes, n, firsts, lasts, lo, hi)
+}
+
+// How many runs a stretch has, and how many of them a merge took further.
+pub struct Counted {
+    pub runs: usize,
+    pub grown: u64,
+}
+
+// Counts the runs of a stretch.
+fn count_runs(k: Frame, mfirsts: &[u32], mlasts: &[u32], indexes: &[u32], sizes: &[u64]) -> Counted
+    requires { ⌜ length (now mfirsts) ≡ length (now mlasts) ⌝ }
+    requires { ⌜ Slots (now indexes) (now sizes) ⌝ }
+    ensures { λ r. ⌜ r ≡ counted (runs k (now (mfirsts .entry)) (now (mlasts .entry)) (now (indexes .entry)) (now (sizes .entry))) ⌝ }
+    ensures { λ r. ⌜ (r .runs ≤ length (now (sizes .entry))) × (r .grown ≤ length (now (sizes .entry))) ⌝ }
+{
+    let mut is = indexes;
+    let mut ss = sizes;
+    let mut count = 0;
+    let mut grown = 0;
+    while ss.len() > 0 {
+        let end = run_end(k, mfirsts, mlasts, is, ss);
+        let n = end.slots;
+        is = &is[n..];
+        ss = &ss[n..];
+        count += 1;
+        grown += end.grown;
+    }
+    Counted { runs: count, grown }
+}
+
+// Writes the runs of a stretch to the front of the lent lists, the first with the mark, and returns how many there are.
+fn write_runs(
+    k: Frame,
+    mfirsts: &[u32],
+    mlasts: &[u32],
+    indexes: &[u32],
+    sizes: &[u64],
+    mark: u8,
+    firsts: &mut [u32],
+    lasts: &mut [u32],
+    totals: &mut [u64],
+    marks: &mut [u8],
+) -> usize
+    requires { ⌜ length (now mfirsts) ≡ length (now mlasts) ⌝ }
+    requires { ⌜ Slots (now indexes) (now sizes) ⌝ }
+    requires { ⌜ Room (firstMarked mark (runs k (now mfirsts) (now mlasts) (now indexes) (now sizes))) (now firsts) (now lasts) (now totals) (now marks) ⌝ }
+    ensures { λ r. ⌜ Written (firstMarked mark (runs k (now (mfirsts .entry)) (now (mlasts .entry)) (now (indexes .entry)) (now (sizes .entry)))) r (now (firsts .entry)) (now (lasts .entry)) (now (totals .entry)) (now (marks .entry)) (now (firsts .exit)) (now (lasts .exit)) (now (totals .exit)) (now (marks .exit)) ⌝ }
+{
+    let mut is = indexes;
+    let mut ss = sizes;
+    let mut manual = mark;
+    let mut at = 0;
+    while ss.len() > 0 {
+        let end = run_end(k, mfirsts, mlasts, is, ss);
+        let n = end.slots;
+        let t = total(&ss[..n]);
+        firsts[at] = is[0];
+        lasts[at] = is[n - 1];
+        totals[at] = t;
+        marks[at] = manual;
+        manual = 0;
+        is = &is[n..];
+        ss = &ss[n..];
+        at += 1;
+    }
+    at
+}
+
+// The place of a cut, and 1 where a merge moved it.
+pub struct Cut {
+    pub place: usize,
+    pub shifted: u64,
+}
+
+fn title_holds(title: Title, b: u32) -> bool
+    ensures { λ r. ⌜ r ≡ titleHolds title b ⌝ }
+{
+    let Title::Pair(first, last) = title else {
+        return false;
+    };
+    if first < b {
+        if b <= last {
+            return true;
+        }
+    }
+    false
+}
+
+// The cut of a break at the place p, whose boundary `held` holds.
+fn moved_cut(held: Held, prev: usize, p: usize, indexes: &[u32]) -> Cut
+    ensures { λ r. ⌜ r ≡ moved held prev p (now (indexes .entry)) ⌝ }
+{
+    let Held::By(first, last) = held else {
+        return Cut {
+            place: p,
+            shifted: 0,
+        };
+    };
+    let start = slots_below(indexes, wide(first));
+    if start > prev {
+        return Cut {
+            place: start,
+            shifted: 1,
+        };
+    }
+    let end = slots_through(indexes, last);
+    Cut {
+        place: end,
+        shifted: 1,
+    }
+}
+
+// The cut of a break at the place p; the last kept one where the break is skipped.
+fn placed_cut(
+    k: Frame,
+    mfirsts: &[u32],
+    mlasts: &[u32],
+    indexes: &[u32],
+    prev: usize,
+    p: usize,
+) -> Cut
+    requires { ⌜ length (now mfirsts) ≡ length (now mlasts) ⌝ }
+    ensures { λ r. ⌜ r ≡ placed k (now (mfirsts .entry)) (now (mlasts .entry)) (now (indexes .entry)) prev p ⌝ }
+{
+    if p == 0 {
+        return Cut {
+            place: prev,
+            shifted: 0,
+        };
+    }
+    if p >= indexes.len() {
+        return Cut {
+            place: prev,
+            shifted: 0,
+        };
+    }
+    let b = indexes[p];
+    let title = k.title;
+    if title_holds(title, b) {
+        return Cut {
+            place: prev,
+            shifted: 0,
+        };
+    }
+    let lo = k.lo;
+    let hi = k.hi;
+    let held = holding_merge(mfirsts, mlasts, lo, hi, b);
+    moved_cut(held, prev, p, indexes)
+}
+
+// The last kept cut after the break b.
+fn next_cut(k: Frame, mfirsts: &[u32], mlasts: &[u32], indexes: &[u32], prev: usize, b: u32) -> Cut
+    requires { ⌜ length (now mfirsts) ≡ length (now mlasts) ⌝ }
+    requires { ⌜ prev ≤ length (now indexes) ⌝ }
+    ensures { λ r. ⌜ r ≡ nextCut k (now (mfirsts .entry)) (now (mlasts .entry)) (now (indexes .entry)) prev b ⌝ }
+    ensures { λ r. ⌜ (prev ≤ r .place) × (r .place ≤ length (now (indexes .entry))) × (r .shifted ≤ 1) ⌝ }
+{
+    let p = slots_below(indexes, wide(b));
+    let c = placed_cut(k, mfirsts, mlasts, indexes, prev, p);
+    let place = c.place;
+    let shifted = c.shifted;
+    if place > prev {
+        if place < indexes.len() {
+            return Cut { place, shifted };
+        }
+    }
+    Cut {
+        place: prev,
+        shifted,
+    }
+}
+
+// What an axis comes to: how many runs, expansions and shifts.
+pub struct Tally {
+    pub runs: usize,
+    pub expansions: u64,
+    pub shifts: u64,
+}
+
+// Counts the runs of an axis.
+fn count_axis(
+    k: Frame,
+    mfirsts: &[u32],
+    mlasts: &[u32],
+    breaks: &[u32],
+    indexes: &[u32],
+    sizes: &[u64],
+) -> Tally
+    requires { ⌜ length (now mfirsts) ≡ length (now mlasts) ⌝ }
+    requires { ⌜ Slots (now indexes) (now sizes) ⌝ }
+    ensures { λ r. ⌜ r ≡ axisTally k (now (mfirsts .entry)) (now (mlasts .entry)) (now (indexes .entry)) (now (sizes .entry)) (now (breaks .entry)) ⌝ }
+{
+    let end = sizes.len();
+    let mut prev = 0;
+    let mut count = 0;
+    let mut grown = 0;
+    let mut shifts = 0;
+    let mut j = 0;
+    while j < breaks.len() {
+        let cut = next_cut(k, mfirsts, mlasts, indexes, prev, breaks[j]);
+        let next = cut.place;
+        let t = count_runs(k, mfirsts, mlasts, &indexes[prev..next], &sizes[prev..next]);
+        count += t.runs;
+        grown += t.grown;
+        shifts += cut.shifted;
+        prev = next;
+        j += 1;
+    }
+    let t = count_runs(k, mfirsts, mlasts, &indexes[prev..end], &sizes[prev..end]);
+    Tally {
+        runs: count + t.runs,
+        expansions: grown + t.grown,
+        shifts,
+    }
+}
+
+// The mark of a run that starts at a cut: every cut past 0 is a kept manual break.
+fn mark_of(cut: usize) -> u8
+    ensures { λ r. ⌜ r ≡ min cut 1 ⌝ }
+{
+    if cut > 0 { 1 } else { 0 }
+}
+
+// Writes the runs of the slots from the cut a to the cut e to the lent lists, from `at` on, and returns how many there are.
+fn write_stretch(
+    k: Frame,
+    mfirsts: &[u32],
+    mlasts: &[u32],
+    indexes: &[u32],
+    sizes: &[u64],
+    a: usize,
+    e: usize,
+    at: usize,
+    firsts: &mut [u32],
+    lasts: &mut [u32],
+    totals: &mut [u64],
+    marks: &mut [u8],
+) -> usize
+    requires { ⌜ length (now mfirsts) ≡ length (now mlasts) ⌝ }
+    requires { ⌜ Slots (now indexes) (now sizes) ⌝ }
+    requires { ⌜ (a ≤ e) × (e ≤ length (now sizes)) ⌝ }
+    requires { ⌜ RoomAt (stretch k (now mfirsts) (now mlasts) (now indexes) (now sizes) a e) at (now firsts) (now lasts) (now totals) (now marks) ⌝ }
+    ensures { λ r. ⌜ WrittenAt (stretch k (now (mfirsts .entry)) (now (mlasts .entry)) (now (indexes .entry)) (now (sizes .entry)) a e) at r (now (firsts .entry)) (now (lasts .entry)) (now (totals .entry)) (now (marks .entry)) (now (firsts .exit)) (now (lasts .exit)) (now (totals .exit)) (now (marks .exit)) ⌝ }
+{
+    write_runs(
+        k,
+        mfirsts,
+        mlasts,
+        &indexes[a..e],
+        &sizes[a..e],
+        mark_of(a),
+        &mut firsts[at..],
+        &mut lasts[at..],
+        &mut totals[at..],
+        &mut marks[at..],
+    )
+}
+
+// Writes the runs of an axis to the front of the lent lists and returns how many there are.
+fn write_axis(
+    k: Frame,
+    mfirsts: &[u32],
+    mlasts: &[u32],
+    breaks: &[u32],
+    indexes: &[u32],
+    sizes: &[u64],
+    firsts: &mut [u32],
+    lasts: &mut [u32],
+    totals: &mut [u64],
+    marks: &mut [u8],
+) -> usize
+    requires { ⌜ length (now mfirsts) ≡ length (now mlasts) ⌝ }
+    requires { ⌜ Slots (now indexes) (now sizes) ⌝ }
+    requires { ⌜ Room (axisRuns k (now mfirsts) (now mlasts) (now indexes) (now sizes) 0 (now breaks)) (now firsts) (now lasts) (now totals) (now marks) ⌝ }
+    ensures { λ r. ⌜ Written (axisRuns k (now (mfirsts .entry)) (now (mlasts .entry)) (now (indexes .entry)) (now (sizes .entry)) 0 (now (breaks .entry))) r (now (firsts .entry)) (now (lasts .entry)) (now (totals .entry)) (now (marks .entry)) (now (firsts .exit)) (now (lasts .exit)) (now (totals .exit)) (now (marks .exit)) ⌝ }
+{
+    let end = sizes.len();
+    let mut prev = 0;
+    let mut at = 0;
+    let mut j = 0;
+    while j < breaks.len() {
+        let cut = next_cut(k, mfirsts, mlasts, indexes, prev, breaks[j]);
+        let next = cut.place;
+        at += write_stretch(
+            k,
+            mfirsts,
+            mlasts,
+            indexes,
+            sizes,
+            prev,
+            next,
+            at,
+            firsts,
+            lasts,
+            totals,
+            marks,
+        );
+        prev = next;
+        j += 1;
+    }
+    at
+        + write_stretch(
+            k,
+            mfirsts,
+            mlasts,
+            indexes,
+            sizes,
+            prev,
+            end,
+            at,
+            firsts,
+            lasts,
+            totals,
+            marks,
+        )
+}
