@@ -2,7 +2,7 @@
 use mathlib.Core.Path.{_≡_, refl, sym, ap, _∙_}
 use mathlib.Core.Bool.{Bool, true, false, cond}
 use mathlib.Core.List.{List, [], _∷_, _++_}
-use Prim.Native.Nat.{ℕ, zero, suc, _+_, _-_, _≤_, _<_}
+use Prim.Native.Nat.{ℕ, zero, suc, _+_, _-_, _≤_, _<_, min}
 use native.Mathlib.Omega.{arith}
 use lib.ListN.{length, getD, take, drop, drop-of-length-le}
 use lib.Seq.{drop-cons}
@@ -13,10 +13,10 @@ use Rattle.planner.specs.declared.runs.Held.{Held}
 use Rattle.planner.specs.declared.runs.Held.the-variants.{Free, By}
 use Rattle.planner.specs.declared.runs.Frame.{Frame}
 use Rattle.planner.specs.declared.runs.Cut.{Cut}
-use Rattle.planner.proofs.Laws.{either}
-use Rattle.planner.specs.Slots.{below, through}
+use Rattle.planner.proofs.Laws.{either, part, turn, none, some}
+use Rattle.planner.specs.Slots.{Slots, below, through, mid}
 use Rattle.planner.specs.Titles.{titleHolds}
-use Rattle.planner.specs.Runs.{Run, holding, expansions, cutAt, moved, placed, kept, nextCut, stretch, axisRuns, shifts}
+use Rattle.planner.specs.Runs.{Run, holding, expansions, cutAt, moved, placed, kept, nextCut, stretch, axisRuns, shifts, runs, run, runsBy, firstMarked, withMark}
 
 module _ (held : Held) (f l prev p : ℕ) (is : List ℕ) (h : held ≡ By f l) (s : ℕ) (e : s ≡ below f is) where
   pub moved-start : prev < s → cutAt s 1 ≡ moved held prev p is
@@ -77,6 +77,51 @@ pub next-is : (k : Frame) (fs ls is : List ℕ) (prev b p : ℕ) (c : Cut) → p
     → kept (length is) prev c ≡ nextCut k fs ls is prev b
 unfolding nextCut
 next-is k fs ls is prev b p c e h = ap (kept (length is) prev) (h ∙ ap (placed k fs ls is prev) e)
+
+-- ---- marks change neither the number of runs nor the expansions
+
+pub marked-length : (m : ℕ) (rs : List Run) → length (firstMarked m rs) ≡ length rs
+unfolding firstMarked
+marked-length m [] = refl
+marked-length m (r ∷ rs) = refl
+
+marked-expansions : (m : ℕ) (rs : List Run) → expansions (firstMarked m rs) ≡ expansions rs
+unfolding firstMarked expansions
+marked-expansions m [] = refl
+marked-expansions m (r ∷ rs) = refl
+
+-- only the first of a stretch can be marked
+unmarked : (k : Frame) (fs ls is ss : List ℕ) → firstMarked 0 (runs k fs ls is ss) ≡ runs k fs ls is ss
+unfolding firstMarked runs runsBy run
+unmarked k fs ls [] ss = refl
+unmarked k fs ls (i ∷ is) [] = refl
+unmarked k fs ls (i ∷ is) (s ∷ ss) = refl
+
+-- a turn of the loop that writes run after run: the run at the head with the mark, and the runs after it without
+pub turn-marked : (k : Frame) (fs ls : List ℕ) (m n : ℕ) (is ss : List ℕ) → Slots is ss → 0 < length ss → n ≡ run k fs ls is ss .slots → 1 ≤ n
+    → firstMarked m (runs k fs ls is ss) ≡ withMark m (run k fs ls is ss) ∷ firstMarked 0 (runs k fs ls (part n is) (part n ss))
+unfolding firstMarked runs
+turn-marked k fs ls m n is ss h p e q =
+    ap (firstMarked m) (turn (run k fs ls) n is ss h p e q)
+    ∙ ap (λ (rs : List Run). withMark m (run k fs ls is ss) ∷ rs) (sym (unmarked k fs ls (part n is) (part n ss)))
+
+pub none-marked : (k : Frame) (fs ls : List ℕ) (m : ℕ) (is ss : List ℕ) → length ss ≤ 0 → firstMarked m (runs k fs ls is ss) ≡ []
+unfolding firstMarked runs
+none-marked k fs ls m is ss h = ap (firstMarked m) (none (run k fs ls) is ss h)
+
+pub some-marked : (k : Frame) (fs ls : List ℕ) (m : ℕ) (is ss : List ℕ) → 0 < length ss → length is ≡ length ss
+    → 1 ≤ length (firstMarked m (runs k fs ls is ss))
+unfolding runs
+some-marked k fs ls m is ss h e = omega (arith, marked-length m (runs k fs ls is ss), some (run k fs ls) is ss h e)
+
+module _ (k : Frame) (fs ls is ss : List ℕ) (a e : ℕ) where
+  pub stretch-length : length (stretch k fs ls is ss a e) ≡ length (runs k fs ls (mid a e is) (mid a e ss))
+  unfolding stretch
+  stretch-length = marked-length (min a 1) (runs k fs ls (mid a e is) (mid a e ss))
+
+  pub stretch-expansions : expansions (stretch k fs ls is ss a e) ≡ expansions (runs k fs ls (mid a e is) (mid a e ss))
+  unfolding stretch
+  stretch-expansions = marked-expansions (min a 1) (runs k fs ls (mid a e is) (mid a e ss))
 
 -- ---- from break to break
 

@@ -5,7 +5,7 @@ use Prim.Native.Nat.{ℕ, zero, suc, _+_, _-_, _≤_, _<_}
 use native.Mathlib.Numerals.{add-one}
 use native.Mathlib.Omega.{arith}
 use lib.ListN.{length, getD, drop, drop-of-length-le}
-use lib.Seq.{drop-cons}
+use lib.Seq.{drop-cons, drop-length}
 use borrow.Author.Tests.{lt-ltb, le-ltb, le-leb, lt-leb}
 use Rattle.planner.specs.declared.runs.Held.{Held}
 use Rattle.planner.specs.declared.titles.Title.{Title}
@@ -113,6 +113,10 @@ through-le k (i ∷ is) =
     (either (λ (n : ℕ). n ≤ suc (length is)) (leb i k) (omega arith) (omega arith))
 
 -- ---- slots up to the last one at or below a limit, from the end
+
+pub through-none : (k : ℕ) (l : List ℕ) → through k (drop (length l) l) ≡ 0
+unfolding through
+through-none k l = rw drop-length
 
 -- none from i on: the one before decides
 pub through-found : (k i : ℕ) (l : List ℕ) → 0 < i → i ≤ length l → through k (drop i l) ≡ 0 → getD l (i - 1) 0 ≤ k → through k (drop (i - 1) l) ≡ 1

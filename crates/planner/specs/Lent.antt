@@ -7,9 +7,12 @@ use Rattle.planner.specs.declared.runs.Counted.{Counted}
 use Rattle.planner.specs.Slots.{written}
 use Rattle.planner.specs.Runs.{Run, expansions}
 
+abbrev pub counts : ℕ → ℕ → Counted
+counts n g = record { runs = n; grown = g }
+
 -- how many runs and expansions a stretch has
 abbrev pub counted : List Run → Counted
-counted rs = record { runs = length rs; grown = expansions rs }
+counted rs = counts (length rs) (expansions rs)
 
 abbrev pub firsts : List Run → List ℕ
 firsts = map (λ (r : Run). r .first)

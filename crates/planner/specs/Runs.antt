@@ -160,10 +160,13 @@ nextCut k fs ls is prev b = kept (length is) prev (placed k fs ls is prev (below
 
 -- ---- the runs of an axis
 
+abbrev pub withMark : ℕ → Run → Run
+withMark m r = record { first = r .first; last = r .last; size = r .size; slots = r .slots; grown = r .grown; manual = m }
+
 -- "A kept cut marks its run."
 unfoldable pub firstMarked : ℕ → List Run → List Run
 firstMarked m [] = []
-firstMarked m (r ∷ rs) = record { first = r .first; last = r .last; size = r .size; slots = r .slots; grown = r .grown; manual = m } ∷ rs
+firstMarked m (r ∷ rs) = withMark m r ∷ rs
 
 -- the runs of the slots from the cut a to the cut e; every cut past 0 is a kept one
 unfoldable pub stretch : Frame → List ℕ → List ℕ → List ℕ → List ℕ → ℕ → ℕ → List Run
@@ -179,7 +182,10 @@ unfoldable pub shifts : Frame → List ℕ → List ℕ → List ℕ → ℕ →
 shifts k fs ls is prev [] = 0
 shifts k fs ls is prev (b ∷ bs) = nextCut k fs ls is prev b .shifted + shifts k fs ls is (nextCut k fs ls is prev b .place) bs
 
+abbrev pub tallies : ℕ → ℕ → ℕ → Tally
+tallies n g s = record { runs = n; expansions = g; shifts = s }
+
 -- how many runs, expansions and shifts
 unfoldable pub axisTally : Frame → List ℕ → List ℕ → List ℕ → List ℕ → List ℕ → Tally
 axisTally k fs ls is ss bs =
-    record { runs = length (axisRuns k fs ls is ss 0 bs); expansions = expansions (axisRuns k fs ls is ss 0 bs); shifts = shifts k fs ls is 0 bs }
+    tallies (length (axisRuns k fs ls is ss 0 bs)) (expansions (axisRuns k fs ls is ss 0 bs)) (shifts k fs ls is 0 bs)

@@ -1,0 +1,72 @@
+-- `planner::runs::merge_step` meets its contract. Assumes nothing.
+use mathlib.Core.Path.{_≡_, ap, _∙_}
+use Prim.Native.Nat.{ℕ, _+_}
+use Rattle.planner.proofs.EndLaws.{step-start, step-far, step-stay}
+use borrow.Author.Tests.{lt-ltb, le-ltb, le-leb, lt-leb}
+use borrow.Author.Needs.{needs}
+use Rattle.planner.proofs.runs.merge_step.Statement.{statement}
+use Rattle.planner.proofs.runs.merge_step.Tie as tie
+use Rattle.planner.proofs.runs.merge_step.Reads as reads
+use Rattle.planner.proofs.runs.merge_step.Lts as lts
+use Rattle.planner.proofs.runs.slots_below.Reads as slots-below-reads
+use Rattle.planner.proofs.runs.wide.Reads as wide-reads
+use Rattle.planner.specs.Slots.{below}
+use Rattle.planner.specs.Runs.{mergeStep, merged}
+
+enum-known-held : tie.Need-enum-known-held
+enum-known-held c = search needs
+
+enum-told : tie.Need-enum-told
+enum-told c = search needs
+
+returns : tie.Need-returns
+unfolding mergeStep merged
+returns c = rw (c .enum-told .given .1)
+
+wide-requires : tie.Need-wide-requires
+wide-requires c κs = search needs
+
+slots-below-requires : tie.Need-slots-below-requires
+slots-below-requires c κs = search needs
+
+returns-2 : tie.Need-returns-2
+unfolding mergeStep merged
+returns-2 c =
+    let s = c .before .before .before .before .before .before .before .args in
+    step-start (s .held) _ _ (s .n) (s .indexes .now) (c .before .before .before .before .held .given .1) (c .before .slots-below .result)
+    (c .before .slots-below .ensures .0 ∙ ap (λ (k : ℕ). below k (s .indexes .now)) (c .before .before .wide .ensures)) (c .if1 .taken)
+
+slots-through-requires : tie.Need-slots-through-requires
+slots-through-requires c κs = search needs
+
+returns-3 : tie.Need-returns-3
+unfolding mergeStep merged
+returns-3 c =
+    let b = c .before .before in
+    let s = b .before .before .before .before .before .before .before .args in
+    step-far (s .held) _ _ (s .n) (s .indexes .now) (b .before .before .before .before .held .given .1) (b .before .slots-below .result) (c .before .slots-through .result)
+    (b .before .slots-below .ensures .0 ∙ ap (λ (k : ℕ). below k (s .indexes .now)) (b .before .before .wide .ensures)) (b .if1 .left)
+    (c .before .slots-through .ensures .0) (c .if2 .taken)
+
+returns-4 : tie.Need-returns-4
+unfolding mergeStep merged
+returns-4 c =
+    let b = c .before .before in
+    let s = b .before .before .before .before .before .before .before .args in
+    step-stay (s .held) _ _ (s .n) (s .indexes .now) (b .before .before .before .before .held .given .1) (b .before .slots-below .result) (c .before .slots-through .result)
+    (b .before .slots-below .ensures .0 ∙ ap (λ (k : ℕ). below k (s .indexes .now)) (b .before .before .wide .ensures)) (b .if1 .left)
+    (c .before .slots-through .ensures .0) (c .if2 .left)
+
+pub merge-step-spec : {M : Type 1} → statement M
+merge-step-spec =
+    tie.close
+    (tie.spec
+    enum-known-held
+    enum-told
+    returns
+    wide-requires
+    slots-below-requires
+    returns-2
+    slots-through-requires
+    returns-3
+    returns-4)

@@ -1,0 +1,41 @@
+-- `planner::runs::merged_end` meets its contract. Assumes nothing.
+use borrow.Author.Tests.{lt-ltb, le-ltb, le-leb, lt-leb}
+use borrow.Author.Needs.{needs}
+use Rattle.planner.proofs.runs.merged_end.Statement.{statement}
+use Rattle.planner.proofs.runs.merged_end.Tie as tie
+use Rattle.planner.proofs.runs.merged_end.Reads as reads
+use Rattle.planner.proofs.runs.merged_end.Lts as lts
+use Rattle.planner.proofs.runs.holding_merge.Reads as holding-merge-reads
+use Rattle.planner.proofs.runs.merge_step.Reads as merge-step-reads
+use Rattle.planner.specs.Runs.{mergeStep, merged}
+
+returns : tie.Need-returns
+unfolding mergeStep merged
+returns c = rw (le-ltb _ _ (c .if1 .taken))
+
+mul-holding-merge : tie.Need-mul-holding-merge
+mul-holding-merge c = search needs
+
+shared-slice-read-holding-merge : tie.Need-shared-slice-read-holding-merge
+shared-slice-read-holding-merge c = search needs
+
+holding-merge-requires : tie.Need-holding-merge-requires
+holding-merge-requires c κs = search needs
+
+merge-step-requires : tie.Need-merge-step-requires
+merge-step-requires c κs = search needs
+
+returns-2 : tie.Need-returns-2
+unfolding mergeStep merged
+returns-2 c = rw (lt-ltb _ _ (c .before .before .before .if1 .left)) (rw (c .before .holding-merge .ensures) at (c .merge-step .ensures))
+
+pub merged-end-spec : {M : Type 1} → statement M
+merged-end-spec =
+    tie.close
+    (tie.spec
+    returns
+    mul-holding-merge
+    shared-slice-read-holding-merge
+    holding-merge-requires
+    merge-step-requires
+    returns-2)

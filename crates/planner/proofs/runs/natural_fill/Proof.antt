@@ -1,0 +1,81 @@
+-- `planner::runs::natural_fill` meets its contract. The loop's invariant: what is taken, and what the definition still takes from here, is the whole.
+-- Assumes nothing.
+use Rattle.planner.proofs.Laws.{more-yes, more-no, more-end, natural-start}
+use lib.ListN.{length, drop}
+use Prim.Native.Nat.{_+_, _*_, _-_, _≤_}
+use mathlib.Core.Path.{_≡_}
+use borrow.Author.Needs.{needs}
+use native.Mathlib.Omega.{arith}
+use Rattle.planner.proofs.runs.natural_fill.Statement.{statement}
+use Rattle.planner.proofs.runs.natural_fill.Tie as tie
+use Rattle.planner.proofs.runs.natural_fill.Reads as reads
+use Rattle.planner.proofs.runs.natural_fill.Lts as lts
+use Rattle.planner.specs.Runs.{more, natural}
+
+abbrev Inv-loop : tie.InvT-loop
+Inv-loop sizes capacity sum₀ n₀ sum n =
+    (1 ≤ n) × (n ≤ length sizes) × (sum ≤ 1073741824 * n) × (n + more capacity sum (drop n sizes) ≡ natural capacity sizes)
+
+abbrev μ-loop : tie.MeasureT-loop
+μ-loop sizes capacity sum₀ n₀ sum n = length sizes - n
+
+shared-slice-read-sum : tie.Need-shared-slice-read-sum Inv-loop μ-loop
+shared-slice-read-sum c = search needs
+
+loop-holds : tie.Need-loop-holds Inv-loop μ-loop
+loop-holds c =
+    (search needs, search needs, omega (arith, c .before .pre .0 .each 0), natural-start _ _ (c .before .pre .1))
+
+mul-next : tie.Need-mul-next Inv-loop μ-loop
+mul-next c = search needs
+
+shared-slice-read-next : tie.Need-shared-slice-read-next Inv-loop μ-loop
+shared-slice-read-next c = search needs
+
+add-next : tie.Need-add-next Inv-loop μ-loop
+add-next c = omega (arith, c .before .before .before .before .pre .0 .each (c .before .before .loop .n))
+
+returns : tie.Need-returns Inv-loop μ-loop
+returns c =
+    let l = c .before .before .before .loop in
+    let s = c .before .before .before .before .before in
+    omega (arith, more-no (s .args .capacity) (l .sum) (l .n) (s .args .sizes .now) (c .before .before .loop-test .taken) (c .if1 .taken))
+
+add-n : tie.Need-add-n Inv-loop μ-loop
+add-n c = search needs
+
+loop-less : tie.Need-loop-less Inv-loop μ-loop
+loop-less c = search needs
+
+loop-again : tie.Need-loop-again Inv-loop μ-loop
+loop-again c =
+    let l = c .before .before .before .loop in
+    let s = c .before .before .before .before .before in (
+      search needs,
+      search needs,
+      omega (arith, s .pre .0 .each (l .n)),
+      omega (arith, more-yes (s .args .capacity) (l .sum) (l .n) (s .args .sizes .now) (c .before .before .loop-test .taken) (c .if1 .left)),
+    )
+
+returns-2 : tie.Need-returns-2 Inv-loop μ-loop
+returns-2 c =
+    let l = c .before .loop in
+    let s = c .before .before .before in
+    omega (arith, more-end (s .args .capacity) (l .sum) (l .n) (s .args .sizes .now) (c .loop-test .left))
+
+pub natural-fill-spec : {M : Type 1} → statement M
+natural-fill-spec =
+    tie.close
+    (tie.spec
+    Inv-loop
+    μ-loop
+    shared-slice-read-sum
+    loop-holds
+    mul-next
+    shared-slice-read-next
+    add-next
+    returns
+    add-n
+    loop-less
+    loop-again
+    returns-2)

@@ -1,0 +1,62 @@
+-- `planner::runs::next_cut` meets its contract. Assumes nothing.
+use Rattle.planner.proofs.AxisLaws.{placed-shifted, kept-yes, kept-past, kept-low, next-is}
+use Rattle.planner.specs.declared.runs.Cut.{Cut}
+use lib.ListN.{length}
+use native.Mathlib.Omega.{arith}
+use Prim.Native.Nat.{ℕ, _≤_}
+use mathlib.Core.Path.{_≡_, sym, ap, subst, _∙_}
+use borrow.Author.Needs.{needs}
+use Rattle.planner.proofs.runs.next_cut.Statement.{statement}
+use Rattle.planner.proofs.runs.next_cut.Tie as tie
+use Rattle.planner.proofs.runs.next_cut.Reads as reads
+use Rattle.planner.proofs.runs.next_cut.Lts as lts
+use Rattle.planner.proofs.runs.placed_cut.Reads as placed-cut-reads
+use Rattle.planner.proofs.runs.slots_below.Reads as slots-below-reads
+use Rattle.planner.proofs.runs.wide.Reads as wide-reads
+use Rattle.planner.specs.Slots.{below}
+use Rattle.planner.specs.Runs.{kept, nextCut}
+
+wide-requires : tie.Need-wide-requires
+wide-requires c κs = search needs
+
+slots-below-requires : tie.Need-slots-below-requires
+slots-below-requires c κs = search needs
+
+placed-cut-requires : tie.Need-placed-cut-requires
+placed-cut-requires c κs = search needs
+
+-- once the break is placed
+so : (d : tie.After-placed-cut)
+    → (kept (length (d .before .before .before .before .before .before .args .indexes .now)) (d .before .before .before .before .before .before .args .prev) (d .placed-cut .result)
+    ≡ nextCut (d .before .before .before .before .before .before .args .k) (d .before .before .before .before .before .before .args .mfirsts .now) (d .before .before .before .before .before .before .args .mlasts .now) (d .before .before .before .before .before .before .args .indexes .now) (d .before .before .before .before .before .before .args .prev) (d .before .before .before .before .before .before .args .b))
+    × (d .placed-cut .result .shifted ≤ 1)
+so d =
+    let a = d .before .before .before .before .before .before .args in
+    let p = d .before .slots-below in (
+      next-is (a .k) (a .mfirsts .now) (a .mlasts .now) (a .indexes .now) (a .prev) (a .b) (p .result) (d .placed-cut .result)
+          (p .ensures .0 ∙ ap (λ (n : ℕ). below n (a .indexes .now)) (d .before .before .wide .ensures)) (d .placed-cut .ensures),
+      subst (λ (c : Cut). c .shifted ≤ 1) (sym (d .placed-cut .ensures)) (placed-shifted (a .k) (a .mfirsts .now) (a .mlasts .now) (a .indexes .now) (a .prev) (p .result)),
+    )
+
+returns : tie.Need-returns
+returns c =
+    let d = c .before .before in
+    let a = d .before .before .before .before .before .before .args in
+    (kept-yes (length (a .indexes .now)) (a .prev) (d .placed-cut .result) (c .before .if1 .taken) (c .if2 .taken) ∙ so d .0, (omega arith, omega arith, so d .1))
+
+returns-2 : tie.Need-returns-2
+returns-2 c =
+    let d = c .before .before in
+    let a = d .before .before .before .before .before .before .args in
+    (kept-past (length (a .indexes .now)) (a .prev) (d .placed-cut .result) (c .before .if1 .taken) (c .if2 .left) ∙ so d .0, (omega arith, omega arith, so d .1))
+
+returns-3 : tie.Need-returns-3
+returns-3 c =
+    let d = c .before in
+    let a = d .before .before .before .before .before .before .args in
+    (kept-low (length (a .indexes .now)) (a .prev) (d .placed-cut .result) (c .if1 .left) ∙ so d .0, (omega arith, omega arith, so d .1))
+
+pub next-cut-spec : {M : Type 1} → statement M
+next-cut-spec =
+    tie.close
+    (tie.spec wide-requires slots-below-requires placed-cut-requires returns returns-2 returns-3)

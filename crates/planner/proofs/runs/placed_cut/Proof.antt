@@ -1,0 +1,67 @@
+-- `planner::runs::placed_cut` meets its contract. Assumes nothing.
+use Rattle.planner.proofs.AxisLaws.{placed-zero, placed-past, placed-title, placed-moved}
+use Rattle.planner.specs.declared.runs.Held.{Held}
+use native.Mathlib.Omega.{arith}
+use mathlib.Core.Path.{_≡_, sym, ap, _∙_}
+use borrow.Author.Needs.{needs}
+use Rattle.planner.proofs.runs.placed_cut.Statement.{statement}
+use Rattle.planner.proofs.runs.placed_cut.Tie as tie
+use Rattle.planner.proofs.runs.placed_cut.Reads as reads
+use Rattle.planner.proofs.runs.placed_cut.Lts as lts
+use Rattle.planner.proofs.runs.holding_merge.Reads as holding-merge-reads
+use Rattle.planner.proofs.runs.moved_cut.Reads as moved-cut-reads
+use Rattle.planner.proofs.runs.title_holds.Reads as title-holds-reads
+use Rattle.planner.specs.Runs.{moved}
+
+returns : tie.Need-returns
+returns c =
+    let a = c .before .before .before .before .args in
+    placed-zero (a .k) (a .mfirsts .now) (a .mlasts .now) (a .indexes .now) (a .prev) (a .p) (omega arith)
+
+returns-2 : tie.Need-returns-2
+returns-2 c =
+    let a = c .before .before .before .before .before .args in
+    placed-past (a .k) (a .mfirsts .now) (a .mlasts .now) (a .indexes .now) (a .prev) (a .p) (omega arith) (c .if2 .taken)
+
+mul-b : tie.Need-mul-b
+mul-b c = search needs
+
+shared-slice-read-b : tie.Need-shared-slice-read-b
+shared-slice-read-b c = search needs
+
+title-holds-requires : tie.Need-title-holds-requires
+title-holds-requires c κs = search needs
+
+returns-3 : tie.Need-returns-3
+returns-3 c =
+    let a = c .before .before .before .before .before .before .before .before .args in
+    placed-title (a .k) (a .mfirsts .now) (a .mlasts .now) (a .indexes .now) (a .prev) (a .p) (omega arith) (omega arith)
+    (sym (c .before .title-holds .ensures) ∙ c .if3 .taken)
+
+holding-merge-requires : tie.Need-holding-merge-requires
+holding-merge-requires c κs = search needs
+
+moved-cut-requires : tie.Need-moved-cut-requires
+moved-cut-requires c κs = search needs
+
+returns-4 : tie.Need-returns-4
+returns-4 c =
+    let a = c .before .before .before .before .before .before .before .before .before .before .args in
+    c .moved-cut .ensures
+    ∙ ap (λ (h : Held). moved h (a .prev) (a .p) (a .indexes .now)) (c .before .holding-merge .ensures)
+    ∙ placed-moved (a .k) (a .mfirsts .now) (a .mlasts .now) (a .indexes .now) (a .prev) (a .p) (omega arith) (omega arith)
+    (sym (c .before .before .before .title-holds .ensures) ∙ c .before .before .if3 .left)
+
+pub placed-cut-spec : {M : Type 1} → statement M
+placed-cut-spec =
+    tie.close
+    (tie.spec
+    returns
+    returns-2
+    mul-b
+    shared-slice-read-b
+    title-holds-requires
+    returns-3
+    holding-merge-requires
+    moved-cut-requires
+    returns-4)

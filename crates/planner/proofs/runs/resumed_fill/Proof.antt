@@ -1,0 +1,114 @@
+-- `planner::runs::resumed_fill` meets its contract. The loop's invariant: what is taken, and what the definition still takes from here, is the whole.
+-- Assumes nothing.
+use Rattle.planner.proofs.EndLaws.{again-fits, again-title, again-stops, again-end, resumed-start}
+use lib.ListN.{length, drop}
+use Prim.Native.Nat.{_+_, _*_, _-_, _≤_, _<_}
+use mathlib.Core.Path.{_≡_}
+use borrow.Author.Needs.{needs}
+use native.Mathlib.Omega.{arith}
+use Rattle.planner.proofs.runs.resumed_fill.Statement.{statement}
+use Rattle.planner.proofs.runs.resumed_fill.Tie as tie
+use Rattle.planner.proofs.runs.resumed_fill.Reads as reads
+use Rattle.planner.proofs.runs.resumed_fill.Lts as lts
+use Rattle.planner.specs.Runs.{again, resumed}
+
+abbrev Inv-loop : tie.InvT-loop
+Inv-loop indexes sizes capacity last sum₀ n₀ sum n =
+    (1 ≤ n) × (n ≤ length sizes) × (sum ≤ 1073741824 * n)
+    × (n + again capacity last sum (drop n indexes) (drop n sizes) ≡ resumed capacity last indexes sizes)
+
+abbrev μ-loop : tie.MeasureT-loop
+μ-loop indexes sizes capacity last sum₀ n₀ sum n = length sizes - n
+
+shared-slice-read-sum : tie.Need-shared-slice-read-sum Inv-loop μ-loop
+shared-slice-read-sum c = search needs
+
+loop-holds : tie.Need-loop-holds Inv-loop μ-loop
+loop-holds c =
+    let s = c .before in (
+      search needs,
+      search needs,
+      omega (arith, s .pre .0 .small .each 0),
+      resumed-start (s .args .capacity) (s .args .last) (s .args .indexes .now) (s .args .sizes .now) (search needs) (search needs),
+    )
+
+mul-size : tie.Need-mul-size Inv-loop μ-loop
+mul-size c = search needs
+
+shared-slice-read-size : tie.Need-shared-slice-read-size Inv-loop μ-loop
+shared-slice-read-size c = search needs
+
+add-next : tie.Need-add-next Inv-loop μ-loop
+add-next c = omega (arith, c .before .before .before .before .pre .0 .small .each (c .before .before .loop .n))
+
+add-n : tie.Need-add-n Inv-loop μ-loop
+add-n c = search needs
+
+loop-less : tie.Need-loop-less Inv-loop μ-loop
+loop-less c = search needs
+
+loop-again : tie.Need-loop-again Inv-loop μ-loop
+loop-again c =
+    let l = c .before .before .before .loop in
+    let s = c .before .before .before .before .before in (
+      search needs,
+      search needs,
+      omega (arith, s .pre .0 .small .each (l .n)),
+      omega (arith, again-fits (s .args .capacity) (s .args .last) (l .sum) (l .n) (s .args .indexes .now) (s .args .sizes .now) (search needs) (search needs) (c .if1 .taken)),
+    )
+
+mul-if2 : tie.Need-mul-if2 Inv-loop μ-loop
+mul-if2 c = search needs
+
+shared-slice-read-if2 : tie.Need-shared-slice-read-if2 Inv-loop μ-loop
+shared-slice-read-if2 c = search needs
+
+returns : tie.Need-returns Inv-loop μ-loop
+returns c =
+    let l = c .before .before .before .before .before .loop in
+    let s = c .before .before .before .before .before .before .before in
+    omega (arith, again-stops (s .args .capacity) (s .args .last) (l .sum) (l .n) (s .args .indexes .now) (s .args .sizes .now) (search needs) (search needs) (c .before .before .if1 .left) (c .if2 .taken))
+
+add-n-2 : tie.Need-add-n-2 Inv-loop μ-loop
+add-n-2 c = search needs
+
+loop-less-2 : tie.Need-loop-less-2 Inv-loop μ-loop
+loop-less-2 c = search needs
+
+loop-again-2 : tie.Need-loop-again-2 Inv-loop μ-loop
+loop-again-2 c =
+    let l = c .before .before .before .before .before .loop in
+    let s = c .before .before .before .before .before .before .before in (
+      search needs,
+      search needs,
+      omega (arith, s .pre .0 .small .each (l .n)),
+      omega (arith, again-title (s .args .capacity) (s .args .last) (l .sum) (l .n) (s .args .indexes .now) (s .args .sizes .now) (search needs) (search needs) (c .before .before .if1 .left) (c .if2 .left)),
+    )
+
+returns-2 : tie.Need-returns-2 Inv-loop μ-loop
+returns-2 c =
+    let l = c .before .loop in
+    let s = c .before .before .before in
+    omega (arith, again-end (s .args .capacity) (s .args .last) (l .sum) (l .n) (s .args .indexes .now) (s .args .sizes .now) (omega arith))
+
+pub resumed-fill-spec : {M : Type 1} → statement M
+resumed-fill-spec =
+    tie.close
+    (tie.spec
+    Inv-loop
+    μ-loop
+    shared-slice-read-sum
+    loop-holds
+    mul-size
+    shared-slice-read-size
+    add-next
+    add-n
+    loop-less
+    loop-again
+    mul-if2
+    shared-slice-read-if2
+    returns
+    add-n-2
+    loop-less-2
+    loop-again-2
+    returns-2)

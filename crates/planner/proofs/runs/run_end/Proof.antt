@@ -1,0 +1,35 @@
+-- `planner::runs::run_end` meets its contract. Assumes nothing.
+use native.Mathlib.Omega.{arith}
+use Rattle.planner.proofs.EndLaws.{Within, merged-within}
+use Rattle.planner.specs.declared.runs.RunEnd.{RunEnd}
+use Prim.Native.Nat.{ℕ}
+use mathlib.Core.Path.{_≡_, sym, ap, subst, _∙_}
+use borrow.Author.Needs.{needs}
+use Rattle.planner.proofs.runs.run_end.Statement.{statement}
+use Rattle.planner.proofs.runs.run_end.Tie as tie
+use Rattle.planner.proofs.runs.run_end.Reads as reads
+use Rattle.planner.proofs.runs.run_end.Lts as lts
+use Rattle.planner.proofs.runs.merged_end.Reads as merged-end-reads
+use Rattle.planner.proofs.runs.taken_slots.Reads as taken-slots-reads
+use Rattle.planner.specs.Runs.{merged, runEnd}
+
+taken-slots-requires : tie.Need-taken-slots-requires
+taken-slots-requires c κs = search needs
+
+merged-end-requires : tie.Need-merged-end-requires
+merged-end-requires c κs = search needs
+
+returns : tie.Need-returns
+unfolding runEnd
+returns c =
+    let t = c .before .taken-slots in
+    let s = c .before .before .before .before .before .before in
+    let a = s .args in
+    let n = t .result in
+    let w = subst (Within (a .indexes .now)) (sym (c .merged-end .ensures)) (merged-within (a .k .lo) (a .k .hi) (a .firsts .now) (a .lasts .now) n (a .indexes .now) (search needs) (omega arith)) in (
+      c .merged-end .ensures ∙ ap (λ (m : ℕ). merged (a .k .lo) (a .k .hi) (a .firsts .now) (a .lasts .now) m (a .indexes .now)) (t .ensures .0),
+      (w .0, omega (arith, w .1, s .pre .1 .0 .even), w .2),
+    )
+
+pub run-end-spec : {M : Type 1} → statement M
+run-end-spec = tie.close (tie.spec taken-slots-requires merged-end-requires returns)

@@ -1,0 +1,104 @@
+use native.Mathlib.Omega.{arith}
+-- `planner::runs::title_end` meets its contract. Assumes nothing.
+use Rattle.planner.proofs.EndLaws.{title-holds, title-before, title-after}
+use Rattle.planner.proofs.Laws.{part, slots-part, length-part}
+use Prim.Native.Nat.{ℕ, _+_}
+use mathlib.Core.Path.{_≡_, ap, _∙_}
+use borrow.Author.Needs.{needs}
+use Rattle.planner.proofs.runs.title_end.Statement.{statement}
+use Rattle.planner.proofs.runs.title_end.Tie as tie
+use Rattle.planner.proofs.runs.title_end.Reads as reads
+use Rattle.planner.proofs.runs.title_end.Lts as lts
+use Rattle.planner.proofs.runs.resumed_fill.Reads as resumed-fill-reads
+use Rattle.planner.specs.Runs.{resumption}
+
+enum-known-title : tie.Need-enum-known-title
+enum-known-title c = search needs
+
+enum-told : tie.Need-enum-told
+enum-told c = search needs
+
+returns : tie.Need-returns
+unfolding resumption
+returns c = (rw (c .enum-told .given .1), search needs)
+
+mul-b : tie.Need-mul-b
+mul-b c = search needs
+
+shared-slice-read-b : tie.Need-shared-slice-read-b
+shared-slice-read-b c = search needs
+
+mul-resumed-fill : tie.Need-mul-resumed-fill
+mul-resumed-fill c = search needs
+
+sub-resumed-fill : tie.Need-sub-resumed-fill
+sub-resumed-fill c = search needs
+
+part-resumed-fill-start : tie.Need-part-resumed-fill-start
+part-resumed-fill-start c = search needs
+
+part-resumed-fill-end : tie.Need-part-resumed-fill-end
+part-resumed-fill-end c = search needs
+
+mul-resumed-fill-2 : tie.Need-mul-resumed-fill-2
+mul-resumed-fill-2 c = search needs
+
+sub-resumed-fill-2 : tie.Need-sub-resumed-fill-2
+sub-resumed-fill-2 c = search needs
+
+part-resumed-fill-start-2 : tie.Need-part-resumed-fill-start-2
+part-resumed-fill-start-2 c = search needs
+
+part-resumed-fill-end-2 : tie.Need-part-resumed-fill-end-2
+part-resumed-fill-end-2 c = search needs
+
+resumed-fill-requires : tie.Need-resumed-fill-requires
+resumed-fill-requires c κs =
+    let s = c .before .before .before .before .before .before .before .before .before .before in
+    (slots-part (s .args .n) (s .args .indexes .now) (s .args .sizes .now) (s .pre .0), omega (arith, length-part (s .args .n) (s .args .sizes .now), s .pre .1))
+
+add-result : tie.Need-add-result
+add-result c = search needs
+
+returns-2 : tie.Need-returns-2
+returns-2 c =
+    let b = c .before .before .before .before in
+    let s = b .before .before .before .before .before .before .before in
+    let a = s .args in (
+      ap (λ (k : ℕ). a .n + k) (c .resumed-fill .ensures .0)
+          ∙ title-holds (a .title) _ _ (a .capacity) (a .n) (a .indexes .now) (a .sizes .now) (b .before .before .before .title .given .1) (b .if1 .taken) (c .before .before .before .if2 .taken),
+      omega (arith, c .resumed-fill .ensures .1, length-part (a .n) (a .sizes .now), s .pre .1),
+    )
+
+returns-3 : tie.Need-returns-3
+returns-3 c =
+    let s = c .before .before .before .before .before .before .before .before .args in
+    (title-after (s .title) _ _ (s .capacity) (s .n) (s .indexes .now) (s .sizes .now) (c .before .before .before .before .title .given .1) (c .before .if1 .taken) (c .if2 .left), search needs)
+
+returns-4 : tie.Need-returns-4
+returns-4 c =
+    let s = c .before .before .before .before .before .before .before .args in
+    (title-before (s .title) _ _ (s .capacity) (s .n) (s .indexes .now) (s .sizes .now) (c .before .before .before .title .given .1) (c .if1 .left), search needs)
+
+pub title-end-spec : {M : Type 1} → statement M
+title-end-spec =
+    tie.close
+    (tie.spec
+    enum-known-title
+    enum-told
+    returns
+    mul-b
+    shared-slice-read-b
+    mul-resumed-fill
+    sub-resumed-fill
+    part-resumed-fill-start
+    part-resumed-fill-end
+    mul-resumed-fill-2
+    sub-resumed-fill-2
+    part-resumed-fill-start-2
+    part-resumed-fill-end-2
+    resumed-fill-requires
+    add-result
+    returns-2
+    returns-3
+    returns-4)
