@@ -1,0 +1,171 @@
+-- `planner::runs::write_stretch` meets its contract: the parts are lent, and come back with the runs at their fronts. Assumes nothing.
+use mathlib.Core.Path.{_≡_, sym, subst, _∙_}
+use mathlib.Core.List.{List}
+use Prim.Native.Nat.{ℕ, min}
+use native.Mathlib.Omega.{arith}
+use Rattle.planner.specs.Runs.{Run, runs, firstMarked, stretch}
+use Rattle.planner.specs.Slots.{mid}
+use Rattle.planner.specs.Lent.{Room, Written, firsts, lasts, sizes, marks}
+use Rattle.planner.proofs.Laws.{part, length-part, slots-mid}
+use Rattle.planner.proofs.Lent.{put-rest}
+use borrow.Author.Needs.{needs}
+use Rattle.planner.proofs.runs.write_stretch.Statement.{statement}
+use Rattle.planner.proofs.runs.write_stretch.Tie as tie
+
+mul-write-runs : tie.Need-mul-write-runs
+mul-write-runs c = search needs
+
+sub-write-runs : tie.Need-sub-write-runs
+sub-write-runs c = search needs
+
+part-write-runs-start : tie.Need-part-write-runs-start
+part-write-runs-start c = search needs
+
+part-write-runs-end : tie.Need-part-write-runs-end
+part-write-runs-end c = search needs
+
+mul-write-runs-2 : tie.Need-mul-write-runs-2
+mul-write-runs-2 c = search needs
+
+sub-write-runs-2 : tie.Need-sub-write-runs-2
+sub-write-runs-2 c = search needs
+
+part-write-runs-start-2 : tie.Need-part-write-runs-start-2
+part-write-runs-start-2 c = search needs
+
+part-write-runs-end-2 : tie.Need-part-write-runs-end-2
+part-write-runs-end-2 c = search needs
+
+mark-of-requires : tie.Need-mark-of-requires
+mark-of-requires c κs = search needs
+
+mul-write-runs-3 : tie.Need-mul-write-runs-3
+mul-write-runs-3 c = search needs
+
+sub-write-runs-3 : tie.Need-sub-write-runs-3
+sub-write-runs-3 c = search needs
+
+part-write-runs-start-3 : tie.Need-part-write-runs-start-3
+part-write-runs-start-3 c = search needs
+
+part-write-runs-end-3 : tie.Need-part-write-runs-end-3
+part-write-runs-end-3 c = search needs
+
+mul-write-runs-4 : tie.Need-mul-write-runs-4
+mul-write-runs-4 c = search needs
+
+sub-write-runs-4 : tie.Need-sub-write-runs-4
+sub-write-runs-4 c = search needs
+
+part-write-runs-start-4 : tie.Need-part-write-runs-start-4
+part-write-runs-start-4 c = search needs
+
+part-write-runs-end-4 : tie.Need-part-write-runs-end-4
+part-write-runs-end-4 c = search needs
+
+mul-write-runs-5 : tie.Need-mul-write-runs-5
+mul-write-runs-5 c = search needs
+
+sub-write-runs-5 : tie.Need-sub-write-runs-5
+sub-write-runs-5 c = search needs
+
+part-write-runs-start-5 : tie.Need-part-write-runs-start-5
+part-write-runs-start-5 c = search needs
+
+part-write-runs-end-5 : tie.Need-part-write-runs-end-5
+part-write-runs-end-5 c = search needs
+
+sub-write-runs-6 : tie.Need-sub-write-runs-6
+sub-write-runs-6 c = search needs
+
+part-write-runs-start-6 : tie.Need-part-write-runs-start-6
+part-write-runs-start-6 c = search needs
+
+part-write-runs-end-6 : tie.Need-part-write-runs-end-6
+part-write-runs-end-6 c = search needs
+
+write-runs-requires : tie.Need-write-runs-requires
+unfolding stretch
+write-runs-requires c κs =
+    let s = c .before .before .before .before .before .before .before .before .before .before .before .before .before .before .before in
+    let a = s .args in
+    let r = s .pre .1 .1 .1 in
+    let f = length-part (a .at) (a .firsts .now) in
+    let l = length-part (a .at) (a .lasts .now) in
+    let t = length-part (a .at) (a .totals .now) in
+    let m = length-part (a .at) (a .marks .now) in (
+      s .pre .0,
+      (
+        slots-mid (a .a) (a .e) (a .indexes .now) (a .sizes .now) (s .pre .1 .1 .0 .1) (s .pre .1 .0),
+        subst (λ (mark : ℕ). Room (firstMarked mark (runs (a .k) (a .mfirsts .now) (a .mlasts .now) (mid (a .a) (a .e) (a .indexes .now)) (mid (a .a) (a .e) (a .sizes .now)))) (part (a .at) (a .firsts .now)) (part (a .at) (a .lasts .now)) (part (a .at) (a .totals .now)) (part (a .at) (a .marks .now)))
+            (sym (c .before .before .before .before .mark-of .ensures))
+            (record {
+              room = omega (arith, r .room, f);
+              lasts-even = omega (arith, r .lasts-even, f, l);
+              sizes-even = omega (arith, r .sizes-even, f, t);
+              marks-even = omega (arith, r .marks-even, f, m);
+            }),
+      ),
+    )
+
+same-length : tie.Need-same-length
+same-length c = search needs
+
+same-length-2 : tie.Need-same-length-2
+same-length-2 c = search needs
+
+same-length-3 : tie.Need-same-length-3
+same-length-3 c = search needs
+
+same-length-4 : tie.Need-same-length-4
+same-length-4 c = search needs
+
+returns : tie.Need-returns
+unfolding stretch
+returns c =
+    let w = c .before .before .before .before .before .before .before .before .write-runs in
+    let a = c .before .before .before .before .before .before .before .before .before .before .before .before .before .before .before .before .before .before .before .before .before .before .before .before .args in
+    let here = stretch (a .k) (a .mfirsts .now) (a .mlasts .now) (a .indexes .now) (a .sizes .now) (a .a) (a .e) in
+    let r : Written here (w .result) (part (a .at) (a .firsts .now)) (part (a .at) (a .lasts .now)) (part (a .at) (a .totals .now)) (part (a .at) (a .marks .now)) _ _ _ _ = rw (c .before .before .before .before .before .before .before .before .before .before .before .before .before .mark-of .ensures) at (w .ensures) in
+    record {
+      count = r .count;
+      firsts-are = put-rest (a .at) (firsts here) (a .firsts .now) _ (r .firsts-are);
+      lasts-are = put-rest (a .at) (lasts here) (a .lasts .now) _ (r .lasts-are);
+      sizes-are = put-rest (a .at) (sizes here) (a .totals .now) _ (r .sizes-are);
+      marks-are = put-rest (a .at) (marks here) (a .marks .now) _ (r .marks-are);
+    }
+
+pub write-stretch-spec : {M : Type 1} → statement M
+write-stretch-spec =
+    tie.close
+    (tie.spec
+    mul-write-runs
+    sub-write-runs
+    part-write-runs-start
+    part-write-runs-end
+    mul-write-runs-2
+    sub-write-runs-2
+    part-write-runs-start-2
+    part-write-runs-end-2
+    mark-of-requires
+    mul-write-runs-3
+    sub-write-runs-3
+    part-write-runs-start-3
+    part-write-runs-end-3
+    mul-write-runs-4
+    sub-write-runs-4
+    part-write-runs-start-4
+    part-write-runs-end-4
+    mul-write-runs-5
+    sub-write-runs-5
+    part-write-runs-start-5
+    part-write-runs-end-5
+    sub-write-runs-6
+    part-write-runs-start-6
+    part-write-runs-end-6
+    write-runs-requires
+    same-length
+    same-length-2
+    same-length-3
+    same-length-4
+    returns)
