@@ -1,5 +1,7 @@
--- What the contracts of `planner` cite: one file for each section of document 01, over `Slots`; `Lent` for runs in lent lists.
+-- What the contracts of `planner` cite: a file for each section of document 01, and what they share.
 pub mod Slots
+pub mod Questions
 pub mod Titles
 pub mod Runs
 pub mod Lent
+pub mod Partition

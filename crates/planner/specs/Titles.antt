@@ -1,11 +1,22 @@
 -- Document 01, section "Titles". Assumes nothing.
 use mathlib.Core.Bool.{Bool, true, false, cond, _&&_}
-use mathlib.Core.List.{List}
-use Prim.Native.Nat.{ℕ, _+_}
-use lib.Dec.{leb, ltb}
+use mathlib.Core.List.{List, [], _∷_}
+use Prim.Native.Nat.{ℕ, zero, suc, _+_, min, max}
+use lib.Dec.{leb, ltb, eqb}
+use lib.ListN.{length}
+use Rattle.geometry.specs.Outcome.{Outcome, given, refused}
+use Rattle.planner.specs.declared.titles.Axis.{Axis}
+use Rattle.planner.specs.declared.titles.Axis.the-variants.{Rows, Columns}
 use Rattle.planner.specs.declared.titles.Title.{Title}
 use Rattle.planner.specs.declared.titles.Title.the-variants.{Absent, Pair}
+use Rattle.planner.specs.declared.titles.Normalized.{Normalized}
+use Rattle.planner.specs.declared.titles.Span.{Span}
+use Rattle.planner.specs.declared.titles.Expanded.{Expanded}
+use Rattle.planner.specs.declared.titles.Widened.{Widened}
+use Rattle.planner.specs.declared.titles.Widening.{Widening}
+use Rattle.planner.specs.declared.titles.Widening.the-variants.{Value, Refused}
 use Rattle.planner.specs.Slots.{sum, below, mid}
+use Rattle.planner.specs.Questions.{ask, even, allOrdered, allWithin}
 
 -- "A pair holds b when first < b ≤ last." (section "Runs")
 abbrev pub holds : ℕ → ℕ → ℕ → Bool
@@ -29,3 +40,70 @@ bodyStart (Pair f l) first = cond (leb f first && leb first l) (l + 1) first
 unfoldable pub titleTotal : Title → List ℕ → List ℕ → ℕ
 titleTotal Absent is ss = 0
 titleTotal (Pair f l) is ss = sum (mid (below f is) (below (l + 1) is) ss)
+
+-- ---- widening
+
+-- the last index of the grid: "1,048,575 (rows) or 16,383 (columns)"
+unfoldable pub limitOf : Axis → ℕ
+limitOf Rows = 1048575
+limitOf Columns = 16383
+
+-- "First above last, or last beyond [the limit]: ignored with a note."
+unfoldable pub normalized : ℕ → Title → Normalized
+normalized limit Absent = record { title = Absent; ignored = 0 }
+normalized limit (Pair f l) =
+    cond (leb f l && leb l limit) (record { title = Pair f l; ignored = 0 }) (record { title = Absent; ignored = 1 })
+
+-- "widen the pair to each merge that meets it": to one, from f to l
+unfoldable pub widenTo : Span → ℕ → ℕ → Span
+widenTo s f l = cond (leb f (s .last) && leb (s .first) l) (record { first = min (s .first) f; last = max (s .last) l }) s
+
+-- one of the "passes over all merges in given order"
+unfoldable pub pass : List ℕ → List ℕ → Span → Span
+pass [] ls s = s
+pass (f ∷ fs) [] s = s
+pass (f ∷ fs) (l ∷ ls) s = pass fs ls (widenTo s f l)
+
+unfoldable pub sameSpan : Span → Span → Bool
+sameSpan s t = eqb (s .first) (t .first) && eqb (s .last) (t .last)
+
+-- a pass changes nothing
+unfoldable pub still : List ℕ → List ℕ → Span → Bool
+still fs ls s = sameSpan s (pass fs ls s)
+
+abbrev pub expandedTo : Span → ℕ → Expanded
+expandedTo s n = record { title = Pair (s .first) (s .last); expanded = n }
+
+-- "passes repeat until one changes nothing, one note per changing pass": n notes so far, at most k more passes, and whether the next one
+-- changes nothing
+unfoldable pub passes : List ℕ → List ℕ → ℕ → Bool → Span → ℕ → Expanded
+passes fs ls zero unchanged s n = expandedTo s n
+passes fs ls (suc k) true s n = expandedTo s n
+passes fs ls (suc k) false s n = passes fs ls k (still fs ls (pass fs ls s)) (pass fs ls s) (suc n)
+
+-- A changing pass takes in a merge that no pass before it did, so that there are no more than merges (`TitleLaws`, `settled`).
+unfoldable pub expand : List ℕ → List ℕ → ℕ → ℕ → Expanded
+expand fs ls f l = passes fs ls (length fs) (still fs ls (record { first = f; last = l })) (record { first = f; last = l }) 0
+
+-- a title that was normalized, widened
+unfoldable pub widenedFrom : List ℕ → List ℕ → Title → ℕ → Widened
+widenedFrom fs ls Absent n = record { title = Absent; ignored = n; expanded = 0 }
+widenedFrom fs ls (Pair f l) n = record { title = expand fs ls f l .title; ignored = n; expanded = expand fs ls f l .expanded }
+
+-- the title as its merges leave it, with both counts of notes
+unfoldable pub widened : ℕ → Title → List ℕ → List ℕ → Widened
+widened limit title fs ls = widenedFrom fs ls (normalized limit title .title) (normalized limit title .ignored)
+
+-- ---- the call
+
+-- the value or the number that each case of `Widening` stands for
+abbrev pub wideningOutcome : Widening → Outcome Widened
+wideningOutcome (Value w) = given w
+wideningOutcome (Refused n) = refused n
+
+-- questions 6 and 7 of the merges, then the title ("titles are never refused")
+unfoldable pub widenTitle : ℕ → Title → List ℕ → List ℕ → Outcome Widened
+widenTitle limit title fs ls =
+    ask 6 (even fs ls && allOrdered fs ls)
+    (ask 7 (allWithin limit ls)
+    (given (widened limit title fs ls)))

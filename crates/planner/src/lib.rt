@@ -1,3 +1,15 @@
 // Titles and runs of an axis: document 01, sections "Titles" and "Runs".
+mod partition;
+mod questions;
 mod runs;
 mod titles;
+
+pub use partition::AxisSetup;
+pub use partition::Partition;
+pub use partition::partition_axis_with_breaks;
+pub use runs::Tally;
+pub use titles::Axis;
+pub use titles::Title;
+pub use titles::Widened;
+pub use titles::Widening;
+pub use titles::widen_title;

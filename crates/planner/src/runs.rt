@@ -15,13 +15,13 @@ pub enum Held {
     By(u32, u32),
 }
 
-fn greater(a: u32, b: u32) -> u32
+pub(crate) fn greater(a: u32, b: u32) -> u32
     ensures { λ r. ⌜ r ≡ max a b ⌝ }
 {
     if a < b { b } else { a }
 }
 
-fn lesser(a: u32, b: u32) -> u32
+pub(crate) fn lesser(a: u32, b: u32) -> u32
     ensures { λ r. ⌜ r ≡ min a b ⌝ }
 {
     if a < b { a } else { b }
@@ -86,14 +86,14 @@ pub struct RunEnd {
     pub grown: u64,
 }
 
-fn wide(x: u32) -> u64
+pub(crate) fn wide(x: u32) -> u64
     ensures { λ r. ⌜ r ≡ x ⌝ }
 {
     x as u64
 }
 
 // How many slots at the front have an index below the limit.
-fn slots_below(indexes: &[u32], limit: u64) -> usize
+pub(crate) fn slots_below(indexes: &[u32], limit: u64) -> usize
     ensures { λ r. ⌜ r ≡ below limit (now (indexes .entry)) ⌝ }
     ensures { λ r. ⌜ r ≤ length (now (indexes .entry)) ⌝ }
 {
@@ -143,7 +143,7 @@ fn natural_fill(sizes: &[u64], capacity: u64) -> usize
 }
 
 // The sum of a stretch.
-fn total(sizes: &[u64]) -> u64
+pub(crate) fn total(sizes: &[u64]) -> u64
     requires { ⌜ Small (now sizes) ⌝ }
     ensures { λ r. ⌜ r ≡ sum (now (sizes .entry)) ⌝ }
 {
@@ -460,7 +460,7 @@ pub struct Tally {
 }
 
 // Counts the runs of an axis.
-fn count_axis(
+pub(crate) fn count_axis(
     k: Frame,
     mfirsts: &[u32],
     mlasts: &[u32],
@@ -539,7 +539,7 @@ fn write_stretch(
 }
 
 // Writes the runs of an axis to the front of the lent lists and returns how many there are.
-fn write_axis(
+pub(crate) fn write_axis(
     k: Frame,
     mfirsts: &[u32],
     mlasts: &[u32],

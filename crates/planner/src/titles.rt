@@ -1,7 +1,216 @@
 // Rows or columns that are repeated on every page: document 01, section "Titles".
+use crate::questions::all_within;
+use crate::questions::pairs_ordered;
+use crate::runs::greater;
+use crate::runs::lesser;
+use crate::runs::slots_below;
+use crate::runs::total;
+use crate::runs::wide;
+ghost use mathlib.Core.Path.{_≡_};
+ghost use Prim.Native.Nat.{_≤_};
+ghost use lib.ListN.{length};
+ghost use Rattle.planner.specs.Slots.{Slots};
+ghost use Rattle.planner.specs.Titles.{bodyStart, titleTotal, limitOf, normalized, widenTo, sameSpan, expand, widened, widenTitle, wideningOutcome};
+
+const MAX_WORKSHEET_ROW: u32 = 1_048_575;
+
+const MAX_WORKSHEET_COLUMN: u32 = 16_383;
+
+pub enum Axis {
+    Rows,
+    Columns,
+}
+
+impl Axis {
+    // The last index of the grid.
+    pub fn limit(self) -> u32
+        ensures { λ r. ⌜ r ≡ limitOf self ⌝ }
+    {
+        match self {
+            Axis::Rows => MAX_WORKSHEET_ROW,
+            Axis::Columns => MAX_WORKSHEET_COLUMN,
+        }
+    }
+}
 
 // A title: absent, or from a first index to a last.
 pub enum Title {
     Absent,
     Pair(u32, u32),
+}
+
+// A title that the grid has or that is absent, and 1 where another one was ignored.
+pub struct Normalized {
+    pub title: Title,
+    pub ignored: u64,
+}
+
+// The pair of a title while merges widen it.
+pub struct Span {
+    pub first: u32,
+    pub last: u32,
+}
+
+// A title as merges widened it, and how many passes changed it.
+pub struct Expanded {
+    pub title: Title,
+    pub expanded: u64,
+}
+
+// What a title comes to, and its two counts of notes.
+pub struct Widened {
+    pub title: Title,
+    pub ignored: u64,
+    pub expanded: u64,
+}
+
+// What `widen_title` answers: the title, or a refusal with its number.
+pub enum Widening {
+    Value(Widened),
+    Refused(u8),
+}
+
+// The title, unless its first is above its last or its last beyond the limit.
+fn normalize_repeat(title: Title, limit: u32) -> Normalized
+    ensures { λ r. ⌜ r ≡ normalized limit title ⌝ }
+{
+    let Title::Pair(first, last) = title else {
+        return Normalized {
+            title: Title::Absent,
+            ignored: 0,
+        };
+    };
+    if first <= last {
+        if last <= limit {
+            return Normalized {
+                title: Title::Pair(first, last),
+                ignored: 0,
+            };
+        }
+    }
+    Normalized {
+        title: Title::Absent,
+        ignored: 1,
+    }
+}
+
+// The span, widened to a merge that meets it.
+fn widen_to(span: Span, first: u32, last: u32) -> Span
+    ensures { λ r. ⌜ r ≡ widenTo span first last ⌝ }
+{
+    if first <= span.last {
+        if last >= span.first {
+            return Span {
+                first: lesser(span.first, first),
+                last: greater(span.last, last),
+            };
+        }
+    }
+    span
+}
+
+fn same_span(a: Span, b: Span) -> bool
+    ensures { λ r. ⌜ r ≡ sameSpan a b ⌝ }
+{
+    if a.first == b.first {
+        if a.last == b.last {
+            return true;
+        }
+    }
+    false
+}
+
+// Passes over all merges widen the pair, until one changes nothing.
+fn expand_repeat_for_merges(first: u32, last: u32, firsts: &[u32], lasts: &[u32]) -> Expanded
+    requires { ⌜ length (now firsts) ≡ length (now lasts) ⌝ }
+    ensures { λ r. ⌜ r ≡ expand (now (firsts .entry)) (now (lasts .entry)) first last ⌝ }
+{
+    let mut span = Span { first, last };
+    let mut expanded = 0;
+    let title = loop {
+        let previous = span;
+        let mut i = 0;
+        while i < firsts.len() {
+            span = widen_to(span, firsts[i], lasts[i]);
+            i += 1;
+        }
+        if same_span(previous, span) {
+            break Title::Pair(span.first, span.last);
+        }
+        expanded += 1;
+    };
+    Expanded { title, expanded }
+}
+
+// The title that the pages repeat: ignored where it does not hold, then widened.
+pub(crate) fn widened_title(limit: u32, title: Title, firsts: &[u32], lasts: &[u32]) -> Widened
+    requires { ⌜ length (now firsts) ≡ length (now lasts) ⌝ }
+    ensures { λ r. ⌜ r ≡ widened limit title (now (firsts .entry)) (now (lasts .entry)) ⌝ }
+{
+    let normal = normalize_repeat(title, limit);
+    let ignored = normal.ignored;
+    let kept = normal.title;
+    let Title::Pair(first, last) = kept else {
+        return Widened {
+            title: Title::Absent,
+            ignored,
+            expanded: 0,
+        };
+    };
+    let wide = expand_repeat_for_merges(first, last, firsts, lasts);
+    let title = wide.title;
+    let expanded = wide.expanded;
+    Widened {
+        title,
+        ignored,
+        expanded,
+    }
+}
+
+// The title of an axis, normalized and widened by its merges.
+pub fn widen_title(axis: Axis, title: Title, firsts: &[u32], lasts: &[u32]) -> Widening
+    ensures { λ r. ⌜ wideningOutcome r ≡ widenTitle (limitOf axis) title (now (firsts .entry)) (now (lasts .entry)) ⌝ }
+{
+    if firsts.len() != lasts.len() {
+        return Widening::Refused(6);
+    }
+    if !pairs_ordered(firsts, lasts) {
+        return Widening::Refused(6);
+    }
+    let limit = axis.limit();
+    if !all_within(lasts, limit) {
+        return Widening::Refused(7);
+    }
+    Widening::Value(widened_title(limit, title, firsts, lasts))
+}
+
+// Where the body of a range starts, which may be past the largest index.
+pub(crate) fn body_start(title: Title, first: u32) -> u64
+    ensures { λ r. ⌜ r ≡ bodyStart title first ⌝ }
+{
+    let Title::Pair(from, to) = title else {
+        return wide(first);
+    };
+    if from <= first {
+        if first <= to {
+            return wide(to) + 1;
+        }
+    }
+    wide(first)
+}
+
+// The sum of the measured slots in the title.
+pub(crate) fn title_total(title: Title, indexes: &[u32], sizes: &[u64]) -> u64
+    requires { ⌜ Slots (now indexes) (now sizes) ⌝ }
+    ensures { λ r. ⌜ r ≡ titleTotal title (now (indexes .entry)) (now (sizes .entry)) ⌝ }
+{
+    let Title::Pair(first, last) = title else {
+        return 0;
+    };
+    let start = slots_below(indexes, wide(first));
+    let end = slots_below(indexes, wide(last) + 1);
+    if end <= start {
+        return 0;
+    }
+    total(&sizes[start..end])
 }

@@ -1,0 +1,82 @@
+-- `planner::partition::partition_axis_with_breaks` meets its contract: a no refuses, and else the body is cut. Assumes nothing.
+use mathlib.Core.Path.{_≡_, sym, ap, subst, _∙_}
+use mathlib.Core.List.{List}
+use Prim.Native.Nat.{ℕ, _≤_}
+use native.Mathlib.Omega.{arith}
+use lib.Dec.{lit≤}
+use lib.ListN.{length}
+use Rattle.geometry.specs.Outcome.{Outcome}
+use Rattle.planner.specs.declared.runs.Tally.{Tally}
+use Rattle.planner.specs.declared.titles.Axis.{Axis}
+use Rattle.planner.specs.declared.titles.Axis.the-variants.{Rows, Columns}
+use Rattle.planner.specs.Titles.{limitOf}
+use Rattle.planner.specs.Partition.{firstNo, lentEven, partition, bodyRuns, Answered}
+use Rattle.planner.proofs.PartitionLaws.{is-refused, is-asked, refuses}
+use borrow.Author.Needs.{needs}
+use Rattle.planner.proofs.partition.partition_axis_with_breaks.Statement.{statement}
+use Rattle.planner.proofs.partition.partition_axis_with_breaks.Tie as tie
+
+grid : (a : Axis) → limitOf a ≤ 1048575
+unfolding limitOf
+grid Rows = lit≤ tt
+grid Columns = lit≤ tt
+
+-- the first no, at the axis' limit
+asked : (d : tie.After-first-no) → let a = d .before .before .before .before .before .before .before .before .before .before .before .args in
+    d .first-no .result ≡ firstNo (limitOf (a .axis)) (a .setup) (a .indexes .now) (a .sizes .now) (a .merge-firsts .now) (a .merge-lasts .now) (lentEven (a .run-firsts .now) (a .run-lasts .now) (a .run-sizes .now) (a .run-marks .now))
+asked d =
+    let a = d .before .before .before .before .before .before .before .before .before .before .before .args in
+    d .first-no .ensures
+    ∙ ap (λ (n : ℕ). firstNo n (a .setup) (a .indexes .now) (a .sizes .now) (a .merge-firsts .now) (a .merge-lasts .now) (lentEven (a .run-firsts .now) (a .run-lasts .now) (a .run-sizes .now) (a .run-marks .now))) (d .before .limit .ensures)
+
+limit-requires : tie.Need-limit-requires
+limit-requires c κs = search needs
+
+first-no-requires : tie.Need-first-no-requires
+first-no-requires c κs = search needs
+
+returns : tie.Need-returns
+returns c =
+    let a = c .before .before .before .before .before .before .before .before .before .before .before .before .args in
+    refuses _ (bodyRuns (a .setup) (a .indexes .now) (a .sizes .now) (a .merge-firsts .now) (a .merge-lasts .now) (a .breaks .now)) (c .before .first-no .result) (a .run-firsts .now) (a .run-lasts .now) (a .run-sizes .now) (a .run-marks .now) (is-refused (limitOf (a .axis)) (a .setup) (a .indexes .now) (a .sizes .now) (a .merge-firsts .now) (a .merge-lasts .now) (a .breaks .now) (a .run-firsts .now) (a .run-lasts .now) (a .run-sizes .now) (a .run-marks .now) (c .before .first-no .result) (asked (c .before)) (c .if1 .taken))
+
+partition-body-requires : tie.Need-partition-body-requires
+partition-body-requires c κs =
+    let a = c .before .before .before .before .before .before .before .before .before .before .before .before .before .before .before .before .args in
+    let d = c .before .before .before .before .before in
+    let y = is-asked (limitOf (a .axis)) (a .setup) (a .indexes .now) (a .sizes .now) (a .merge-firsts .now) (a .merge-lasts .now) (a .breaks .now) (a .run-firsts .now) (a .run-lasts .now) (a .run-sizes .now) (a .run-marks .now) (d .first-no .result) (asked d) (c .before .before .before .before .if1 .left) (grid (a .axis)) in
+    (y .merges, (y .slots, y .lists))
+
+same-length : tie.Need-same-length
+same-length c = search needs
+
+same-length-2 : tie.Need-same-length-2
+same-length-2 c = search needs
+
+same-length-3 : tie.Need-same-length-3
+same-length-3 c = search needs
+
+same-length-4 : tie.Need-same-length-4
+same-length-4 c = search needs
+
+returns-2 : tie.Need-returns-2
+returns-2 c =
+    let a = c .before .before .before .before .before .before .before .before .before .before .before .before .before .before .before .before .before .before .before .before .before .before .before .before .before .args in
+    let d = c .before .before .before .before .before .before .before .before .before .before .before .before .before .before in
+    let p = c .before .before .before .before .before .before .before .before .partition-body in
+    let y = is-asked (limitOf (a .axis)) (a .setup) (a .indexes .now) (a .sizes .now) (a .merge-firsts .now) (a .merge-lasts .now) (a .breaks .now) (a .run-firsts .now) (a .run-lasts .now) (a .run-sizes .now) (a .run-marks .now) (d .first-no .result) (asked d) (c .before .before .before .before .before .before .before .before .before .before .before .before .before .if1 .left) (grid (a .axis)) in
+    rw (y .goes-on) (p .ensures)
+
+pub partition-axis-with-breaks-spec : {M : Type 1} → statement M
+partition-axis-with-breaks-spec =
+    tie.close
+    (tie.spec
+    limit-requires
+    first-no-requires
+    returns
+    partition-body-requires
+    same-length
+    same-length-2
+    same-length-3
+    same-length-4
+    returns-2)

@@ -1,0 +1,218 @@
+// The call that cuts an axis into lent lists: document 01, sections "Titles" and "Runs".
+use crate::questions::all_small;
+use crate::questions::all_within;
+use crate::questions::pairs_ordered;
+use crate::questions::rising_within;
+use crate::runs::Frame;
+use crate::runs::Tally;
+use crate::runs::count_axis;
+use crate::runs::slots_below;
+use crate::runs::wide;
+use crate::runs::write_axis;
+use crate::titles::Axis;
+use crate::titles::Title;
+use crate::titles::body_start;
+ghost use mathlib.Core.Path.{_≡_};
+ghost use lib.ListN.{length};
+ghost use Rattle.planner.specs.Slots.{Slots};
+ghost use Rattle.planner.specs.Titles.{limitOf};
+ghost use Rattle.planner.specs.Runs.{axisRuns, axisTally};
+ghost use Rattle.planner.specs.Partition as call;
+
+// A range of an axis, its title as it was widened, and what fits on a page without and with the title.
+pub struct AxisSetup {
+    pub first: u32,
+    pub last: u32,
+    pub title: Title,
+    pub untitled: u64,
+    pub titled: u64,
+}
+
+// What `partition_axis_with_breaks` answers: how many runs, expansions and shifts, or a refusal with its number.
+pub enum Partition {
+    Value(Tally),
+    Refused(u8),
+}
+
+// 6, but for the order of the merges: lists that go together are equally long, and the range's first is not above its last.
+fn well_shaped(
+    setup: AxisSetup,
+    indexes: &[u32],
+    sizes: &[u64],
+    merge_firsts: &[u32],
+    merge_lasts: &[u32],
+    lent_even: bool,
+) -> bool
+    ensures { λ r. ⌜ r ≡ call.shaped setup (now (indexes .entry)) (now (sizes .entry)) (now («merge_firsts» .entry)) (now («merge_lasts» .entry)) «lent_even» ⌝ }
+{
+    (indexes.len() == sizes.len())
+        & (merge_firsts.len() == merge_lasts.len())
+        & lent_even
+        & (setup.first <= setup.last)
+}
+
+// The first of the questions 6 to 9 whose answer is no, or 0.
+fn first_no(
+    limit: u32,
+    setup: AxisSetup,
+    indexes: &[u32],
+    sizes: &[u64],
+    merge_firsts: &[u32],
+    merge_lasts: &[u32],
+    lent_even: bool,
+) -> u8
+    ensures { λ r. ⌜ r ≡ call.firstNo limit setup (now (indexes .entry)) (now (sizes .entry)) (now («merge_firsts» .entry)) (now («merge_lasts» .entry)) «lent_even» ⌝ }
+{
+    if !well_shaped(setup, indexes, sizes, merge_firsts, merge_lasts, lent_even) {
+        return 6;
+    }
+    if !pairs_ordered(merge_firsts, merge_lasts) {
+        return 6;
+    }
+    if setup.last > limit {
+        return 7;
+    }
+    if !all_within(merge_lasts, limit) {
+        return 7;
+    }
+    if !rising_within(indexes, limit) {
+        return 8;
+    }
+    if all_small(sizes) { 0 } else { 9 }
+}
+
+// Cuts slots into runs, counted before any is written.
+fn partition_slots(
+    frame: Frame,
+    merge_firsts: &[u32],
+    merge_lasts: &[u32],
+    breaks: &[u32],
+    indexes: &[u32],
+    sizes: &[u64],
+    run_firsts: &mut [u32],
+    run_lasts: &mut [u32],
+    run_sizes: &mut [u64],
+    run_marks: &mut [u8],
+) -> Partition
+    requires { ⌜ length (now «merge_firsts») ≡ length (now «merge_lasts») ⌝ }
+    requires { ⌜ Slots (now indexes) (now sizes) ⌝ }
+    requires { ⌜ call.Even (now «run_firsts») (now «run_lasts») (now «run_sizes») (now «run_marks») ⌝ }
+    ensures { λ r. ⌜ call.Answered (call.roomFor (axisRuns frame (now («merge_firsts» .entry)) (now («merge_lasts» .entry)) (now (indexes .entry)) (now (sizes .entry)) 0 (now (breaks .entry))) (axisTally frame (now («merge_firsts» .entry)) (now («merge_lasts» .entry)) (now (indexes .entry)) (now (sizes .entry)) (now (breaks .entry))) (length (now («run_firsts» .entry)))) (axisRuns frame (now («merge_firsts» .entry)) (now («merge_lasts» .entry)) (now (indexes .entry)) (now (sizes .entry)) 0 (now (breaks .entry))) r (now («run_firsts» .entry)) (now («run_lasts» .entry)) (now («run_sizes» .entry)) (now («run_marks» .entry)) (now («run_firsts» .exit)) (now («run_lasts» .exit)) (now («run_sizes» .exit)) (now («run_marks» .exit)) ⌝ }
+{
+    let tally = count_axis(frame, merge_firsts, merge_lasts, breaks, indexes, sizes);
+    if tally.runs > run_firsts.len() {
+        return Partition::Refused(11);
+    }
+    write_axis(
+        frame,
+        merge_firsts,
+        merge_lasts,
+        breaks,
+        indexes,
+        sizes,
+        run_firsts,
+        run_lasts,
+        run_sizes,
+        run_marks,
+    );
+    Partition::Value(tally)
+}
+
+// Cuts the body of a range.
+fn partition_body(
+    setup: AxisSetup,
+    indexes: &[u32],
+    sizes: &[u64],
+    merge_firsts: &[u32],
+    merge_lasts: &[u32],
+    breaks: &[u32],
+    run_firsts: &mut [u32],
+    run_lasts: &mut [u32],
+    run_sizes: &mut [u64],
+    run_marks: &mut [u8],
+) -> Partition
+    requires { ⌜ length (now «merge_firsts») ≡ length (now «merge_lasts») ⌝ }
+    requires { ⌜ Slots (now indexes) (now sizes) ⌝ }
+    requires { ⌜ call.Even (now «run_firsts») (now «run_lasts») (now «run_sizes») (now «run_marks») ⌝ }
+    ensures { λ r. ⌜ call.Answered (call.fits setup (now (indexes .entry)) (now (sizes .entry)) (now («merge_firsts» .entry)) (now («merge_lasts» .entry)) (now (breaks .entry)) (length (now («run_firsts» .entry)))) (call.bodyRuns setup (now (indexes .entry)) (now (sizes .entry)) (now («merge_firsts» .entry)) (now («merge_lasts» .entry)) (now (breaks .entry))) r (now («run_firsts» .entry)) (now («run_lasts» .entry)) (now («run_sizes» .entry)) (now («run_marks» .entry)) (now («run_firsts» .exit)) (now («run_lasts» .exit)) (now («run_sizes» .exit)) (now («run_marks» .exit)) ⌝ }
+{
+    let first = setup.first;
+    let last = setup.last;
+    let title = setup.title;
+    let start = body_start(title, first);
+    let from = slots_below(indexes, start);
+    let to = slots_below(indexes, wide(last) + 1);
+    if to <= from {
+        return Partition::Value(Tally {
+            runs: 0,
+            expansions: 0,
+            shifts: 0,
+        });
+    }
+    let frame = Frame {
+        untitled: setup.untitled,
+        titled: setup.titled,
+        title,
+        lo: start as u32,
+        hi: last,
+    };
+    partition_slots(
+        frame,
+        merge_firsts,
+        merge_lasts,
+        breaks,
+        &indexes[from..to],
+        &sizes[from..to],
+        run_firsts,
+        run_lasts,
+        run_sizes,
+        run_marks,
+    )
+}
+
+// Cuts the measured slots of a range into runs and writes them to the fronts of four lent lists: firsts, lasts, sizes, and 1
+// where a manual break stands before the run.
+pub fn partition_axis_with_breaks(
+    axis: Axis,
+    setup: AxisSetup,
+    indexes: &[u32],
+    sizes: &[u64],
+    merge_firsts: &[u32],
+    merge_lasts: &[u32],
+    breaks: &[u32],
+    run_firsts: &mut [u32],
+    run_lasts: &mut [u32],
+    run_sizes: &mut [u64],
+    run_marks: &mut [u8],
+) -> Partition
+    ensures { λ r. ⌜ call.Answered (call.partition (limitOf axis) setup (now (indexes .entry)) (now (sizes .entry)) (now («merge_firsts» .entry)) (now («merge_lasts» .entry)) (now (breaks .entry)) (now («run_firsts» .entry)) (now («run_lasts» .entry)) (now («run_sizes» .entry)) (now («run_marks» .entry))) (call.bodyRuns setup (now (indexes .entry)) (now (sizes .entry)) (now («merge_firsts» .entry)) (now («merge_lasts» .entry)) (now (breaks .entry))) r (now («run_firsts» .entry)) (now («run_lasts» .entry)) (now («run_sizes» .entry)) (now («run_marks» .entry)) (now («run_firsts» .exit)) (now («run_lasts» .exit)) (now («run_sizes» .exit)) (now («run_marks» .exit)) ⌝ }
+{
+    let lent_even = (run_firsts.len() == run_lasts.len())
+        & (run_firsts.len() == run_sizes.len())
+        & (run_firsts.len() == run_marks.len());
+    let limit = axis.limit();
+    let refusal = first_no(
+        limit,
+        setup,
+        indexes,
+        sizes,
+        merge_firsts,
+        merge_lasts,
+        lent_even,
+    );
+    if refusal > 0 {
+        return Partition::Refused(refusal);
+    }
+    partition_body(
+        setup,
+        indexes,
+        sizes,
+        merge_firsts,
+        merge_lasts,
+        breaks,
+        run_firsts,
+        run_lasts,
+        run_sizes,
+        run_marks,
+    )
+}
