@@ -3,3 +3,6 @@ pub mod Laws
 pub mod MergeLaws
 pub mod EndLaws
 pub mod AxisLaws
+pub mod Division
+pub mod Whole
+pub mod OneRun
