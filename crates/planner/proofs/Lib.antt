@@ -6,3 +6,4 @@ pub mod AxisLaws
 pub mod Division
 pub mod Whole
 pub mod OneRun
+pub mod Fewest

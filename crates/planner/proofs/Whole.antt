@@ -38,7 +38,7 @@ drop-mid n p e l = let d : e - p - n ≡ e - (p + n) = omega arith in rw (drop-t
 -- ---- between two cuts
 
 -- the run at the head of the slots from p up to e: it ends by e, and R holds of it
-abbrev Taken : (List ℕ → List ℕ → Run) → (ℕ → Run → Type 0) → List ℕ → List ℕ → ℕ → ℕ → Type 0
+abbrev pub Taken : (List ℕ → List ℕ → Run) → (ℕ → Run → Type 0) → List ℕ → List ℕ → ℕ → ℕ → Type 0
 Taken at R is ss p e = let r = at (mid p e is) (mid p e ss) in (1 ≤ r .slots) × (p + r .slots ≤ e) × R p r
 
 module _ (at : List ℕ → List ℕ → Run) (R : ℕ → Run → Type 0) (is ss : List ℕ) (a e : ℕ) (even : length is ≡ length ss) (inside : e ≤ length ss)
@@ -61,10 +61,10 @@ module _ (at : List ℕ → List ℕ → Run) (R : ℕ → Run → Type 0) (is s
   runs-chain h = from e a (omega arith) h (omega arith)
 
 -- a mark changes nothing else
-abbrev marked : ℕ → Run → Run
+abbrev pub marked : ℕ → Run → Run
 marked m r = record { first = r .first; last = r .last; size = r .size; slots = r .slots; grown = r .grown; manual = m }
 
-marked-chain : (m : ℕ) {R : ℕ → Run → Type 0} → ((p : ℕ) (r : Run) → R p r → R p (marked m r)) → {p : ℕ} {rs : List Run} {n : ℕ}
+pub marked-chain : (m : ℕ) {R : ℕ → Run → Type 0} → ((p : ℕ) (r : Run) → R p r → R p (marked m r)) → {p : ℕ} {rs : List Run} {n : ℕ}
     → Chain slotsOf R p rs n → Chain slotsOf R p (firstMarked m rs) n
 unfolding firstMarked
 marked-chain m f done = done
