@@ -7,3 +7,5 @@ pub mod Division
 pub mod Whole
 pub mod OneRun
 pub mod Fewest
+pub mod Cases
+pub mod Earliest
