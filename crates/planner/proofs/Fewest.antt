@@ -1,11 +1,11 @@
 -- With no merges and no title, the runs of an axis are the fewest that cut at every kept break and stay within capacity. Assumes nothing.
-use mathlib.Core.Path.{_≡_, refl, sym, ap, _∙_}
-use mathlib.Core.Logic.{_⊎_, inl, inr, ⊎-elim}
+use mathlib.Core.Path.{_≡_, refl, _∙_}
+use mathlib.Core.Logic.{_⊎_, ⊎-elim}
 use mathlib.Core.Bool.{cond}
 use mathlib.Core.List.{List, [], _∷_, _++_}
-use Prim.Native.Nat.{ℕ, zero, suc, _+_, _-_, _≤_, _<_, min, zero-le, suc-le-suc}
+use Prim.Native.Nat.{ℕ, suc, _+_, _-_, _≤_, _<_, min, zero-le, suc-le-suc}
 use native.Mathlib.Omega.{arith}
-use lib.ListN.{length, getD, take, drop}
+use lib.ListN.{length, take, drop}
 use lib.Seq.{take-add, take-take}
 use lib.Dec.{leb, ltb}
 use borrow.Author.Tests.{le-leb, lt-leb}
@@ -15,7 +15,7 @@ use Rattle.planner.specs.declared.runs.Frame.{Frame}
 use Rattle.planner.specs.declared.runs.RunEnd.{RunEnd}
 use Rattle.planner.specs.Slots.{sum, mid}
 use Rattle.planner.specs.Titles.{pastTitle}
-use Rattle.planner.specs.Runs.{Run, more, natural, capacityAt, filled, resumption, taken, ends, holding, mergeStep, merged, runEnd, run, runs, stretch, axisRuns}
+use Rattle.planner.specs.Runs.{Run, more, natural, capacityAt, filled, resumption, taken, holding, mergeStep, merged, runEnd, run, runs, stretch, axisRuns}
 use Rattle.planner.specs.Division.{_∈_, Fewest, keptCuts, counts}
 use Rattle.planner.proofs.Laws.{either, natural-pos, natural-le, length-mid}
 use Rattle.planner.proofs.Division.{split, Chain, done, link, Counts, chain-le, chain-counts, division-of, total, Good, cuts-from, within-from, chain-of}
@@ -115,8 +115,10 @@ greedy cap cuts xs a e inside out at p m h l n =
     let full : p + m < e → cap < total xs p (suc m) = λ t. rw (take-take (suc m) (e - p) (drop p xs) (omega arith)) at (f .1 (omega arith)) in (
       low,
       high,
-      (record { within = fits; clear = λ b i q. ⊎-elim (λ o. absurd (omega arith)) (λ o. omega arith) (out b i) },
-      λ q g. split e (p + m) (λ s. omega (arith, g .clear e (at (omega arith)) (omega arith))) (λ s. omega (arith, full s, g .within (omega arith)))),
+      (
+        record { within = fits; clear = λ b i q. ⊎-elim (λ o. absurd (omega arith)) (λ o. omega arith) (out b i) },
+        λ q g. split e (p + m) (λ s. omega (arith, g .clear e (at (omega arith)) (omega arith))) (λ s. omega (arith, full s, g .within (omega arith))),
+      ),
     )
 
 pub axis-fewest : (k : Frame) (is ss bs : List ℕ) → length is ≡ length ss → k .title ≡ Absent

@@ -1,16 +1,16 @@
 -- Where indexes rise, each lies in exactly one run. Assumes nothing.
-use mathlib.Core.Path.{_≡_, refl, sym, ap}
+use mathlib.Core.Path.{_≡_, refl, ap}
 use mathlib.Core.Logic.{inl, inr}
 use mathlib.Core.List.{List, [], _∷_, map}
 use Prim.Native.Nat.{ℕ, zero, suc, _+_, _-_, _≤_, _<_}
 use native.Mathlib.Omega.{arith}
-use lib.ListN.{length, getD, take, drop, length-drop, length-map}
+use lib.ListN.{length, getD, take, drop, length-drop}
 use lib.Seq.{getD-take, getD-drop, length-take-le}
 use Rattle.planner.specs.declared.runs.Frame.{Frame}
 use Rattle.planner.specs.Slots.{sum}
 use Rattle.planner.specs.Runs.{axisRuns}
 use Rattle.planner.specs.Lent.{firsts, lasts}
-use Rattle.planner.specs.Division.{_∈_, Division, pieces, firstOf, lastOf, Rising, LiesIn, InOneRun, counts}
+use Rattle.planner.specs.Division.{Division, pieces, firstOf, lastOf, Rising, LiesIn, InOneRun}
 use Rattle.planner.proofs.Division.{split}
 use Rattle.planner.proofs.Whole.{axis-division, axis-tells}
 
@@ -96,8 +96,12 @@ one-run (n ∷ ns) xs d r j h =
     (λ l. at-first (firstOf (take n xs)) (lastOf (take n xs)) fs ls x
     (omega (arith, first, rising-le xs r 0 j (omega arith) h))
     (omega (arith, last, rising-le xs r j (n - 1) (omega arith) (omega arith)))
-    (λ m o. omega (arith, o .not-before, firsts-low (suc x) ns (drop n xs) (others n ns xs d)
-    (λ i k. rw getD-drop (r j (n + i) (omega arith) (omega (arith, length-drop n xs)))) m (o .there))))
+    (λ m o. omega (
+      arith,
+      o .not-before,
+      firsts-low (suc x) ns (drop n xs) (others n ns xs d)
+          (λ i k. rw getD-drop (r j (n + i) (omega arith) (omega (arith, length-drop n xs)))) m (o .there),
+    )))
 
 -- of an axis, whatever its merges, title and breaks
 pub axis-one-run : (k : Frame) (fs ls is ss bs : List ℕ) → length is ≡ length ss → Rising is → (j : ℕ) → j < length is

@@ -1,12 +1,12 @@
 -- The runs of an axis, whatever its merges, title and breaks: a division of its slots that the runs' numbers tell. Assumes nothing.
 use mathlib.Core.Path.{_≡_, refl, sym, ap, ap₂, _∙_}
 use mathlib.Core.Logic.{_⊎_, inl, inr, ⊎-elim, ⊎-map}
-use mathlib.Core.List.{List, [], _∷_, _++_, map}
+use mathlib.Core.List.{List, [], _∷_, _++_}
 use Prim.Native.Nat.{ℕ, zero, suc, _+_, _-_, _≤_, _<_, min}
 use native.Mathlib.Nat.{lt-irrefl, sub-self, sub-zero, zero-sub, suc-sub-suc}
 use native.Mathlib.Omega.{arith}
 use lib.ListN.{length, getD, take, drop, length-drop}
-use lib.Seq.{take-nil, drop-drop, take-take, getD-take, getD-drop, length-take-le}
+use lib.Seq.{take-nil, drop-drop, take-take, getD-take, length-take-le}
 use lib.Dec.{leb, ltb}
 use Rattle.planner.specs.declared.titles.Title.{Title}
 use Rattle.planner.specs.declared.titles.Title.the-variants.{Absent, Pair}
@@ -14,12 +14,12 @@ use Rattle.planner.specs.declared.runs.Frame.{Frame}
 use Rattle.planner.specs.declared.runs.Cut.{Cut}
 use Rattle.planner.specs.Slots.{sum, mid, below}
 use Rattle.planner.specs.Titles.{holds}
-use Rattle.planner.specs.Runs.{Run, runsBy, runOf, natural, again, resumed, resumption, filled, taken, capacityAt, merged, runEnd, run, runs, kept, placed, nextCut, firstMarked, stretch, axisRuns}
+use Rattle.planner.specs.Runs.{Run, runsBy, runOf, natural, again, resumed, resumption, filled, taken, capacityAt, runEnd, run, runs, kept, placed, nextCut, firstMarked, stretch, axisRuns}
 use Rattle.planner.specs.Lent.{firsts, lasts, sizes}
 use Rattle.planner.specs.Division.{_∈_, Division, pieces, keptCuts, counts, firstOf, lastOf, Tells}
 use Rattle.planner.proofs.Laws.{either, either-lt, natural-pos, natural-le, length-mid, step, none}
 use Rattle.planner.proofs.EndLaws.{merged-within}
-use Rattle.planner.proofs.Division.{split, Chain, done, link, Counts, chain-append, chain-end, chain-counts, division-of, join, join-pieces}
+use Rattle.planner.proofs.Division.{split, Chain, done, link, chain-append, chain-end, chain-counts, division-of, join, join-pieces}
 
 abbrev pub slotsOf : Run → ℕ
 slotsOf r = r .slots
@@ -191,7 +191,7 @@ run-told : (is ss : List ℕ) (p e n g : ℕ) → length is ≡ length ss → e 
 run-told is ss p e n g even inside low high = record {
   first-is = rw (getD-take (e - p) (drop p is) 0 0 (omega arith), getD-take n (drop p is) 0 0 (omega arith));
   last-is =
-    rw (length-take-le n (drop p is) (simp length-drop (omega arith)), getD-take (e - p) (drop p is) (n - 1) 0 (omega arith), getD-take n (drop p is) (n - 1) 0 (omega arith));
+      rw (length-take-le n (drop p is) (simp length-drop (omega arith)), getD-take (e - p) (drop p is) (n - 1) 0 (omega arith), getD-take n (drop p is) (n - 1) 0 (omega arith));
   size-is = rw (take-take n (e - p) (drop p ss) (omega arith));
 }
 

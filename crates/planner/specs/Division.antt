@@ -12,7 +12,6 @@ use Rattle.planner.specs.Slots.{sum}
 use Rattle.planner.specs.Runs.{Run, nextCut}
 
 infix 40 _∈_
-
 -- x is one of the list
 abbrev pub _∈_ : {A : Type 0} → A → List A → Type 0
 x ∈ [] = ⊥
