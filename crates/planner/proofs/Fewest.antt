@@ -1,25 +1,28 @@
 -- With no merges and no title, the runs of an axis are the fewest that cut at every kept break and stay within capacity. Assumes nothing.
-use mathlib.Core.Path.{_≡_, refl, _∙_}
-use mathlib.Core.Logic.{_⊎_, ⊎-elim}
-use mathlib.Core.Bool.{cond}
+use mathlib.Core.Path.{_≡_, refl, sym, ap, _∙_}
+use mathlib.Core.Logic.{_⊎_, inl, inr, ⊎-elim}
+use mathlib.Core.Bool.{false, cond, _&&_, and-false}
 use mathlib.Core.List.{List, [], _∷_, _++_}
 use Prim.Native.Nat.{ℕ, suc, _+_, _-_, _≤_, _<_, min, zero-le, suc-le-suc}
 use native.Mathlib.Omega.{arith}
-use lib.ListN.{length, take, drop}
+use lib.ListN.{length, getD, take, drop}
 use lib.Seq.{take-add, take-take}
 use lib.Dec.{leb, ltb}
-use borrow.Author.Tests.{le-leb, lt-leb}
+use borrow.Author.Tests.{le-leb, lt-leb, lt-ltb, le-ltb}
 use Rattle.planner.specs.declared.titles.Title.{Title}
 use Rattle.planner.specs.declared.titles.Title.the-variants.{Absent}
 use Rattle.planner.specs.declared.runs.Frame.{Frame}
 use Rattle.planner.specs.declared.runs.RunEnd.{RunEnd}
-use Rattle.planner.specs.Slots.{sum, mid}
-use Rattle.planner.specs.Titles.{pastTitle}
-use Rattle.planner.specs.Runs.{Run, more, natural, capacityAt, filled, resumption, taken, holding, mergeStep, merged, runEnd, run, runs, stretch, axisRuns}
-use Rattle.planner.specs.Division.{_∈_, Fewest, keptCuts, counts}
+use Rattle.planner.specs.declared.runs.Cut.{Cut}
+use Rattle.planner.specs.Slots.{sum, mid, below}
+use Rattle.planner.specs.Titles.{titleHolds, pastTitle}
+use Rattle.planner.specs.Runs.{Run, more, natural, capacityAt, filled, resumption, taken, holding, mergeStep, merged, runEnd, run, runs, cutAt, moved, placed, kept, nextCut, stretch, axisRuns}
+use Rattle.planner.specs.Lent.{firsts, lasts, sizes}
+use Rattle.planner.specs.Division.{_∈_, Fewest, FewestRuns, keptCuts, keptBreaks, counts}
 use Rattle.planner.proofs.Laws.{either, natural-pos, natural-le, length-mid}
+use Rattle.planner.proofs.AxisLaws.{placed-zero, placed-past, placed-moved, kept-yes, kept-low}
 use Rattle.planner.proofs.Division.{split, Chain, done, link, Counts, chain-le, chain-counts, division-of, total, Good, cuts-from, within-from, chain-of}
-use Rattle.planner.proofs.Whole.{slotsOf, marked-chain, runs-chain, axis-chain, kept-ordered, ordered-in}
+use Rattle.planner.proofs.Whole.{slotsOf, marked-chain, runs-chain, axis-chain, axis-tells, kept-ordered, ordered-in}
 
 -- ---- runs none of which could be one slot longer are the fewest
 
@@ -139,3 +142,45 @@ axis-fewest k is ss bs even t =
       within-capacity = within-from cap cuts ss good;
       none-fewer = λ ms d c w. fewest (good-part cap cuts ss) (omega arith) (chain-counts (λ p r g. g .1) chain) (chain-of cap cuts ss ms d c w);
     }
+
+-- and they are what the runs' firsts, lasts and sizes tell
+pub axis-fewest-runs : (k : Frame) (is ss bs : List ℕ) → length is ≡ length ss → k .title ≡ Absent
+    → let rs = axisRuns k [] [] is ss 0 bs in FewestRuns (k .untitled) (keptCuts k [] [] is 0 bs) is ss (firsts rs) (lasts rs) (sizes rs)
+axis-fewest-runs k is ss bs even t = record { slots = _; tells = axis-tells k [] [] is ss bs even; fewest = axis-fewest k is ss bs even t }
+
+-- ---- the kept cuts are the kept breaks' positions
+
+-- a position p past the last kept cut and before n is the next; otherwise the last kept cut stays
+abbrev Next : ℕ → ℕ → ℕ → ℕ → Type 0
+Next prev p n c = ((prev < p) × (p < n) × (c ≡ p)) ⊎ (((ltb prev p && ltb p n) ≡ false) × (c ≡ prev))
+
+absent-holds : (title : Title) (i : ℕ) → title ≡ Absent → titleHolds title i ≡ false
+unfolding titleHolds
+absent-holds title i t = rw t
+
+module _ (k : Frame) (is : List ℕ) (t : k .title ≡ Absent) (prev p : ℕ) where
+  placed-at : 0 < p → p < length is → placed k [] [] is prev p ≡ cutAt p 0
+  unfolding holding moved
+  placed-at h q = sym (placed-moved k [] [] is prev p h q (absent-holds (k .title) (getD is p 0) t))
+
+  stays : (c : Cut) → placed k [] [] is prev p ≡ c → c .place ≤ prev → (ltb prev p && ltb p (length is)) ≡ false
+      → Next prev p (length is) (kept (length is) prev (placed k [] [] is prev p) .place)
+  stays c e h f = inr (f, rw e (ap (λ (d : Cut). d .place) (sym (kept-low (length is) prev c h))))
+
+  next-plain : Next prev p (length is) (kept (length is) prev (placed k [] [] is prev p) .place)
+  next-plain =
+      split p 0 (λ h. stays (cutAt prev 0) (sym (placed-zero k [] [] is prev p h)) (omega arith) (rw (le-ltb prev p (omega arith))))
+      (λ h. split (length is) p
+      (λ q. stays (cutAt prev 0) (sym (placed-past k [] [] is prev p h q)) (omega arith) (rw (le-ltb p (length is) q) (and-false (ltb prev p))))
+      (λ q. split p prev (λ l. stays (cutAt p 0) (placed-at h q) l (rw (le-ltb prev p l)))
+      (λ l. inl (l, q, rw (placed-at h q) (ap (λ (d : Cut). d .place) (sym (kept-yes (length is) prev (cutAt p 0) l q)))))))
+
+pub kept-plain : (k : Frame) (is : List ℕ) → k .title ≡ Absent → (prev : ℕ) (bs : List ℕ) → keptCuts k [] [] is prev bs ≡ keptBreaks is prev bs
+unfolding keptCuts keptBreaks nextCut
+kept-plain k is t prev [] = refl
+kept-plain k is t prev (b ∷ bs) =
+    let p : ℕ = below b is in
+    elim (next-plain k is t prev p) [
+      | inl n ↦ rw (n .2, lt-ltb prev p (n .0), lt-ltb p (length is) (n .1)) (ap (λ (cs : List ℕ). p ∷ cs) (kept-plain k is t p bs))
+      | inr n ↦ rw (n .1, n .0, le-ltb prev prev (omega arith)) (kept-plain k is t prev bs)
+    ]

@@ -10,7 +10,7 @@ use Rattle.planner.specs.declared.runs.Frame.{Frame}
 use Rattle.planner.specs.Slots.{sum}
 use Rattle.planner.specs.Runs.{axisRuns}
 use Rattle.planner.specs.Lent.{firsts, lasts}
-use Rattle.planner.specs.Division.{Division, pieces, firstOf, lastOf, Rising, LiesIn, InOneRun}
+use Rattle.planner.specs.Division.{Division, pieces, firstOf, lastOf, Rising, LiesIn, InOneRun, Covered}
 use Rattle.planner.proofs.Division.{split}
 use Rattle.planner.proofs.Whole.{axis-division, axis-tells}
 
@@ -75,8 +75,7 @@ module _ (f l : ℕ) (fs ls : List ℕ) (i : ℕ) where
       only (suc r) h = ap suc (o .only r (inner h))
 
 -- of any division of rising indexes
-pub one-run : (ns xs : List ℕ) → Division (length xs) ns → Rising xs → (j : ℕ) → j < length xs
-    → InOneRun (map firstOf (pieces ns xs)) (map lastOf (pieces ns xs)) (getD xs j 0)
+pub one-run : (ns xs : List ℕ) → Division (length xs) ns → Rising xs → Covered xs (map firstOf (pieces ns xs)) (map lastOf (pieces ns xs))
 unfolding pieces sum
 one-run [] xs d r j h = absurd (omega (arith, d .whole))
 one-run (n ∷ ns) xs d r j h =
@@ -104,8 +103,8 @@ one-run (n ∷ ns) xs d r j h =
     )))
 
 -- of an axis, whatever its merges, title and breaks
-pub axis-one-run : (k : Frame) (fs ls is ss bs : List ℕ) → length is ≡ length ss → Rising is → (j : ℕ) → j < length is
-    → let rs = axisRuns k fs ls is ss 0 bs in InOneRun (firsts rs) (lasts rs) (getD is j 0)
-axis-one-run k fs ls is ss bs even r j h =
+pub axis-covered : (k : Frame) (fs ls is ss bs : List ℕ) → length is ≡ length ss → Rising is
+    → let rs = axisRuns k fs ls is ss 0 bs in Covered is (firsts rs) (lasts rs)
+axis-covered k fs ls is ss bs even r =
     let t = axis-tells k fs ls is ss bs even in
-    rw (t .firsts-are, t .lasts-are) (one-run _ is (rw even (axis-division k fs ls is ss bs even)) r j h)
+    rw (t .firsts-are, t .lasts-are) (one-run _ is (rw even (axis-division k fs ls is ss bs even)) r)

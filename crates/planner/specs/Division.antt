@@ -2,13 +2,13 @@
 -- numbers of slots, in order. Nothing here says how runs are found. Assumes nothing.
 use mathlib.Core.Path.{_≡_}
 use mathlib.Core.Logic.{_⊎_}
-use mathlib.Core.Bool.{cond}
+use mathlib.Core.Bool.{cond, _&&_}
 use mathlib.Core.List.{List, [], _∷_, map}
 use Prim.Native.Nat.{ℕ, _+_, _-_, _≤_, _<_}
 use lib.ListN.{length, getD, take, drop}
 use lib.Dec.{ltb}
 use Rattle.planner.specs.declared.runs.Frame.{Frame}
-use Rattle.planner.specs.Slots.{sum}
+use Rattle.planner.specs.Slots.{sum, below}
 use Rattle.planner.specs.Runs.{Run, nextCut}
 
 infix 40 _∈_
@@ -50,13 +50,23 @@ pub record Fewest (cap : ℕ) (cuts sizes ns : List ℕ) : Type 0 where
   pub within-capacity : Within cap sizes ns
   pub none-fewer : (ms : List ℕ) → Division (length sizes) ms → CutsAt cuts ms → Within cap sizes ms → length ns ≤ length ms
 
--- the kept manual breaks: the places of the cuts that stay, in order, from the last kept cut on
+-- the kept manual breaks: the places of the cuts that stay, in order, after the last kept cut
 unfoldable pub keptCuts : Frame → List ℕ → List ℕ → List ℕ → ℕ → List ℕ → List ℕ
 keptCuts k fs ls is prev [] = []
 keptCuts k fs ls is prev (b ∷ bs) =
     let c = nextCut k fs ls is prev b .place in
     let rest = keptCuts k fs ls is c bs in
     cond (ltb prev c) (c ∷ rest) rest
+
+-- what that comes to with no merges and no title: "position = first slot not below the break"; a position past the last kept one and before
+-- the end is kept
+unfoldable pub keptBreaks : List ℕ → ℕ → List ℕ → List ℕ
+keptBreaks is prev [] = []
+keptBreaks is prev (b ∷ bs) =
+    let p = below b is in
+    let with = p ∷ keptBreaks is p bs in
+    let without = keptBreaks is prev bs in
+    cond (ltb prev p && ltb p (length is)) with without
 
 -- ---- runs
 
@@ -76,6 +86,12 @@ pub record Tells (indexes sizes ns firsts lasts totals : List ℕ) : Type 0 wher
   pub lasts-are : lasts ≡ map lastOf (pieces ns indexes)
   pub totals-are : totals ≡ map sum (pieces ns sizes)
 
+-- runs that firsts, lasts and totals tell are such a division
+pub record FewestRuns (cap : ℕ) (cuts indexes sizes firsts lasts totals : List ℕ) : Type 0 where
+  pub slots : List ℕ
+  pub tells : Tells indexes sizes slots firsts lasts totals
+  pub fewest : Fewest cap cuts sizes slots
+
 -- ---- covering
 
 abbrev pub Rising : List ℕ → Type 0
@@ -92,3 +108,7 @@ pub record InOneRun (firsts lasts : List ℕ) (index : ℕ) : Type 0 where
   pub run : ℕ
   pub lies : LiesIn firsts lasts index run
   pub only : (r : ℕ) → LiesIn firsts lasts index r → r ≡ run
+
+-- each slot's index does
+abbrev pub Covered : List ℕ → List ℕ → List ℕ → Type 0
+Covered indexes firsts lasts = (j : ℕ) → j < length indexes → InOneRun firsts lasts (getD indexes j 0)
