@@ -9,3 +9,4 @@ pub mod OneRun
 pub mod Fewest
 pub mod Cases
 pub mod Earliest
+pub mod Places

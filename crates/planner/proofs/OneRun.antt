@@ -17,7 +17,7 @@ use Rattle.planner.proofs.Whole.{axis-division, axis-tells}
 rising-le : (xs : List ℕ) → Rising xs → (j k : ℕ) → j ≤ k → k < length xs → getD xs j 0 ≤ getD xs k 0
 rising-le xs r j k h q = split k j (λ l. let e : j ≡ k = omega arith in rw e (omega arith)) (λ l. omega (arith, r j k l q))
 
-rising-drop : (n : ℕ) (xs : List ℕ) → Rising xs → Rising (drop n xs)
+pub rising-drop : (n : ℕ) (xs : List ℕ) → Rising xs → Rising (drop n xs)
 rising-drop n xs r j k h q = rw (getD-drop n xs j 0, getD-drop n xs k 0) (r (n + j) (n + k) (omega arith) (omega (arith, length-drop n xs)))
 
 -- ---- the first run of a division, and the others
