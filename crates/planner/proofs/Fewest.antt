@@ -18,11 +18,12 @@ use Rattle.planner.specs.Slots.{sum, mid, below}
 use Rattle.planner.specs.Titles.{titleHolds, pastTitle}
 use Rattle.planner.specs.Runs.{Run, more, natural, capacityAt, filled, resumption, taken, holding, mergeStep, merged, runEnd, run, runs, cutAt, moved, placed, kept, nextCut, stretch, axisRuns}
 use Rattle.planner.specs.Lent.{firsts, lasts, sizes}
-use Rattle.planner.specs.Division.{_∈_, Fewest, FewestRuns, keptCuts, keptBreaks, counts}
+use Rattle.planner.specs.Division.{Fewest, FewestRuns, keptCuts, keptBreaks, counts}
 use Rattle.planner.proofs.Laws.{either, natural-pos, natural-le, length-mid}
 use Rattle.planner.proofs.AxisLaws.{placed-zero, placed-past, placed-moved, kept-yes, kept-low}
 use Rattle.planner.proofs.Division.{split, Chain, done, link, Counts, chain-le, chain-counts, division-of, total, Good, cuts-from, within-from, chain-of}
-use Rattle.planner.proofs.Whole.{slotsOf, marked-chain, runs-chain, axis-chain, axis-tells, kept-ordered, ordered-in}
+use Rattle.planner.proofs.Cuts.{slotsOf, Stretch, marked-chain, runs-chain, axis-chain, kept-ordered, ordered-in}
+use Rattle.planner.proofs.Whole.{axis-tells}
 
 -- ---- runs none of which could be one slot longer are the fewest
 
@@ -106,11 +107,11 @@ run-plain k is ss t =
 abbrev Greedy : ℕ → List ℕ → List ℕ → ℕ → ℕ → Type 0
 Greedy cap cuts xs p m = Good cap cuts xs p m × (p + m < length xs → ¬ (Good cap cuts xs p (suc m)))
 
--- a natural run in a stretch from a up to e with no cut inside, where e is a cut or the end
-greedy : (cap : ℕ) (cuts xs : List ℕ) (a e : ℕ) → e ≤ length xs → ((b : ℕ) → b ∈ cuts → (b ≤ a) ⊎ (e ≤ b)) → (e < length xs → e ∈ cuts)
+-- a natural run in a stretch
+greedy : (cap : ℕ) (cuts xs : List ℕ) (a e : ℕ) → Stretch cuts (length xs) a e
     → (p m : ℕ) → a ≤ p → p < e → m ≡ natural cap (mid p e xs) → (1 ≤ m) × (p + m ≤ e) × Greedy cap cuts xs p m
-greedy cap cuts xs a e inside out at p m h l n =
-    let len = length-mid p e xs inside in
+greedy cap cuts xs a e s p m h l n =
+    let len = length-mid p e xs (s .inside) in
     let f = natural-fills cap (mid p e xs) m n in
     let low : 1 ≤ m = omega (arith, natural-pos cap (mid p e xs) (omega arith)) in
     let high : p + m ≤ e = omega (arith, natural-le cap (mid p e xs)) in
@@ -119,8 +120,8 @@ greedy cap cuts xs a e inside out at p m h l n =
       low,
       high,
       (
-        record { within = fits; clear = λ b i q. ⊎-elim (λ o. absurd (omega arith)) (λ o. omega arith) (out b i) },
-        λ q g. split e (p + m) (λ s. omega (arith, g .clear e (at (omega arith)) (omega arith))) (λ s. omega (arith, full s, g .within (omega arith))),
+        record { within = fits; clear = λ b i q. ⊎-elim (λ o. absurd (omega arith)) (λ o. omega arith) (s .free b i) },
+        λ q g. split e (p + m) (λ o. omega (arith, s .inside, g .clear e (s .stop (omega arith)) (omega arith))) (λ o. omega (arith, full o, g .within (omega arith))),
       ),
     )
 
@@ -132,9 +133,9 @@ axis-fewest k is ss bs even t =
     let cuts : List ℕ = keptCuts k [] [] is 0 bs in
     let R : ℕ → Run → Type 0 = λ p r. Greedy cap cuts ss p (r .slots) in
     let chain : Chain slotsOf R 0 (axisRuns k [] [] is ss 0 bs) (length ss) =
-    axis-chain k [] [] is ss bs R even (λ a e h inside out at. marked-chain (min a 1) (λ p r g. g)
-    (runs-chain (run k [] []) R is ss a e even inside
-    (λ p l q. greedy cap cuts ss a e inside out at p _ l q (run-plain k (mid p e is) (mid p e ss) t)) h)) in
+    axis-chain k [] [] is ss bs R even (λ a e s. marked-chain (min a 1) a (λ r g. g) (λ p r l g. g)
+    (runs-chain (run k [] []) R is ss a e even (s .inside)
+    (λ p h l. greedy cap cuts ss a e s p _ h l (run-plain k (mid p e is) (mid p e ss) t)) (s .forward))) in
     let good = chain-counts (λ p r g. g .0) chain in
     record {
       division = division-of good;

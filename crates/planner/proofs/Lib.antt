@@ -4,6 +4,7 @@ pub mod MergeLaws
 pub mod EndLaws
 pub mod AxisLaws
 pub mod Division
+pub mod Cuts
 pub mod Whole
 pub mod OneRun
 pub mod Fewest

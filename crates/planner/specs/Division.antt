@@ -92,6 +92,15 @@ pub record FewestRuns (cap : ℕ) (cuts indexes sizes firsts lasts totals : List
   pub tells : Tells indexes sizes slots firsts lasts totals
   pub fewest : Fewest cap cuts sizes slots
 
+-- "A kept cut marks its run": 1 where the run starts at a kept cut, 0 elsewhere
+abbrev pub MarkedAt : List ℕ → ℕ → ℕ → Type 0
+MarkedAt cuts p mark = ((mark ≡ 1) × (p ∈ cuts)) ⊎ ((mark ≡ 0) × ¬ (p ∈ cuts))
+
+-- so of each run of ns slots
+pub record MarksKept (cuts ns marks : List ℕ) : Type 0 where
+  pub as-many : length marks ≡ length ns
+  pub each : (r : ℕ) → r < length ns → MarkedAt cuts (getD (startsFrom 0 ns) r 0) (getD marks r 0)
+
 -- ---- covering
 
 abbrev pub Rising : List ℕ → Type 0
