@@ -54,7 +54,7 @@ module _ (at : List ℕ → List ℕ → Run) (R : ℕ → Run → Type 0) (is s
   pub runs-chain : a ≤ e → Chain slotsOf R a (runsBy at zero (mid a e is) (mid a e ss)) e
   runs-chain h = from e a (omega arith) h (omega arith)
 
--- the first run's mark is put in: what holds of a run at a with that mark, and of a run past a as it is
+-- a run with the mark m
 abbrev pub marked : ℕ → Run → Run
 marked m r = record { first = r .first; last = r .last; size = r .size; slots = r .slots; grown = r .grown; manual = m }
 
@@ -63,6 +63,7 @@ past-chain : (a : ℕ) {Q R : ℕ → Run → Type 0} → ((p : ℕ) (r : Run) �
 past-chain a f h done = done
 past-chain a f h (link z q c) = link z (f _ _ h q) (past-chain a f (omega arith) c)
 
+-- where the first run is marked: R has to hold of the run at a with that mark, and of runs past a as they are
 pub marked-chain : (m a : ℕ) {Q R : ℕ → Run → Type 0} → ((r : Run) → Q a r → R a (marked m r)) → ((p : ℕ) (r : Run) → a < p → Q p r → R p r)
     → {rs : List Run} {n : ℕ} → Chain slotsOf Q a rs n → Chain slotsOf R a (firstMarked m rs) n
 unfolding firstMarked

@@ -1,4 +1,4 @@
--- Laws that belong to no one function.
+-- Laws that belong to no one function; from `Division` on, theorems over the definitions.
 pub mod Laws
 pub mod MergeLaws
 pub mod EndLaws

@@ -94,7 +94,9 @@ module _ (k : Frame) (fs ls is ss bs : List ℕ) (even : length is ≡ length ss
       let past : (b : ℕ) → b ∈ cuts → 0 < b = λ b m. ordered-in 0 cuts (length is) b (kept-ordered k fs ls is 0 bs) m .0 in
       let Q : ℕ → ℕ → Run → Type 0 = λ a p r. (r .manual ≡ 0) × (a < p → ¬ (p ∈ cuts)) in
       axis-chain k fs ls is ss bs (λ p r. MarkedAt cuts p (r .manual)) even
-      (λ a e s. marked-chain (min a 1) a {Q = Q a} (λ r q. ⊎-elim (λ z. inr (omega arith, λ m. omega (arith, past a m))) (λ m. inl (omega (arith, past a m), m)) (s .start)) (λ p r l q. inr (q .0, q .1 l))
+      (λ a e s. marked-chain (min a 1) a {Q = Q a}
+      (λ r q. ⊎-elim (λ z. inr (omega arith, λ m. omega (arith, past a m))) (λ m. inl (omega (arith, past a m), m)) (s .start))
+      (λ p r l q. inr (q .0, q .1 l))
       (runs-chain (run k fs ls) (Q a) is ss a e even (s .inside)
       (λ p h l. let w = run-within p e (s .inside) l in (w .0, w .1, (refl, λ g m. ⊎-elim (λ o. omega arith) (λ o. omega arith) (s .free p m))))
       (s .forward)))
