@@ -1,5 +1,5 @@
 -- Laws of `specs/Questions.antt`'s definitions: for the loops of `src/questions.rt`, and what a "yes" says of every item. Assumes nothing.
-use mathlib.Core.Path.{_≡_, refl, sym, ap, _∙_}
+use mathlib.Core.Path.{_≡_, refl}
 use mathlib.Core.Bool.{Bool, true, false, _&&_}
 use mathlib.Core.List.{List, [], _∷_}
 use Prim.Native.Nat.{ℕ, zero, suc, _+_, _-_, _≤_, _<_, _^_}
@@ -7,11 +7,11 @@ use native.Mathlib.Nat.{lt-of-not-le}
 use native.Mathlib.Decide.{decLe}
 use native.Mathlib.Numerals.{add-one}
 use native.Mathlib.Omega.{arith}
-use lib.Dec.{leb, ltb, eqb}
+use lib.Dec.{leb, ltb}
 use lib.ListN.{length, getD, drop, drop-of-length-le}
 use lib.Seq.{drop-cons}
 use borrow.Author.Tests.{lt-ltb, le-ltb, le-leb, lt-leb, leb-true, ltb-true}
-use Rattle.planner.specs.Slots.{Small, Slots}
+use Rattle.planner.specs.Slots.{Slots}
 use Rattle.planner.specs.Questions.{allOrdered, allWithin, rising, risingWithin, allSmall}
 use Rattle.planner.proofs.Laws.{drop-back}
 

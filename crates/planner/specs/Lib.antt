@@ -1,7 +1,8 @@
--- What the contracts of `planner` cite: a file for each section of document 01, and what they share.
+-- What the contracts of `planner` cite: a file for each section of document 01, what they share, and the words of demand 3.
 pub mod Slots
 pub mod Questions
 pub mod Titles
 pub mod Runs
 pub mod Lent
 pub mod Partition
+pub mod Division

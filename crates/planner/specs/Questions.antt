@@ -12,8 +12,8 @@ ask n true rest = rest
 ask n false rest = refused n
 
 -- 6: "Slices that make up one list equally long"
-abbrev pub even : List ℕ → List ℕ → Bool
-even xs ys = eqb (length xs) (length ys)
+abbrev pub equallyLong : List ℕ → List ℕ → Bool
+equallyLong xs ys = eqb (length xs) (length ys)
 
 -- 6: "firsts not above lasts in .. every MR"
 unfoldable pub allOrdered : List ℕ → List ℕ → Bool

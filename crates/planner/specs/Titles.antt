@@ -16,7 +16,7 @@ use Rattle.planner.specs.declared.titles.Widened.{Widened}
 use Rattle.planner.specs.declared.titles.Widening.{Widening}
 use Rattle.planner.specs.declared.titles.Widening.the-variants.{Value, Refused}
 use Rattle.planner.specs.Slots.{sum, below, mid}
-use Rattle.planner.specs.Questions.{ask, even, allOrdered, allWithin}
+use Rattle.planner.specs.Questions.{ask, equallyLong, allOrdered, allWithin}
 
 -- "A pair holds b when first < b ≤ last." (section "Runs")
 abbrev pub holds : ℕ → ℕ → ℕ → Bool
@@ -104,6 +104,6 @@ wideningOutcome (Refused n) = refused n
 -- questions 6 and 7 of the merges, then the title ("titles are never refused")
 unfoldable pub widenTitle : ℕ → Title → List ℕ → List ℕ → Outcome Widened
 widenTitle limit title fs ls =
-    ask 6 (even fs ls && allOrdered fs ls)
+    ask 6 (equallyLong fs ls && allOrdered fs ls)
     (ask 7 (allWithin limit ls)
     (given (widened limit title fs ls)))

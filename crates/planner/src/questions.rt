@@ -3,7 +3,7 @@ ghost use mathlib.Core.Path.{_≡_};
 ghost use lib.ListN.{length};
 ghost use Rattle.planner.specs.Questions.{allOrdered, allWithin, rising, risingWithin, allSmall};
 
-const LARGEST_SIZE: u64 = 1_073_741_824;
+const LARGEST_SIZE: u64 = 1_073_741_823;
 
 // 6: no first is above its last.
 pub(crate) fn pairs_ordered(firsts: &[u32], lasts: &[u32]) -> bool

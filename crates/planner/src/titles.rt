@@ -7,7 +7,6 @@ use crate::runs::slots_below;
 use crate::runs::total;
 use crate::runs::wide;
 ghost use mathlib.Core.Path.{_≡_};
-ghost use Prim.Native.Nat.{_≤_};
 ghost use lib.ListN.{length};
 ghost use Rattle.planner.specs.Slots.{Slots};
 ghost use Rattle.planner.specs.Titles.{bodyStart, titleTotal, limitOf, normalized, widenTo, sameSpan, expand, widened, widenTitle, wideningOutcome};

@@ -1,7 +1,7 @@
 -- `planner::questions::all_small` meets its contract. The loop's invariant: what the definition says of the items that are left, it says of all.
 -- Assumes nothing.
 use mathlib.Core.Path.{_≡_, refl, sym, _∙_}
-use Prim.Native.Nat.{_+_, _-_, _≤_}
+use Prim.Native.Nat.{_-_, _≤_}
 use lib.ListN.{length, drop}
 use Rattle.planner.proofs.QuestionLaws.{within-yes, within-no, within-end}
 use Rattle.planner.specs.Questions.{allWithin, allSmall}

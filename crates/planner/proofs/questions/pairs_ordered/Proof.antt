@@ -1,7 +1,7 @@
 -- `planner::questions::pairs_ordered` meets its contract. The loop's invariant: what the definition says of the pairs that are left, it says of all.
 -- Assumes nothing.
 use mathlib.Core.Path.{_≡_, refl, sym, _∙_}
-use Prim.Native.Nat.{_+_, _-_, _≤_}
+use Prim.Native.Nat.{_-_, _≤_}
 use lib.ListN.{length, drop}
 use Rattle.planner.proofs.QuestionLaws.{ordered-yes, ordered-no, ordered-end}
 use Rattle.planner.specs.Questions.{allOrdered}

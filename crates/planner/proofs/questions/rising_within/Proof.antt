@@ -1,5 +1,4 @@
 -- `planner::questions::rising_within` meets its contract. Assumes nothing.
-use mathlib.Core.Path.{_≡_, refl, sym, ap, _∙_}
 use borrow.Author.Tests.{not-true, not-false}
 use Rattle.planner.specs.Questions.{risingWithin}
 use borrow.Author.Needs.{needs}

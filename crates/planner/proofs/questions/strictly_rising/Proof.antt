@@ -1,6 +1,6 @@
 -- `planner::questions::strictly_rising` meets its contract. The loop's invariant: the indexes from the last one passed on rise as all do. Assumes nothing.
 use mathlib.Core.Path.{_≡_, refl, sym, _∙_}
-use Prim.Native.Nat.{_+_, _-_, _≤_}
+use Prim.Native.Nat.{_-_, _≤_}
 use lib.ListN.{length, drop}
 use Rattle.planner.proofs.QuestionLaws.{rising-yes, rising-no, rising-end}
 use Rattle.planner.specs.Questions.{rising}

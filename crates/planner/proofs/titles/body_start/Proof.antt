@@ -1,5 +1,4 @@
 -- `planner::titles::body_start` meets its contract. Assumes nothing.
-use mathlib.Core.Path.{_≡_}
 use mathlib.Core.Logic.{⊎-elim}
 use borrow.Author.Tests.{le-leb, lt-leb}
 use Rattle.planner.specs.Titles.{bodyStart}

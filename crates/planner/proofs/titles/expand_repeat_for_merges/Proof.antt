@@ -1,8 +1,9 @@
--- `planner::titles::expand_repeat_for_merges` meets its contract. The inner loop's invariant: the rest of the pass makes of the span what the whole pass makes of the one before it. The outer loop's: the passes that are left give what all give, and each note is for a merge taken in, which bounds the passes.
--- Assumes nothing.
-use mathlib.Core.Path.{_≡_, refl, sym, ap, _∙_}
+-- `planner::titles::expand_repeat_for_merges` meets its contract. The inner loop's invariant: what is left of the pass makes of the span what
+-- the whole pass makes of the one before it. The outer loop's: the passes that are left give what all give, and there is a merge within the
+-- span for each note, so that there are no more notes than merges. Assumes nothing.
+use mathlib.Core.Path.{_≡_, refl, sym, _∙_}
 use mathlib.Core.Bool.{Bool, true, false}
-use Prim.Native.Nat.{_+_, _-_, _≤_}
+use Prim.Native.Nat.{_-_, _≤_}
 use lib.ListN.{length, drop}
 use Rattle.planner.specs.Titles.{pass, still, passes, expand}
 use Rattle.planner.proofs.TitleLaws.{pass-step, pass-end, inside, inside-le, still-of, turn-count, turn-less, turn-passes, turn-ends}

@@ -1,5 +1,5 @@
 -- `planner::titles::title_total` meets its contract. Assumes nothing.
-use mathlib.Core.Path.{_≡_, refl, sym, ap, _∙_}
+use mathlib.Core.Path.{ap, _∙_}
 use Prim.Native.Nat.{ℕ, _+_}
 use Rattle.planner.specs.Slots.{below}
 use Rattle.planner.specs.Titles.{titleTotal}

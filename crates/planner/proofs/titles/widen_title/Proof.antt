@@ -1,5 +1,4 @@
 -- `planner::titles::widen_title` meets its contract. Assumes nothing.
-use mathlib.Core.Path.{_≡_, refl, sym, ap, _∙_}
 use borrow.Author.Tests.{eq-eqb, ne-eqb, not-true, not-false}
 use Rattle.planner.specs.Titles.{widenTitle}
 use borrow.Author.Needs.{needs}

@@ -1,5 +1,4 @@
 -- `planner::titles::widened_title` meets its contract. Assumes nothing.
-use mathlib.Core.Path.{_≡_, refl, sym, ap, _∙_}
 use Rattle.planner.specs.Titles.{widenedFrom, widened}
 use borrow.Author.Needs.{needs}
 use Rattle.planner.proofs.titles.widened_title.Statement.{statement}
