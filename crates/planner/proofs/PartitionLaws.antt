@@ -16,7 +16,7 @@ use Rattle.planner.specs.declared.partition.Partition.the-variants.{Valu
 use Rattle.planner.specs.declared.runs.Frame.{Frame}
 use Rattle.planner.specs.declared.runs.Tally.{Tally}
 use Rattle.planner.specs.Slots.{Slots, below, mid}
-use Rattle.planner.specs.Questions.{ask, even, allOrdered, allWithin, risingWithin, allSmall}
+use Rattle.planner.specs.Questions.{ask, equallyLong, allOrdered, allWithin, risingWithin, allSmall}
 use Rattle.planner.specs.Titles.{bodyStart}
 use Rattle.planner.specs.Runs.{Run, runsBy, runs, firstMarked, stretch, kept, placed, nextCut, axisRuns, shifts, expansions, tallies, axisTally}
 use Rattle.planner.specs.Lent.{Written}
@@ -64,8 +64,8 @@ module _ (limit : ℕ) (s : AxisSetup) (is ss fs ls : List ℕ) (e : Bool) where
 pub merges-even : (s : AxisSetup) (is ss fs ls : List ℕ) (e : Bool) → shaped s is ss fs ls e ≡ true → length fs ≡ length ls
 unfolding shaped
 merges-even s is ss fs ls e h =
-    let p = both (even is ss && even fs ls) e (both (even is ss && even fs ls && e) (leb (s .first) (s .last)) h .0) .0 in
-    eqb-true (length fs) (length ls) (both (even is ss) (even fs ls) p .1)
+    let p = both (equallyLong is ss && equallyLong fs ls) e (both (equallyLong is ss && equallyLong fs ls && e) (leb (s .first) (s .last)) h .0) .0 in
+    eqb-true (length fs) (length ls) (both (equallyLong is ss) (equallyLong fs ls) p .1)
 
 -- ---- what the first no says of the whole
 
@@ -105,11 +105,11 @@ module _ (limit : ℕ) (s : AxisSetup) (is ss fs ls bs f l z m : List ℕ) (n : 
       let z0 : 0 ≡ n = omega arith in
       let y = goes a (leb (s .last) limit && allWithin limit ls) (risingWithin limit is) (allSmall ss) (z0 ∙ e) in
       let shape = both (shaped s is ss fs ls (lentEven f l z m)) (allOrdered fs ls) (y .0) .0 in
-      let upto = both (even is ss && even fs ls && lentEven f l z m) (leb (s .first) (s .last)) shape .0 in
-      let four = both (even is ss && even fs ls) (lentEven f l z m) upto in
-      let two = both (even is ss) (even fs ls) (four .0) in
-      let lent = both (even f l && even f z) (even f m) (four .1) in
-      let lz = both (even f l) (even f z) (lent .0) in
+      let upto = both (equallyLong is ss && equallyLong fs ls && lentEven f l z m) (leb (s .first) (s .last)) shape .0 in
+      let four = both (equallyLong is ss && equallyLong fs ls) (lentEven f l z m) upto in
+      let two = both (equallyLong is ss) (equallyLong fs ls) (four .0) in
+      let lent = both (equallyLong f l && equallyLong f z) (equallyLong f m) (four .1) in
+      let lz = both (equallyLong f l) (equallyLong f z) (lent .0) in
       record {
         merges = eqb-true (length fs) (length ls) (two .1);
         slots = slots-of limit is ss bound (eqb-true (length is) (length ss) (two .0)) (y .2) (y .3);

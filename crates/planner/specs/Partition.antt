@@ -13,7 +13,7 @@ use Rattle.planner.specs.declared.partition.AxisSetup.{AxisSetup}
 use Rattle.planner.specs.declared.partition.Partition.{Partition}
 use Rattle.planner.specs.declared.partition.Partition.the-variants.{Value, Refused}
 use Rattle.planner.specs.Slots.{below, mid, written}
-use Rattle.planner.specs.Questions.{ask, even, allOrdered, allWithin, risingWithin, allSmall}
+use Rattle.planner.specs.Questions.{ask, equallyLong, allOrdered, allWithin, risingWithin, allSmall}
 use Rattle.planner.specs.Titles.{bodyStart}
 use Rattle.planner.specs.Runs.{Run, axisRuns, axisTally}
 use Rattle.planner.specs.Lent.{firsts, lasts, sizes, marks}
@@ -34,7 +34,7 @@ bodyTally s is ss fs ls bs = axisTally (frameOf s) fs ls (bodyOf s is is) (bodyO
 
 -- 6 of an axis: its slots, its merges and the four lent lists, by their lengths, and the range
 unfoldable pub shaped : AxisSetup → List ℕ → List ℕ → List ℕ → List ℕ → Bool → Bool
-shaped s is ss fs ls even-lent = even is ss && even fs ls && even-lent && leb (s .first) (s .last)
+shaped s is ss fs ls even-lent = equallyLong is ss && equallyLong fs ls && even-lent && leb (s .first) (s .last)
 
 -- "Items read, and row and column runs, fit their lent lists?", then what was counted
 abbrev pub roomFor : List Run → Tally → ℕ → Outcome Tally
@@ -45,7 +45,7 @@ fits s is ss fs ls bs room = roomFor (bodyRuns s is ss fs ls bs) (bodyTally s is
 
 -- the lent lists are equally long
 abbrev pub lentEven : List ℕ → List ℕ → List ℕ → List ℕ → Bool
-lentEven f l s m = even f l && even f s && even f m
+lentEven f l s m = equallyLong f l && equallyLong f s && equallyLong f m
 
 -- questions 6, 7, 8, 9 and 11 in order, then how many runs, expansions and shifts; f, l, z and m are the lent lists
 unfoldable pub partition : ℕ → AxisSetup → List ℕ → List ℕ → List ℕ → List ℕ → List ℕ → List ℕ → List ℕ → List ℕ → List ℕ → Outcome Tally
