@@ -1,15 +1,20 @@
--- The eight P cases of document 01's section "Runs", and its case without slots, computed; and divisions that the words of demand 3 shut out.
+-- The eight P cases of document 01's section "Runs", its case without slots and the two cases of widening of section "Titles", computed; and
+-- divisions that the words of demand 3 shut out.
 -- Assumes nothing.
 use mathlib.Core.Path.{_≡_, refl}
 use mathlib.Core.Logic.{inl, inr, ⊎-elim}
 use mathlib.Core.List.{List, [], _∷_, map}
 use Prim.Native.Nat.{ℕ, _≤_}
 use native.Mathlib.Omega.{arith}
+use Rattle.geometry.specs.Outcome.{Outcome, given}
 use Rattle.planner.specs.declared.titles.Title.{Title}
 use Rattle.planner.specs.declared.titles.Title.the-variants.{Absent, Pair}
+use Rattle.planner.specs.declared.titles.Axis.the-variants.{Rows}
+use Rattle.planner.specs.declared.titles.Widened.{Widened}
 use Rattle.planner.specs.declared.runs.Frame.{Frame}
 use Rattle.planner.specs.Slots.{sum, below, through}
-use Rattle.planner.specs.Titles.{titleHolds, pastTitle}
+use Rattle.planner.specs.Questions.{allOrdered, allWithin}
+use Rattle.planner.specs.Titles.{titleHolds, pastTitle, limitOf, normalized, widenTo, pass, sameSpan, still, passes, expand, widenedFrom, widened, widenTitle}
 use Rattle.planner.specs.Runs.{earlier, nearer, holding, more, natural, capacityAt, filled, again, resumed, resumption, taken, mergeStep, merged, Run, runEnd, run, runsBy, runs, expansions, moved, placed, kept, nextCut, firstMarked, stretch, axisRuns, shifts}
 use Rattle.planner.specs.Division.{CutsAt, Within, Fewest, startsFrom, pieces}
 use Rattle.planner.proofs.Division.{Counts, link, done, total, Good, division-of, within-from}
@@ -32,6 +37,13 @@ tens = 10 ∷ 10 ∷ 10 ∷ 10 ∷ 10 ∷ []
 pub five : ℕ → ℕ → Title → List ℕ → List ℕ → List ℕ → Row
 five u t title fs ls bs = axisRow u t title fs ls bs (0 ∷ 1 ∷ 2 ∷ 3 ∷ 4 ∷ []) tens
 
+-- the title 5..5 with row merges, widened
+pub fiveFive : List ℕ → List ℕ → Outcome Widened
+fiveFive fs ls = widenTitle (limitOf Rows) (Pair 5 5) fs ls
+
+abbrev pub widenedTo : ℕ → ℕ → ℕ → Outcome Widened
+widenedTo f l n = given (record { title = Pair f l; ignored = 0; expanded = n })
+
 pub record Table : Type 0 where
   pub nothing-else : five 25 25 Absent [] [] [] ≡ row ((0 ∷ 1 ∷ 20 ∷ 0 ∷ []) ∷ (2 ∷ 3 ∷ 20 ∷ 0 ∷ []) ∷ (4 ∷ 4 ∷ 10 ∷ 0 ∷ []) ∷ []) 0 0
   pub inner-merge : five 25 25 Absent (1 ∷ []) (2 ∷ []) [] ≡ row ((0 ∷ 0 ∷ 10 ∷ 0 ∷ []) ∷ (1 ∷ 2 ∷ 20 ∷ 0 ∷ []) ∷ (3 ∷ 4 ∷ 20 ∷ 0 ∷ []) ∷ []) 0 0
@@ -44,9 +56,11 @@ pub record Table : Type 0 where
   pub inner-title : five 25 15 (Pair 1 2) [] [] [] ≡ row ((0 ∷ 2 ∷ 30 ∷ 0 ∷ []) ∷ (3 ∷ 3 ∷ 10 ∷ 0 ∷ []) ∷ (4 ∷ 4 ∷ 10 ∷ 0 ∷ []) ∷ []) 0 0
   pub zero-size : axisRow 25 25 Absent [] [] [] (0 ∷ 1 ∷ 2 ∷ []) (25 ∷ 0 ∷ 1 ∷ []) ≡ row ((0 ∷ 1 ∷ 25 ∷ 0 ∷ []) ∷ (2 ∷ 2 ∷ 1 ∷ 0 ∷ []) ∷ []) 0 0
   pub no-slots : axisRow 25 25 Absent [] [] [] [] [] ≡ row [] 0 0
+  pub merges-out-of-order : fiveFive (6 ∷ 5 ∷ []) (7 ∷ 6 ∷ []) ≡ widenedTo 5 7 2
+  pub merges-in-order : fiveFive (5 ∷ 6 ∷ []) (6 ∷ 7 ∷ []) ≡ widenedTo 5 7 1
 
 pub table : Table
-unfolding five axisRow sum below through titleHolds pastTitle earlier nearer holding more natural capacityAt filled again resumed resumption taken mergeStep merged runEnd run runsBy runs expansions moved placed kept nextCut firstMarked stretch axisRuns shifts
+unfolding five axisRow fiveFive limitOf normalized widenTo pass sameSpan still passes expand widenedFrom widened widenTitle allOrdered allWithin sum below through titleHolds pastTitle earlier nearer holding more natural capacityAt filled again resumed resumption taken mergeStep merged runEnd run runsBy runs expansions moved placed kept nextCut firstMarked stretch axisRuns shifts
 table =
     record {
       nothing-else = refl;
@@ -58,6 +72,8 @@ table =
       inner-title = refl;
       zero-size = refl;
       no-slots = refl;
+      merges-out-of-order = refl;
+      merges-in-order = refl;
     }
 
 -- ---- what demand 3 shuts out, of the same five slots

@@ -13,6 +13,5 @@ pub mod Whole
 pub mod OneRun
 pub mod Fewest
 pub mod Cases
-pub mod TitleCases
 pub mod Earliest
 pub mod Places

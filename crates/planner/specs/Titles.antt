@@ -64,6 +64,7 @@ pass [] ls s = s
 pass (f ∷ fs) [] s = s
 pass (f ∷ fs) (l ∷ ls) s = pass fs ls (widenTo s f l)
 
+-- the same first and the same last
 unfoldable pub sameSpan : Span → Span → Bool
 sameSpan s t = eqb (s .first) (t .first) && eqb (s .last) (t .last)
 
@@ -71,6 +72,7 @@ sameSpan s t = eqb (s .first) (t .first) && eqb (s .last) (t .last)
 unfoldable pub still : List ℕ → List ℕ → Span → Bool
 still fs ls s = sameSpan s (pass fs ls s)
 
+-- a pair as it ends, with its notes
 abbrev pub expandedTo : Span → ℕ → Expanded
 expandedTo s n = record { title = Pair (s .first) (s .last); expanded = n }
 
@@ -81,7 +83,8 @@ passes fs ls zero unchanged s n = expandedTo s n
 passes fs ls (suc k) true s n = expandedTo s n
 passes fs ls (suc k) false s n = passes fs ls k (still fs ls (pass fs ls s)) (pass fs ls s) (suc n)
 
--- A changing pass takes in a merge that no pass before it did, so that there are no more than merges (`TitleLaws`, `settled`).
+-- a pair from f to l after its passes. A changing pass takes in a merge that none before it did, so that no more passes change than there
+-- are merges, and the bound cuts nothing off (`settled` in `proofs/TitleLaws.antt`).
 unfoldable pub expand : List ℕ → List ℕ → ℕ → ℕ → Expanded
 expand fs ls f l = passes fs ls (length fs) (still fs ls (record { first = f; last = l })) (record { first = f; last = l }) 0
 
