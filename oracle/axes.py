@@ -177,6 +177,15 @@ def merges_drawn(r, places, limit):
     return merges
 
 
+def merges_at(r, start, limit):
+    """Two to four that start about one place and end a little after it."""
+    merges = []
+    for _ in range(2 + below(r, 3)):
+        first = clamped(start - 3 + below(r, 6), limit)
+        merges.append((first, clamped(max(first, start) + below(r, 5), limit)))
+    return merges
+
+
 def breaks_drawn(r, indexes, places):
     kind = below(r, 8)
     if kind < 2:
@@ -205,11 +214,14 @@ def axis_drawn(r):
     sizes = sizes_drawn(r, len(indexes))
     ends = range_drawn(r, indexes, limit)
     places = points(r, indexes, ends, limit)
+    title = title_drawn(r, places, limit)
     merges = merges_drawn(r, places, limit)
+    if chance(r, 0.15):
+        merges = merges_at(r, title[1] + 1 if title else ends[0], limit)
     capacity = capacity_drawn(r, sizes)
     return Axis(
         columns=columns,
-        title=title_drawn(r, places, limit),
+        title=title,
         range=ends,
         capacities=(capacity, capacity if chance(r, 0.3) else capacity_drawn(r, sizes)),
         indexes=indexes,
@@ -437,11 +449,23 @@ def ranges_in_five():
 
 
 def clipped():
-    """The case of the design: merges that differ before the range's first and are the same after clipping."""
+    """Merges that start before the body or differ before it only, with the body's start measured or not."""
     rows = Axis(range=(5, 9), capacities=(25, 25), indexes=list(range(5, 10)), sizes=[10] * 5, lent=(5,) * 4)
-    for merges in ([(2, 8), (3, 7)], [(3, 7), (2, 8)], [(2, 7), (3, 8)], [(4, 8), (5, 7), (5, 9)]):
-        for b in ([], [6], [7], [8], [9]):
-            yield replace(rows, firsts=[f for f, _ in merges], lasts=[l for _, l in merges], breaks=b)
+    after_title = replace(rows, range=(3, 9), title=(3, 4), indexes=list(range(3, 10)), sizes=[10] * 7)
+    unmeasured = replace(rows, indexes=[7, 8, 9, 10], sizes=[10] * 4)
+    beyond = replace(rows, range=(5, 8))
+    merges = ([(2, 8), (3, 7)], [(3, 7), (2, 8)], [(2, 7), (3, 8)], [(4, 8), (5, 7), (5, 9)], [(5, 9), (6, 8)], [(3, 9), (4, 8)])
+    for a, pairs in itertools.product((rows, after_title, unmeasured, beyond), merges):
+        merged = replace(a, firsts=[f for f, _ in pairs], lasts=[l for _, l in pairs])
+        for b in ([], [6], [7], [8], [9], [8, 9]):
+            yield replace(merged, breaks=b)
+
+
+def cut_at_the_end():
+    """A cut at the end is dropped, and a later break still makes one."""
+    a = replace(FIVE, firsts=[1, 1], lasts=[4, 2])
+    for breaks in itertools.permutations((1, 2, 3)):
+        yield replace(a, breaks=list(breaks))
 
 
 def capacities_in_five():
@@ -500,7 +524,7 @@ def axis_limits():
     for a in worked():
         yield line("r", a)
         yield line("r", moved(a, COLUMNS, 7))
-    parts = (places_in_five, ranges_in_five, clipped, capacities_in_five, rooms)
+    parts = (places_in_five, ranges_in_five, clipped, cut_at_the_end, capacities_in_five, rooms)
     for a in itertools.chain.from_iterable(part() for part in parts):
         yield line("r", a)
     for columns in (ROWS, COLUMNS):

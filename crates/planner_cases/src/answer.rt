@@ -1,6 +1,7 @@
 // An answer as text, in an array that takes one line. What does not fit is left out.
 use crate::numbers::wide;
 use crate::numbers::wider;
+use crate::text::word;
 use planner::Partition;
 use planner::Title;
 use planner::Widening;
@@ -122,6 +123,15 @@ pub fn axis(
     let c = numbers(out, b, lasts);
     let d = sizes(out, c, totals);
     marks(out, d, mark)
+}
+
+// Writes the text that ends at a place.
+pub fn write(out: &[u8; LINE], end: usize) {
+    if end > LINE {
+        return;
+    }
+    let written = &out[..];
+    word(&written[0..end]);
 }
 
 // Whether the text that ends at a place is this.

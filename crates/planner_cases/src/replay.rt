@@ -16,21 +16,54 @@ use crate::lists::read_sizes;
 use crate::lists::sizes_from;
 use crate::text::word;
 use libc::STDIN_FILENO;
+use planner::Partition;
 
-fn title(line: &[u8; HEAD], out: &mut [u8; LINE]) -> usize {
-    let mut firsts = [0u32; MOST];
-    let mut lasts = [0u32; MOST];
+fn title(
+    line: &[u8; HEAD],
+    firsts: &[u32; MOST],
+    lasts: &[u32; MOST],
+    out: &mut [u8; LINE],
+) -> usize {
     let n = length(line, 2);
     let m = length(line, 3);
-    read_numbers(n, &mut firsts);
-    read_numbers(m, &mut lasts);
+    let f = &firsts[..];
+    let l = &lasts[..];
     let axis = head::axis(line);
     let given = head::title(line);
-    let widening = planner::widen_title(axis, given, &firsts[0..n], &lasts[0..m]);
-    answer::widening(out, widening)
+    answer::widening(out, planner::widen_title(axis, given, &f[0..n], &l[0..m]))
 }
 
-// Cuts an axis into lent lists, and answers what they hold then.
+// Reads the merges of a title, and answers it.
+fn read_title(line: &[u8; HEAD], out: &mut [u8; LINE]) -> usize {
+    let mut firsts = [0u32; MOST];
+    let mut lasts = [0u32; MOST];
+    read_numbers(length(line, 2), &mut firsts);
+    read_numbers(length(line, 3), &mut lasts);
+    title(line, &firsts, &lasts, out)
+}
+
+// Answers what the lent lists hold.
+fn held(
+    line: &[u8; HEAD],
+    partition: Partition,
+    firsts: &[u32; MOST],
+    lasts: &[u32; MOST],
+    totals: &[u64; MOST],
+    marks: &[u8; MOST],
+    out: &mut [u8; LINE],
+) -> usize {
+    let f = &firsts[..];
+    let l = &lasts[..];
+    let t = &totals[..];
+    let m = &marks[..];
+    let i = length(line, 5);
+    let j = length(line, 6);
+    let k = length(line, 7);
+    let n = length(line, 8);
+    answer::axis(out, partition, &f[0..i], &l[0..j], &t[0..k], &m[0..n])
+}
+
+// Cuts an axis into lent lists.
 fn cut(
     line: &[u8; HEAD],
     indexes: &[u32],
@@ -44,67 +77,76 @@ fn cut(
     let mut lasts = numbers_from(3000000);
     let mut totals = sizes_from(4000000);
     let mut marks = marks_from(200);
-    let f = length(line, 5);
-    let l = length(line, 6);
-    let t = length(line, 7);
-    let m = length(line, 8);
-    let axis = head::axis(line);
-    let setup = head::setup(line);
+    let i = length(line, 5);
+    let j = length(line, 6);
+    let k = length(line, 7);
+    let n = length(line, 8);
     let partition = planner::partition_axis_with_breaks(
-        axis,
-        setup,
+        head::axis(line),
+        head::setup(line),
         indexes,
         sizes,
         merge_firsts,
         merge_lasts,
         breaks,
-        &mut firsts[0..f],
-        &mut lasts[0..l],
-        &mut totals[0..t],
-        &mut marks[0..m],
+        &mut firsts[0..i],
+        &mut lasts[0..j],
+        &mut totals[0..k],
+        &mut marks[0..n],
     );
-    answer::axis(
+    held(line, partition, &firsts, &lasts, &totals, &marks, out)
+}
+
+fn runs(
+    line: &[u8; HEAD],
+    indexes: &[u32; MOST],
+    sizes: &[u64; MOST],
+    merge_firsts: &[u32; MOST],
+    merge_lasts: &[u32; MOST],
+    breaks: &[u32; MOST],
+    out: &mut [u8; LINE],
+) -> usize {
+    let i = &indexes[..];
+    let s = &sizes[..];
+    let f = &merge_firsts[..];
+    let l = &merge_lasts[..];
+    let b = &breaks[..];
+    let slots = length(line, 0);
+    let measured = length(line, 1);
+    let n = length(line, 2);
+    let m = length(line, 3);
+    let k = length(line, 4);
+    cut(
+        line,
+        &i[0..slots],
+        &s[0..measured],
+        &f[0..n],
+        &l[0..m],
+        &b[0..k],
         out,
-        partition,
-        &firsts[0..f],
-        &lasts[0..l],
-        &totals[0..t],
-        &marks[0..m],
     )
 }
 
-fn runs(line: &[u8; HEAD], out: &mut [u8; LINE]) -> usize {
+// Reads the lists of an axis, and answers it.
+fn read_runs(line: &[u8; HEAD], out: &mut [u8; LINE]) -> usize {
     let mut indexes = [0u32; MOST];
     let mut sizes = [0u64; MOST];
-    let mut merge_firsts = [0u32; MOST];
-    let mut merge_lasts = [0u32; MOST];
+    let mut firsts = [0u32; MOST];
+    let mut lasts = [0u32; MOST];
     let mut breaks = [0u32; MOST];
-    let i = length(line, 0);
-    let s = length(line, 1);
-    let f = length(line, 2);
-    let l = length(line, 3);
-    let b = length(line, 4);
-    read_numbers(i, &mut indexes);
-    read_sizes(s, &mut sizes);
-    read_numbers(f, &mut merge_firsts);
-    read_numbers(l, &mut merge_lasts);
-    read_numbers(b, &mut breaks);
-    cut(
-        line,
-        &indexes[0..i],
-        &sizes[0..s],
-        &merge_firsts[0..f],
-        &merge_lasts[0..l],
-        &breaks[0..b],
-        out,
-    )
+    read_numbers(length(line, 0), &mut indexes);
+    read_sizes(length(line, 1), &mut sizes);
+    read_numbers(length(line, 2), &mut firsts);
+    read_numbers(length(line, 3), &mut lasts);
+    read_numbers(length(line, 4), &mut breaks);
+    runs(line, &indexes, &sizes, &firsts, &lasts, &breaks, out)
 }
 
 fn answered(line: &[u8; HEAD], out: &mut [u8; LINE]) -> usize {
     let letter = line[0];
     match letter {
-        b't' => title(line, out),
-        b'r' => runs(line, out),
+        b't' => read_title(line, out),
+        b'r' => read_runs(line, out),
         _ => answer::text(out, 0, b"bad letter"),
     }
 }
@@ -128,9 +170,7 @@ fn answer_next() -> bool {
         return false;
     }
     let after = answer::text(&mut out, end, b"\n");
-    if after <= LINE {
-        word(&out[0..after]);
-    }
+    answer::write(&out, after);
     true
 }
 
