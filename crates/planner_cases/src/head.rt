@@ -6,8 +6,8 @@
 //     8   the range's first and last, the title's first and last
 //     16  capacity untitled, capacity titled
 use crate::lists::MOST;
-use crate::numbers::bits;
 use crate::numbers::low;
+use lines::bits;
 use planner::Axis;
 use planner::AxisSetup;
 use planner::Title;
