@@ -454,7 +454,8 @@ def clipped():
     after_title = replace(rows, range=(3, 9), title=(3, 4), indexes=list(range(3, 10)), sizes=[10] * 7)
     unmeasured = replace(rows, indexes=[7, 8, 9, 10], sizes=[10] * 4)
     beyond = replace(rows, range=(5, 8))
-    merges = ([(2, 8), (3, 7)], [(3, 7), (2, 8)], [(2, 7), (3, 8)], [(4, 8), (5, 7), (5, 9)], [(5, 9), (6, 8)], [(3, 9), (4, 8)])
+    crossing = ([(2, 8), (3, 7)], [(3, 7), (2, 8)], [(2, 7), (3, 8)])
+    merges = (*crossing, [(4, 8), (5, 7), (5, 9)], [(5, 9), (6, 8)], [(3, 9), (4, 8)])
     for a, pairs in itertools.product((rows, after_title, unmeasured, beyond), merges):
         merged = replace(a, firsts=[f for f, _ in pairs], lasts=[l for _, l in pairs])
         for b in ([], [6], [7], [8], [9], [8, 9]):
@@ -491,7 +492,8 @@ def grid_ends(columns):
     limit = LIMITS[columns]
     end = moved(FIVE, columns, limit - 4)
     yield end
-    for title in ((limit - 4, limit), (0, limit), (limit, limit), (0, limit + 1), (limit - 4, U32), (0, U32), (U32, U32), (U32, 0)):
+    beyond = ((0, limit + 1), (limit - 4, U32), (0, U32), (U32, U32), (U32, 0))
+    for title in ((limit - 4, limit), (0, limit), (limit, limit), *beyond):
         yield replace(end, title=title)
         yield replace(end, title=title, range=(limit, limit))
         yield replace(end, title=title, firsts=[limit - 1], lasts=[limit], breaks=[limit, limit + 1, 65535, 65536, U32])

@@ -294,40 +294,35 @@ fn capacity(value: u64) -> Fixed {
     Fixed::from_raw(i64::try_from(value).unwrap_or(i64::MAX))
 }
 
-/// The slots and the merges of the body, as prepare_print_area makes them, and their runs.
-fn cut<I: Index>(input: &Input) -> Cut {
+/// The slots and the merges of the body, as prepare_print_area makes them.
+fn body<I: Index>(input: &Input, repeat: Option<(I, I)>) -> (Vec<MeasuredAxisSlot<I>>, Vec<(I, I)>) {
     let sheet = I::sheet(&input.merge_firsts, &input.merge_lasts);
-    let pairs = input.indexes.iter().zip(&input.sizes);
-    let measured: Vec<MeasuredAxisSlot<I>> = pairs
-        .map(|(&index, &size)| MeasuredAxisSlot {
-            index: I::of(index),
-            size: Fixed::from_raw(size as i64),
-        })
-        .collect();
+    let slots = input.indexes.iter().zip(&input.sizes).map(|(&index, &size)| MeasuredAxisSlot {
+        index: I::of(index),
+        size: Fixed::from_raw(size as i64),
+    });
+    let measured: Vec<MeasuredAxisSlot<I>> = slots.collect();
     let (range_first, range_last) = (I::of(input.first), I::of(input.last));
-    let repeat = input.title.map(|(first, last)| (I::of(first), I::of(last)));
     let mut body_first = Some(range_first);
     if let Some((first, last)) = repeat {
         if first <= range_first && last >= range_first {
             body_first = last.after();
         }
     }
-    let body = body_first
-        .filter(|&first| first <= range_last)
-        .map_or_else(Vec::new, |first| measured_axis_range(&measured, first, range_last));
-    let merges = body_first
-        .filter(|&first| first <= range_last)
-        .map_or_else(Vec::new, |first| I::merges(&sheet, first, range_last));
-    let breaks: Vec<I> = input.breaks.iter().map(|&number| I::of(number)).collect();
-    let (segments, expansions, shifts) = partition_axis_with_breaks(
-        &body,
-        capacity(input.untitled),
-        capacity(input.titled),
-        &merges,
-        &breaks,
-        repeat,
+    let start = body_first.filter(|&first| first <= range_last);
+    (
+        start.map_or_else(Vec::new, |first| measured_axis_range(&measured, first, range_last)),
+        start.map_or_else(Vec::new, |first| I::merges(&sheet, first, range_last)),
     )
-    .expect("sums within i64");
+}
+
+fn cut<I: Index>(input: &Input) -> Cut {
+    let repeat = input.title.map(|(first, last)| (I::of(first), I::of(last)));
+    let (slots, merges) = body(input, repeat);
+    let breaks: Vec<I> = input.breaks.iter().map(|&number| I::of(number)).collect();
+    let (untitled, titled) = (capacity(input.untitled), capacity(input.titled));
+    let (segments, expansions, shifts) =
+        partition_axis_with_breaks(&slots, untitled, titled, &merges, &breaks, repeat).expect("sums within i64");
     let runs = segments.into_iter().map(|run| AxisSegment {
         first: run.first.number(),
         last: run.last.number(),
