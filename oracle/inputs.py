@@ -1,10 +1,11 @@
 #!/usr/bin/env python3
-"""Lines of input for the functions of the crate geometry, the same at every run.
+"""Lines of input for the functions of the crates geometry and planner, the same at every run.
 
     inputs.py NAME COUNT SEED
 
 prints COUNT lines for the function NAME: first its limits, then lines drawn by the seed, most of them near a place
-where the answer changes its kind. The format of a line stands in geometry.rs.
+where the answer changes its kind. The format of a line stands in geometry.rs and planner.rs. Those of planner are made
+by axes.py.
 """
 
 import itertools
@@ -13,6 +14,7 @@ import random
 import struct
 import sys
 
+import axes
 from papers import rust_sizes
 
 ROOT = pathlib.Path(__file__).resolve().parent.parent
@@ -304,13 +306,19 @@ def content_drawn(r):
 
 # ---- lines by name
 
-FUNCTIONS = {
+GEOMETRY = {
     "inches_to_fixed": (inches_limits, inches_drawn),
     "unscaled_capacity": (capacity_limits, capacity_drawn),
     "scale_fixed": (scale_limits, scale_drawn),
     "paper_geometry": (paper_limits, paper_drawn),
     "content_geometry": (content_limits, content_drawn),
 }
+PLANNER = {
+    "widen_title": (axes.widen_limits, axes.widen_drawn),
+    "partition_axis_with_breaks": (axes.axis_limits, axes.axes_drawn),
+}
+CRATES = {"geometry": GEOMETRY, "planner": PLANNER}
+FUNCTIONS = GEOMETRY | PLANNER
 
 
 def lines(name, seed):

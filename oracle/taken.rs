@@ -326,6 +326,92 @@ impl PrintWarnings {
     }
 }
 
+// render/src/print.rs:513
+#[derive(Debug, Clone, Copy, PartialEq, Eq)]
+struct AxisSegment<I> {
+    first: I,
+    last: I,
+    size: Fixed,
+    body_is_empty: bool,
+    manual_break_before: bool,
+}
+
+// render/src/print.rs:2919
+fn normalize_repeat_rows(
+    range: Option<(u32, u32)>,
+    warnings: &mut PrintWarnings,
+) -> Option<(u32, u32)> {
+    match range {
+        Some((first, last)) if first <= last && last <= MAX_WORKSHEET_ROW => Some((first, last)),
+        Some(_) => {
+            warnings.add(PrintWarningCode::InvalidPrintTitlesIgnored);
+            None
+        }
+        None => None,
+    }
+}
+
+// render/src/print.rs:2933
+fn normalize_repeat_cols(
+    range: Option<(u16, u16)>,
+    warnings: &mut PrintWarnings,
+) -> Option<(u16, u16)> {
+    match range {
+        Some((first, last)) if first <= last && last <= MAX_WORKSHEET_COLUMN => Some((first, last)),
+        Some(_) => {
+            warnings.add(PrintWarningCode::InvalidPrintTitlesIgnored);
+            None
+        }
+        None => None,
+    }
+}
+
+// render/src/print.rs:2947
+fn expand_repeat_rows_for_merges(
+    sheet: &Sheet,
+    range: Option<(u32, u32)>,
+    warnings: &mut PrintWarnings,
+) -> Option<(u32, u32)> {
+    let (mut first, mut last) = range?;
+    loop {
+        let previous = (first, last);
+        for &(merge_first, _, merge_last, _) in sheet.merged_ranges() {
+            if merge_first <= last && merge_last >= first {
+                first = first.min(merge_first);
+                last = last.max(merge_last);
+            }
+        }
+        if (first, last) == previous {
+            break;
+        }
+        warnings.add(PrintWarningCode::PrintTitlesExpandedForMerge);
+    }
+    Some((first, last))
+}
+
+// render/src/print.rs:2969
+fn expand_repeat_cols_for_merges(
+    sheet: &Sheet,
+    range: Option<(u16, u16)>,
+    warnings: &mut PrintWarnings,
+) -> Option<(u16, u16)> {
+    let (mut first, mut last) = range?;
+    loop {
+        let previous = (first, last);
+        for &(_, merge_first, _, merge_last) in sheet.merged_ranges() {
+            if merge_first <= last && merge_last >= first {
+                first = first.min(merge_first);
+                last = last.max(merge_last);
+            }
+        }
+        if (first, last) == previous {
+            break;
+        }
+        warnings.add(PrintWarningCode::PrintTitlesExpandedForMerge);
+    }
+    Some((first, last))
+}
+
 // render/src/print.rs:2991
 fn paper_geometry(
     code: Option<u16>,
@@ -467,6 +553,275 @@ fn unscaled_capacity(
         .and_then(|value| value.checked_sub(headings))
         .unwrap_or(Fixed::from_raw(1))
         .max(Fixed::from_raw(1)))
+}
+
+// render/src/print.rs:3298
+fn partition_axis<I>(
+    slots: &[MeasuredAxisSlot<I>],
+    untitled_capacity: Fixed,
+    titled_capacity: Fixed,
+    merges: &[(I, I)],
+    repeat: Option<(I, I)>,
+) -> Result<(Vec<AxisSegment<I>>, u64), RenderError>
+where
+    I: Copy + Ord,
+{
+    if slots.is_empty() {
+        return Ok((Vec::new(), 0));
+    }
+    let mut output = Vec::new();
+    let mut position = 0_usize;
+    let mut expansions = 0_u64;
+    while position < slots.len() {
+        let mut next = position;
+        let mut size = Fixed::ZERO;
+        // Calc treats a middle title band as ordinary sheet content until a
+        // page starts beyond it. Only those later pages reserve title space.
+        let capacity = if repeat.is_some_and(|(_, repeat_last)| slots[position].index > repeat_last)
+        {
+            titled_capacity
+        } else {
+            untitled_capacity
+        };
+        while next < slots.len() {
+            let candidate = size
+                .checked_add(slots[next].size)
+                .ok_or(RenderError::CoordinateOverflow)?;
+            if next > position && candidate > capacity {
+                break;
+            }
+            size = candidate;
+            next += 1;
+        }
+        if next == position {
+            next += 1;
+            size = slots[position].size;
+        }
+        if next < slots.len() {
+            let boundary = slots[next].index;
+            let repeated_interval =
+                repeat.filter(|(first, last)| *first < boundary && boundary <= *last);
+            let merged_interval = merges
+                .iter()
+                .copied()
+                .find(|(first, last)| *first < boundary && boundary <= *last);
+            if let Some((_, repeated_last)) = repeated_interval {
+                // Calc removes an automatic break that lands strictly inside
+                // the title band, resets the running page size at that point,
+                // and applies the reduced titled-page capacity from then on.
+                // The natural page may consequently exceed its physical box.
+                let repeated_end = slots
+                    .iter()
+                    .rposition(|slot| slot.index <= repeated_last)
+                    .map_or(next, |index| index + 1);
+                let resumed_at = next;
+                let mut resumed_size = Fixed::ZERO;
+                while next < slots.len() {
+                    let candidate = resumed_size
+                        .checked_add(slots[next].size)
+                        .ok_or(RenderError::CoordinateOverflow)?;
+                    if next > resumed_at && candidate > titled_capacity {
+                        if next >= repeated_end {
+                            break;
+                        }
+                        // Preserve the complete title band even if more than
+                        // one of its indivisible slots exceeds the body box.
+                        resumed_size = slots[next].size;
+                        next += 1;
+                        continue;
+                    }
+                    resumed_size = candidate;
+                    next += 1;
+                }
+                if next < slots.len() {
+                    let resumed_boundary = slots[next].index;
+                    if let Some((merge_first, merge_last)) =
+                        merges.iter().copied().find(|(first, last)| {
+                            *first < resumed_boundary && resumed_boundary <= *last
+                        })
+                    {
+                        let merge_start = slots
+                            .iter()
+                            .position(|slot| slot.index >= merge_first)
+                            .unwrap_or(position);
+                        if merge_start > position {
+                            next = merge_start;
+                        } else {
+                            let merge_end = slots
+                                .iter()
+                                .rposition(|slot| slot.index <= merge_last)
+                                .map_or(next, |index| index + 1);
+                            if merge_end > next {
+                                next = merge_end;
+                                expansions = expansions.saturating_add(1);
+                            }
+                        }
+                    }
+                }
+                size = axis_slice_total(&slots[position..next])?;
+            } else if let Some((merge_first, merge_last)) = merged_interval {
+                let merge_start = slots
+                    .iter()
+                    .position(|slot| slot.index >= merge_first)
+                    .unwrap_or(position);
+                if merge_start > position {
+                    next = merge_start;
+                } else {
+                    let merge_end = slots
+                        .iter()
+                        .rposition(|slot| slot.index <= merge_last)
+                        .map_or(next, |index| index + 1);
+                    if merge_end > next {
+                        next = merge_end;
+                        expansions = expansions.saturating_add(1);
+                    }
+                }
+                size = axis_slice_total(&slots[position..next])?;
+            }
+        }
+        output.push(AxisSegment {
+            first: slots[position].index,
+            last: slots[next - 1].index,
+            size,
+            body_is_empty: false,
+            manual_break_before: false,
+        });
+        position = next;
+    }
+    Ok((output, expansions))
+}
+
+// render/src/print.rs:3433
+fn partition_axis_with_breaks<I>(
+    slots: &[MeasuredAxisSlot<I>],
+    untitled_capacity: Fixed,
+    titled_capacity: Fixed,
+    merges: &[(I, I)],
+    manual_breaks: &[I],
+    repeat: Option<(I, I)>,
+) -> Result<(Vec<AxisSegment<I>>, u64, u64), RenderError>
+where
+    I: Copy + Ord,
+{
+    if slots.is_empty() {
+        return Ok((Vec::new(), 0, 0));
+    }
+
+    let mut cuts = vec![(0_usize, false)];
+    let mut shifted_breaks = 0_u64;
+    for &manual_break in manual_breaks {
+        let position = slots.partition_point(|slot| slot.index < manual_break);
+        if position == 0 || position == slots.len() {
+            continue;
+        }
+        let boundary = slots[position].index;
+        // Calc removes a manual break that lands strictly inside repeated
+        // rows. Apply the same protected-band rule to both axes.
+        if repeat.is_some_and(|(first, last)| first < boundary && boundary <= last) {
+            continue;
+        }
+        let previous = cuts.last().map_or(0, |(position, _)| *position);
+        let mut adjusted = position;
+        let protected_interval = merges
+            .iter()
+            .copied()
+            .find(|(first, last)| *first < boundary && boundary <= *last);
+        if let Some((merge_first, merge_last)) = protected_interval {
+            let merge_start = slots.partition_point(|slot| slot.index < merge_first);
+            let merge_end = slots.partition_point(|slot| slot.index <= merge_last);
+            adjusted = if merge_start > previous {
+                merge_start
+            } else {
+                merge_end
+            };
+            shifted_breaks = shifted_breaks.saturating_add(1);
+        }
+        if adjusted <= previous || adjusted >= slots.len() {
+            continue;
+        }
+        cuts.push((adjusted, true));
+    }
+    cuts.push((slots.len(), false));
+
+    let mut output = Vec::new();
+    let mut expansions = 0_u64;
+    for window in cuts.windows(2) {
+        let (start, manual_break_before) = window[0];
+        let end = window[1].0;
+        if start >= end {
+            continue;
+        }
+        let (mut segments, slice_expansions) = partition_axis(
+            &slots[start..end],
+            untitled_capacity,
+            titled_capacity,
+            merges,
+            repeat,
+        )?;
+        if let Some(first) = segments.first_mut() {
+            first.manual_break_before = manual_break_before;
+        }
+        expansions = expansions.saturating_add(slice_expansions);
+        output.extend(segments);
+    }
+    Ok((output, expansions, shifted_breaks))
+}
+
+// render/src/print.rs:3657
+fn merge_intervals_rows(sheet: &Sheet, first: u32, last: u32) -> Vec<(u32, u32)> {
+    if first > last {
+        return Vec::new();
+    }
+    let mut values = BTreeSet::new();
+    for &(r0, _, r1, _) in sheet.merged_ranges() {
+        if r0 < r1 && r0 <= last && r1 >= first {
+            values.insert((r0.max(first), r1.min(last)));
+        }
+    }
+    values.into_iter().collect()
+}
+
+// render/src/print.rs:3670
+fn merge_intervals_columns(sheet: &Sheet, first: u16, last: u16) -> Vec<(u16, u16)> {
+    if first > last {
+        return Vec::new();
+    }
+    let mut values = BTreeSet::new();
+    for &(_, c0, _, c1) in sheet.merged_ranges() {
+        if c0 < c1 && c0 <= last && c1 >= first {
+            values.insert((c0.max(first), c1.min(last)));
+        }
+    }
+    values.into_iter().collect()
+}
+
+// render/src/print.rs:3683
+fn measured_axis_range<I>(
+    slots: &[MeasuredAxisSlot<I>],
+    first: I,
+    last: I,
+) -> Vec<MeasuredAxisSlot<I>>
+where
+    I: Copy + Ord,
+{
+    slots
+        .iter()
+        .copied()
+        .filter(|slot| slot.index >= first && slot.index <= last)
+        .collect()
+}
+
+// render/src/print.rs:3900
+fn axis_total<I>(slots: &[MeasuredAxisSlot<I>]) -> Result<Fixed, RenderError> {
+    axis_slice_total(slots)
+}
+
+// render/src/print.rs:3904
+fn axis_slice_total<I>(slots: &[MeasuredAxisSlot<I>]) -> Result<Fixed, RenderError> {
+    slots.iter().try_fold(Fixed::ZERO, |sum, slot| {
+        sum.checked_add(slot.size)
+            .ok_or(RenderError::CoordinateOverflow)
+    })
 }
 
 // render/src/print.rs:4092

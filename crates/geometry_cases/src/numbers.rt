@@ -1,24 +1,4 @@
-// Numbers that stand in text as 16 hexadecimal digits, and what their 64 bits stand for.
-
-// What a hexadecimal digit stands for, and 16 for any other byte.
-pub fn digit(byte: u8) -> u64 {
-    match byte {
-        b'0'..=b'9' => (byte - b'0') as u64,
-        b'a'..=b'f' => (byte - b'a') as u64 + 10,
-        _ => 16,
-    }
-}
-
-// The number that the last 16 of the digits stand for.
-pub fn bits(digits: &[u8]) -> u64 {
-    let mut value = 0;
-    let mut i = 0;
-    while i < digits.len() {
-        value = value % 0x1000_0000_0000_0000 * 16 + digit(digits[i]) % 16;
-        i += 1;
-    }
-    value
-}
+// What the 64 bits of a number stand for.
 
 // The signed number that 64 bits stand for.
 pub fn signed(bits: u64) -> i64 {

@@ -7,8 +7,6 @@
 //     p  paper_geometry     0 absent or 1 given, code, landscape 0 or 1
 //     m  content_geometry   width, height, left, right, top, bottom, header, footer
 //     a  content_geometry   width, height; margins absent
-use crate::numbers::bits;
-use crate::numbers::digit;
 use crate::numbers::float;
 use crate::numbers::signed;
 use crate::text::count;
@@ -22,6 +20,8 @@ use geometry::Margins;
 use geometry::PaperGeometry;
 use geometry::Setting;
 use libc::STDIN_FILENO;
+use lines::bits;
+use lines::digit;
 ghost use Prim.Native.Nat.{_<_};
 
 // The bytes of a line with its line end.

@@ -1,0 +1,50 @@
+-- `planner_cases::lists::sizes_from` is safe and ends. The measure is what is left of the list. Assumes nothing.
+use Prim.Native.Nat.{_-_}
+use borrow.Author.Needs.{needs}
+use Rattle.planner_cases.proofs.lists.sizes_from.Statement.{statement}
+use Rattle.planner_cases.proofs.lists.sizes_from.Tie as tie
+
+abbrev Inv-loop : tie.InvT-loop
+Inv-loop first out₀ i₀ out i = Unit {0}
+
+abbrev μ-loop : tie.MeasureT-loop
+μ-loop first out₀ i₀ out i = 24 - i
+
+loop-holds : tie.Need-loop-holds Inv-loop μ-loop
+loop-holds c = search needs
+
+add-out : tie.Need-add-out Inv-loop μ-loop
+add-out c = search needs
+
+mul-out : tie.Need-mul-out Inv-loop μ-loop
+mul-out c = search needs
+
+array-write-out : tie.Need-array-write-out Inv-loop μ-loop
+array-write-out c = search needs
+
+add-i : tie.Need-add-i Inv-loop μ-loop
+add-i c = search needs
+
+loop-less : tie.Need-loop-less Inv-loop μ-loop
+loop-less c = search needs
+
+loop-again : tie.Need-loop-again Inv-loop μ-loop
+loop-again c = search needs
+
+returns : tie.Need-returns Inv-loop μ-loop
+returns c = search needs
+
+pub sizes-from-spec : {M : Type 1} → statement M
+sizes-from-spec =
+    tie.close
+    (tie.spec
+    Inv-loop
+    μ-loop
+    loop-holds
+    add-out
+    mul-out
+    array-write-out
+    add-i
+    loop-less
+    loop-again
+    returns)

@@ -1,0 +1,144 @@
+// An answer as text, in an array that takes one line. What does not fit is left out.
+use crate::numbers::wide;
+use crate::numbers::wider;
+use crate::text::word;
+use planner::Partition;
+use planner::Title;
+use planner::Widening;
+
+// The bytes that a line has room for.
+pub const LINE: usize = 1024;
+
+// Each function puts its text from the place `at` on, and returns the place after it.
+fn byte(out: &mut [u8; LINE], at: usize, b: u8) -> usize {
+    if at >= LINE {
+        return at;
+    }
+    out[at] = b;
+    at + 1
+}
+
+pub fn text(out: &mut [u8; LINE], at: usize, bytes: &[u8]) -> usize {
+    let mut next = at;
+    let mut i = 0;
+    while i < bytes.len() {
+        next = byte(out, next, bytes[i]);
+        i += 1;
+    }
+    next
+}
+
+// A space and a number.
+fn number(out: &mut [u8; LINE], at: usize, n: u64) -> usize {
+    let mut digits = [0u8; 20];
+    let k = io::decimal(n, &mut digits);
+    let next = byte(out, at, b' ');
+    text(out, next, &digits[..k])
+}
+
+fn refusal(out: &mut [u8; LINE], n: u8) -> usize {
+    let at = text(out, 0, b"no");
+    number(out, at, wider(n))
+}
+
+// A title, and the notes of titles ignored and expanded.
+pub fn widening(out: &mut [u8; LINE], answer: Widening) -> usize {
+    match answer {
+        Widening::Value(widened) => {
+            let title = widened.title;
+            let at = pair(out, title);
+            let next = number(out, at, widened.ignored);
+            number(out, next, widened.expanded)
+        }
+        Widening::Refused(n) => refusal(out, n),
+    }
+}
+
+fn pair(out: &mut [u8; LINE], title: Title) -> usize {
+    match title {
+        Title::Absent => text(out, 0, b"absent"),
+        Title::Pair(first, last) => {
+            let at = text(out, 0, b"title");
+            let next = number(out, at, wide(first));
+            number(out, next, wide(last))
+        }
+    }
+}
+
+// The counts of runs, expansions and shifts.
+fn partition(out: &mut [u8; LINE], answer: Partition) -> usize {
+    match answer {
+        Partition::Value(tally) => {
+            let at = text(out, 0, b"runs");
+            let next = number(out, at, tally.runs as u64);
+            let later = number(out, next, tally.expansions);
+            number(out, later, tally.shifts)
+        }
+        Partition::Refused(n) => refusal(out, n),
+    }
+}
+
+// Lists, each after a `;`.
+fn numbers(out: &mut [u8; LINE], at: usize, list: &[u32]) -> usize {
+    let mut next = byte(out, at, b';');
+    let mut i = 0;
+    while i < list.len() {
+        next = number(out, next, wide(list[i]));
+        i += 1;
+    }
+    next
+}
+
+fn sizes(out: &mut [u8; LINE], at: usize, list: &[u64]) -> usize {
+    let mut next = byte(out, at, b';');
+    let mut i = 0;
+    while i < list.len() {
+        next = number(out, next, list[i]);
+        i += 1;
+    }
+    next
+}
+
+fn marks(out: &mut [u8; LINE], at: usize, list: &[u8]) -> usize {
+    let mut next = byte(out, at, b';');
+    let mut i = 0;
+    while i < list.len() {
+        next = number(out, next, wider(list[i]));
+        i += 1;
+    }
+    next
+}
+
+// The answer to a cut: the counts, and the runs' firsts, lasts, sizes and marks.
+pub fn axis(
+    out: &mut [u8; LINE],
+    answer: Partition,
+    firsts: &[u32],
+    lasts: &[u32],
+    totals: &[u64],
+    mark: &[u8],
+) -> usize {
+    let a = partition(out, answer);
+    let b = numbers(out, a, firsts);
+    let c = numbers(out, b, lasts);
+    let d = sizes(out, c, totals);
+    marks(out, d, mark)
+}
+
+// Writes the text that ends at a place.
+pub fn write(out: &[u8; LINE], end: usize) {
+    if end > LINE {
+        return;
+    }
+    let written = &out[..];
+    word(&written[0..end]);
+}
+
+// Whether the text that ends at a place is this.
+pub fn is(out: &[u8; LINE], end: usize, expected: &[u8]) -> bool {
+    if end > LINE {
+        return false;
+    }
+    let written = &out[..];
+    check::same(&written[0..end], expected)
+}

@@ -1,0 +1,19 @@
+// Answers the worked cases of document 01, sections "Titles" and "Runs", by a line each, `ok` or `bad`; and then a list of
+// inputs on standard input, by a line each. The file `stdout` has the Rust's answers to the list in `stdin`.
+mod answer;
+mod head;
+mod lists;
+mod numbers;
+mod replay;
+mod runs;
+mod text;
+mod titles;
+
+use text::word;
+
+fn main() {
+    titles::all_cases();
+    runs::all_cases();
+    word(b"list\n");
+    replay::answer_all();
+}

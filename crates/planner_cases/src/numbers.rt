@@ -1,0 +1,14 @@
+// Numbers of one width as numbers of another.
+
+// The last 32 bits.
+pub fn low(bits: u64) -> u32 {
+    (bits % 0x1_0000_0000) as u32
+}
+
+pub fn wide(x: u32) -> u64 {
+    x as u64
+}
+
+pub fn wider(x: u8) -> u64 {
+    x as u64
+}
