@@ -31,6 +31,11 @@ abbrev pub halfAway : ℤ → ℕ → ℤ
 halfAway (pos n) b = pos (halfUp n b)
 halfAway (negsuc n) b = negℤ (pos (halfUp (suc n) b))
 
+-- (|z| × k + h) / d, cut to a whole number, with the sign of z
+abbrev pub signedRatio : ℤ → ℕ → ℕ → ℕ → ℤ
+signedRatio (pos n) k h d = pos ((n * k + h) / d)
+signedRatio (negsuc n) k h d = negℤ (pos ((suc n * k + h) / d))
+
 -- a - b, within i64
 abbrev pub lessOf : Outcome ℤ → Outcome ℤ → Outcome ℤ
 lessOf a b = andThen a (λ (x : ℤ). andThen b (λ (y : ℤ). inI64 (x -ℤ y)))

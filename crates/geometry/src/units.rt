@@ -1,9 +1,8 @@
 // Units of 1/1,024 pixel: document 01, section "Units".
 ghost use mathlib.Core.Path.{_≡_};
 ghost use Prim.Native.Nat.{_+_, _*_, _/_, _^_, _<_, min};
-ghost use lib.IntN.{pos, natAbs, negℤ, _-ℤ_, _*ℤ_};
-ghost use lib.Signed.{quotZ};
-ghost use Rattle.geometry.specs.Units.{lengthOutcome, inI64, lessOf, atLeastOne, scaleFixed, unscaledCapacity, inchesToFixed};
+ghost use lib.IntN.{pos, natAbs, negℤ, _-ℤ_};
+ghost use Rattle.geometry.specs.Units.{lengthOutcome, inI64, signedRatio, lessOf, atLeastOne, scaleFixed, unscaledCapacity, inchesToFixed};
 
 // A length in units.
 pub struct Fixed(i64);
@@ -104,13 +103,20 @@ fn ratio(m: u64, k: u16, h: u16, d: u16) -> u64
     }
 }
 
+// (|z| × k + h) / d with the sign of z, where it is an i64
+fn signed_ratio(z: i64, k: u16, h: u16, d: u16) -> Length
+    requires { ⌜ 0 < d ⌝ }
+    ensures { λ r. ⌜ lengthOutcome r ≡ inI64 (signedRatio z k h d) ⌝ }
+{
+    let n = ratio(magnitude(z), k, h, d);
+    if z >= 0 { positive(n) } else { negative(n) }
+}
+
 // Size × permille / 1,000, halves away from zero.
 pub fn scale_fixed(size: Fixed, permille: u16) -> Length
     ensures { λ r. ⌜ lengthOutcome r ≡ scaleFixed (size .0) permille ⌝ }
 {
-    let z = size.0;
-    let n = ratio(magnitude(z), permille, 500, 1000);
-    if z >= 0 { positive(n) } else { negative(n) }
+    signed_ratio(size.0, permille, 500, 1000)
 }
 
 // a - b where it is an i64
@@ -166,16 +172,6 @@ fn at_least_one(l: Length) -> Fixed
     if z >= 1 { Fixed(z) } else { Fixed(1) }
 }
 
-// Side × 1,000 / permille, cut toward zero.
-fn quotient(side: Fixed, permille: u16) -> Length
-    requires { ⌜ 0 < permille ⌝ }
-    ensures { λ r. ⌜ lengthOutcome r ≡ inI64 (quotZ (side .0 *ℤ pos 1000) (pos permille)) ⌝ }
-{
-    let z = side.0;
-    let n = ratio(magnitude(z), 1000, 0, permille);
-    if z >= 0 { positive(n) } else { negative(n) }
-}
-
 // Side × 1,000 / permille, less titles, less headings, and never under 1.
 pub fn unscaled_capacity(side: Fixed, permille: u16, titles: Fixed, headings: Fixed) -> Length
     ensures { λ r. ⌜ lengthOutcome r ≡ unscaledCapacity (side .0) permille (titles .0) (headings .0) ⌝ }
@@ -183,7 +179,7 @@ pub fn unscaled_capacity(side: Fixed, permille: u16, titles: Fixed, headings: Fi
     if permille == 0 {
         return Length::CoordinateOverflow;
     }
-    let whole = quotient(side, permille);
+    let whole = signed_ratio(side.0, 1000, 0, permille);
     let Length::Value(q) = whole else {
         return Length::CoordinateOverflow;
     };
