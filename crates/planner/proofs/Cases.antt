@@ -5,8 +5,11 @@ use mathlib.Core.Path.{_≡_, refl}
 use mathlib.Core.Logic.{inl, inr, ⊎-elim}
 use mathlib.Core.List.{List, [], _∷_, map}
 use Prim.Native.Nat.{ℕ, _≤_}
+use mathlib.Core.Bool.{_&&_}
 use native.Mathlib.Omega.{arith}
+use lib.IntN.{pos}
 use Rattle.geometry.specs.Outcome.{Outcome, given}
+use Rattle.geometry.specs.Units.{scaleFixed, unscaledCapacity, inI64}
 use Rattle.planner.specs.declared.titles.Title.{Title}
 use Rattle.planner.specs.declared.titles.Title.the-variants.{Absent, Pair}
 use Rattle.planner.specs.declared.titles.Axis.the-variants.{Rows}
@@ -16,6 +19,7 @@ use Rattle.planner.specs.Slots.{sum, below, through}
 use Rattle.planner.specs.Questions.{allOrdered, allWithin}
 use Rattle.planner.specs.Titles.{titleHolds, pastTitle, limitOf, normalized, widenTo, pass, sameSpan, still, passes, expand, widenedFrom, widened, widenTitle}
 use Rattle.planner.specs.Runs.{earlier, nearer, holding, more, natural, capacityAt, filled, again, resumed, resumption, taken, mergeStep, merged, Run, runEnd, run, runsBy, runs, expansions, moved, placed, kept, nextCut, firstMarked, stretch, axisRuns, shifts}
+use Rattle.planner.specs.Scale.{Space, Body, fixedScale, runsAt, fitsSide, allFit, runsFit, axisPasses, middle, halve, fitScale}
 use Rattle.planner.specs.Division.{CutsAt, Within, Fewest, startsFrom, pieces}
 use Rattle.planner.proofs.Division.{Counts, link, done, total, Good, division-of, within-from}
 
@@ -44,6 +48,14 @@ fiveFive fs ls = widenTitle (limitOf Rows) (Pair 5 5) fs ls
 abbrev pub widenedTo : ℕ → ℕ → ℕ → Outcome Widened
 widenedTo f l n = given (record { title = Pair f l; ignored = 0; expanded = n })
 
+-- rows of these sizes and one column of 100, sides 200, at most so many pages high and one wide: the permille and the note
+pub fitted : List ℕ → List ℕ → ℕ → List ℕ
+fitted is ss high =
+    let space : Space = record { side = pos 200; headings = 0; titles = 0 } in
+    let body : List ℕ → List ℕ → Body = λ is ss. record { title = Absent; lo = 0; hi = 9; firsts = []; lasts = []; indexes = is; sizes = ss } in
+    let scale = fitScale (λ p. axisPasses space (body is ss) high p && axisPasses space (body (0 ∷ []) (100 ∷ [])) 1 p) in
+    scale .permille ∷ scale .unreachable ∷ []
+
 pub record Table : Type 0 where
   pub nothing-else : five 25 25 Absent [] [] [] ≡ row ((0 ∷ 1 ∷ 20 ∷ 0 ∷ []) ∷ (2 ∷ 3 ∷ 20 ∷ 0 ∷ []) ∷ (4 ∷ 4 ∷ 10 ∷ 0 ∷ []) ∷ []) 0 0
   pub inner-merge : five 25 25 Absent (1 ∷ []) (2 ∷ []) [] ≡ row ((0 ∷ 0 ∷ 10 ∷ 0 ∷ []) ∷ (1 ∷ 2 ∷ 20 ∷ 0 ∷ []) ∷ (3 ∷ 4 ∷ 20 ∷ 0 ∷ []) ∷ []) 0 0
@@ -58,9 +70,13 @@ pub record Table : Type 0 where
   pub no-slots : axisRow 25 25 Absent [] [] [] [] [] ≡ row [] 0 0
   pub merges-out-of-order : fiveFive (6 ∷ 5 ∷ []) (7 ∷ 6 ∷ []) ≡ widenedTo 5 7 2
   pub merges-in-order : fiveFive (5 ∷ 6 ∷ []) (6 ∷ 7 ∷ []) ≡ widenedTo 5 7 1
+  pub one-page-high : fitted (0 ∷ 1 ∷ 2 ∷ 3 ∷ []) (100 ∷ 100 ∷ 100 ∷ 100 ∷ []) 1 ≡ 500 ∷ 0 ∷ []
+  pub two-pages-high : fitted (0 ∷ 1 ∷ 2 ∷ 3 ∷ []) (100 ∷ 100 ∷ 100 ∷ 100 ∷ []) 2 ≡ 1000 ∷ 0 ∷ []
+  pub row-of-2004 : fitted (0 ∷ []) (2004 ∷ []) 1 ≡ 100 ∷ 0 ∷ []
+  pub row-of-2005 : fitted (0 ∷ []) (2005 ∷ []) 1 ≡ 100 ∷ 1 ∷ []
 
 pub table : Table
-unfolding five axisRow fiveFive limitOf normalized widenTo pass sameSpan still passes expand widenedFrom widened widenTitle allOrdered allWithin sum below through titleHolds pastTitle earlier nearer holding more natural capacityAt filled again resumed resumption taken mergeStep merged runEnd run runsBy runs expansions moved placed kept nextCut firstMarked stretch axisRuns shifts
+unfolding fitted fixedScale runsAt fitsSide allFit runsFit axisPasses middle halve fitScale scaleFixed unscaledCapacity inI64 five axisRow fiveFive limitOf normalized widenTo pass sameSpan still passes expand widenedFrom widened widenTitle allOrdered allWithin sum below through titleHolds pastTitle earlier nearer holding more natural capacityAt filled again resumed resumption taken mergeStep merged runEnd run runsBy runs expansions moved placed kept nextCut firstMarked stretch axisRuns shifts
 table =
     record {
       nothing-else = refl;
@@ -74,6 +90,10 @@ table =
       no-slots = refl;
       merges-out-of-order = refl;
       merges-in-order = refl;
+      one-page-high = refl;
+      two-pages-high = refl;
+      row-of-2004 = refl;
+      row-of-2005 = refl;
     }
 
 -- ---- what demand 3 shuts out, of the same five slots

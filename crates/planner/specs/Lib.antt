@@ -5,4 +5,5 @@ pub mod Titles
 pub mod Runs
 pub mod Lent
 pub mod Partition
+pub mod Scale
 pub mod Division
