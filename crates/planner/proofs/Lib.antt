@@ -7,6 +7,7 @@ pub mod MergeLaws
 pub mod EndLaws
 pub mod AxisLaws
 pub mod PartitionLaws
+pub mod ScaleLaws
 pub mod Division
 pub mod Cuts
 pub mod Whole

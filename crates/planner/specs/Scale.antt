@@ -1,7 +1,7 @@
 -- Document 01, section "Scale". Assumes nothing.
 use mathlib.Core.Bool.{Bool, true, false, cond, _&&_, _||_}
 use mathlib.Core.List.{List, [], _∷_}
-use Prim.Native.Nat.{ℕ, zero, suc, _+_, _-_, _*_, _/_, min, max}
+use Prim.Native.Nat.{ℕ, zero, suc, _+_, _-_, _*_, _/_, _^_, _≤_, min, max}
 use lib.Dec.{leb, ltb, eqb}
 use lib.IntN.{ℤ, pos, natAbs}
 use lib.Signed.{leZ}
@@ -12,6 +12,9 @@ use Rattle.geometry.specs.declared.paper.Setting.{Setting}
 use Rattle.geometry.specs.declared.paper.Setting.the-variants.{Absent, Given}
 use Rattle.planner.specs.declared.titles.Title.{Title}
 use Rattle.planner.specs.declared.runs.Frame.{Frame}
+use Rattle.planner.specs.declared.scale.Page.{Page}
+use Rattle.planner.specs.declared.scale.Stretch.{Stretch}
+use Rattle.planner.specs.declared.scale.ChosenScale.{ChosenScale}
 use Rattle.planner.specs.Titles.{pastTitle}
 use Rattle.planner.specs.Runs.{Run, runs}
 
@@ -122,3 +125,20 @@ fitScale passes =
     let found : Scale = record { permille = halve passes 10 100 1000; clamp = 0; unreachable = 0 } in
     let none : Scale = record { permille = 100; clamp = 0; unreachable = 1 } in
     cond (passes 100) found none
+
+-- ---- for the private functions
+
+-- what a struct of the code stands for
+abbrev pub spaceOf : Page → Space
+spaceOf s = record { side = s .side .0; headings = s .headings; titles = s .titles }
+
+abbrev pub scaleOf : ChosenScale → Scale
+scaleOf c = record { permille = c .permille; clamp = c .clamp; unreachable = c .unreachable }
+
+abbrev pub bodyFor : Stretch → List ℕ → List ℕ → List ℕ → List ℕ → Body
+bodyFor t fs ls is ss = record { title = t .title; lo = t .lo; hi = t .hi; firsts = fs; lasts = ls; indexes = is; sizes = ss }
+
+-- headings and titles are small
+pub record Low (s : Page) : Type 0 where
+  pub headings-low : s .headings ≤ 2 ^ 50
+  pub titles-low : s .titles ≤ 2 ^ 50

@@ -1,7 +1,8 @@
-// Titles and runs of an axis: document 01, sections "Titles" and "Runs".
+// Titles, runs and scale: document 01, sections "Titles", "Runs" and "Scale".
 mod partition;
 mod questions;
 mod runs;
+mod scale;
 mod titles;
 
 pub use partition::AxisSetup;

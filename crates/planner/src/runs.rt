@@ -269,7 +269,13 @@ fn merged_end(indexes: &[u32], n: usize, firsts: &[u32], lasts: &[u32], lo: u32,
 }
 
 // Where a run that starts at the head of the slots ends.
-fn run_end(k: Frame, firsts: &[u32], lasts: &[u32], indexes: &[u32], sizes: &[u64]) -> RunEnd
+pub(crate) fn run_end(
+    k: Frame,
+    firsts: &[u32],
+    lasts: &[u32],
+    indexes: &[u32],
+    sizes: &[u64],
+) -> RunEnd
     requires { ⌜ length (now firsts) ≡ length (now lasts) ⌝ }
     requires { ⌜ Slots (now indexes) (now sizes) ⌝ }
     requires { ⌜ 0 < length (now sizes) ⌝ }

@@ -1,0 +1,78 @@
+-- `planner::scale::fits_side` meets its contract: a small size is itself as an i64. Assumes nothing.
+use mathlib.Core.Path.{_≡_, refl, sym, ap, _∙_}
+use mathlib.Core.Bool.{Bool}
+use Prim.Native.Nat.{ℕ, _^_, _<_, _≤_}
+use native.Mathlib.Omega.{arith}
+use lib.IntN.{ℤ, pos}
+use lib.Signed.{leZ}
+use mir.Syntax.{w64}
+use mir.Val.{SFits, toZ, ofZ}
+use mir.ValLaws.{toZ-pos, toZ-ofZ}
+use Rattle.geometry.specs.declared.units.Length.{Length}
+use Rattle.geometry.specs.Units.{lengthOutcome, scaleFixed}
+use Rattle.planner.specs.Scale.{atMost, fitsSide}
+use borrow.Author.Needs.{needs}
+use Rattle.planner.proofs.scale.fits_side.Statement.{statement}
+use Rattle.planner.proofs.scale.fits_side.Tie as tie
+
+whole : (f : tie.After-scale-fixed) → let a = f .before .before .args in
+    lengthOutcome (f .scale-fixed .result) ≡ scaleFixed (pos (a .size)) (a .permille)
+whole f =
+    let a = f .before .before .args in
+    let n : a .size < 2 ^ 63 = omega (arith, f .before .before .pre) in
+    f .scale-fixed .ensures ∙ ap (λ (z : ℤ). scaleFixed z (a .permille)) (f .before .from-raw .ensures ∙ toZ-pos w64 (a .size) n)
+
+cast-from-raw : tie.Need-cast-from-raw
+cast-from-raw c = record { sfits = omega (arith, c .pre) }
+
+from-raw-requires : tie.Need-from-raw-requires
+from-raw-requires c κs = search needs
+
+scale-fixed-requires : tie.Need-scale-fixed-requires
+scale-fixed-requires c κs = search needs
+
+enum-known-answer : tie.Need-enum-known-answer
+enum-known-answer c = search needs
+
+raw-requires : tie.Need-raw-requires
+raw-requires c κs = search needs
+
+raw-requires-2 : tie.Need-raw-requires-2
+raw-requires-2 c κs = search needs
+
+enum-told : tie.Need-enum-told
+enum-told c = search needs
+
+returns : tie.Need-returns
+unfolding fitsSide
+returns c =
+    let f = c .before .before .before .before .before in
+    let a = f .before .before .args in
+    let x = c .before .raw .result in
+    let y = c .raw2 .result in
+    let X : SFits w64 x = search needs in
+    let Y : SFits w64 y = search needs in
+    ap (λ (z : ℤ). leZ z (toZ w64 (ofZ w64 y))) (toZ-ofZ w64 x X ∙ c .before .raw .ensures)
+    ∙ ap (λ (z : ℤ). leZ (c .before .before .before .answer .given .0 .0 .0) z) (toZ-ofZ w64 y Y ∙ c .raw2 .ensures)
+    ∙ sym (ap (λ (l : Length). atMost (lengthOutcome l) (a .page .side .0)) (c .before .before .before .answer .given .1)) ∙ ap (λ o. atMost o (a .page .side .0)) (whole f)
+
+returns-2 : tie.Need-returns-2
+unfolding fitsSide
+returns-2 c =
+    let f = c .before .before in
+    let a = f .before .before .args in
+    sym (ap (λ (l : Length). atMost (lengthOutcome l) (a .page .side .0)) (c .enum-told .given .1)) ∙ ap (λ o. atMost o (a .page .side .0)) (whole f)
+
+pub fits-side-spec : {M : Type 1} → statement M
+fits-side-spec =
+    tie.close
+    (tie.spec
+    cast-from-raw
+    from-raw-requires
+    scale-fixed-requires
+    enum-known-answer
+    raw-requires
+    raw-requires-2
+    enum-told
+    returns
+    returns-2)

@@ -1,0 +1,104 @@
+// How large a worksheet is printed: document 01, section "Scale".
+use crate::runs::Frame;
+use crate::runs::run_end;
+use crate::runs::total;
+use crate::titles::Title;
+use geometry::Fixed;
+use geometry::Length;
+use geometry::Setting;
+ghost use mathlib.Core.Path.{_≡_};
+ghost use mathlib.Core.Bool.{cond, _&&_};
+ghost use Prim.Native.Nat.{_+_, _≤_, _^_};
+ghost use lib.ListN.{length};
+ghost use Rattle.planner.specs.Slots.{Slots};
+ghost use Rattle.planner.specs.Titles.{pastTitle};
+ghost use Rattle.planner.specs.Runs.{runs};
+ghost use Rattle.planner.specs.Scale.{orElse, fixedScale, capacityOf, fitsSide, allFit, meets, axisPasses, spaceOf, scaleOf, bodyFor, Low};
+
+// A scale in thousandths, and its two notes.
+pub(crate) struct ChosenScale {
+    pub permille: u16,
+    pub clamp: u64,
+    pub unreachable: u64,
+}
+
+// What an axis has on a page: the content side, the headings, and the title's total.
+pub(crate) struct Page {
+    pub side: Fixed,
+    pub headings: u64,
+    pub titles: u64,
+}
+
+// The title of an axis, and the stretch that its merges are clipped to.
+pub(crate) struct Stretch {
+    pub title: Title,
+    pub lo: u32,
+    pub hi: u32,
+}
+
+// A setting, or what its absence means.
+fn or_else(setting: Setting, absent: u16) -> u16
+    ensures { λ r. ⌜ r ≡ orElse setting absent ⌝ }
+{
+    match setting {
+        Setting::Absent => absent,
+        Setting::Given(n) => n,
+    }
+}
+
+// The scale of a percent, clamped.
+pub(crate) fn fixed_scale(percent: Setting) -> ChosenScale
+    ensures { λ r. ⌜ scaleOf r ≡ fixedScale percent ⌝ }
+{
+    let asked = or_else(percent, 100);
+    if asked < 10 {
+        return ChosenScale {
+            permille: 100,
+            clamp: 1,
+            unreachable: 0,
+        };
+    }
+    if asked > 400 {
+        return ChosenScale {
+            permille: 4000,
+            clamp: 1,
+            unreachable: 0,
+        };
+    }
+    ChosenScale {
+        permille: asked * 10,
+        clamp: 0,
+        unreachable: 0,
+    }
+}
+
+// The capacity at a permille beside so many units of titles.
+pub(crate) fn capacity_at(page: Page, permille: u16, titles: u64) -> u64
+    requires { ⌜ Low page ⌝ }
+    requires { ⌜ titles ≤ 2 ^ 50 ⌝ }
+    ensures { λ r. ⌜ r ≡ capacityOf (spaceOf page) permille titles ⌝ }
+{
+    let side = page.side;
+    let answer = geometry::unscaled_capacity(
+        side,
+        permille,
+        Fixed::from_raw(titles as i64),
+        Fixed::from_raw(page.headings as i64),
+    );
+    match answer {
+        Length::Value(capacity) => capacity.magnitude(),
+        Length::CoordinateOverflow => 0,
+    }
+}
+
+// Whether a size, scaled and rounded, is at most the side.
+pub(crate) fn fits_side(page: Page, permille: u16, size: u64) -> bool
+    requires { ⌜ size ≤ 2 ^ 53 ⌝ }
+    ensures { λ r. ⌜ r ≡ fitsSide (spaceOf page) permille size ⌝ }
+{
+    let answer = geometry::scale_fixed(Fixed::from_raw(size as i64), permille);
+    match answer {
+        Length::Value(scaled) => scaled.raw() <= page.side.raw(),
+        Length::CoordinateOverflow => false,
+    }
+}
