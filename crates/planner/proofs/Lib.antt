@@ -12,6 +12,7 @@ pub mod Cuts
 pub mod Whole
 pub mod OneRun
 pub mod Fewest
+pub mod Halving
 pub mod Cases
 pub mod Earliest
 pub mod Places
