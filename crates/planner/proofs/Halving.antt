@@ -1,12 +1,13 @@
 -- The halving of `specs/Scale.antt`: what a turn does, for any test; and that it finds the largest number at which a test passes, for a test
 -- that passes below where it passes. Assumes nothing.
 use mathlib.Core.Path.{_≡_, refl, sym, _∙_}
-use mathlib.Core.Bool.{Bool, true, false, cond, true≢false}
-use Prim.Native.Nat.{ℕ, zero, suc, _+_, _-_, _/_, _^_, _≤_, _<_}
+use mathlib.Core.Logic.{_↔_}
+use mathlib.Core.Bool.{Bool, true, false, true≢false}
+use Prim.Native.Nat.{ℕ, zero, suc, _-_, _^_, _≤_, _<_}
 use native.Mathlib.Omega.{arith}
 use borrow.Author.Tests.{lt-ltb, le-ltb}
-use Rattle.planner.specs.Scale.{middle, halve}
-use Rattle.planner.specs.Fitting.{Largest}
+use Rattle.planner.specs.Scale.{middle, halve, fitScale}
+use Rattle.planner.specs.Fitting.{Largest, Chosen}
 use Rattle.planner.proofs.Division.{split}
 
 pub by-test {ℓ} : {X : Type ℓ} (b : Bool) → (b ≡ true → X) → (b ≡ false → X) → X
@@ -86,3 +87,27 @@ module _ (t : ℕ → Bool) (lo hi : ℕ) (down : (p q : ℕ) → lo ≤ q → q
         none-larger = λ q g b. split q (m - 1) (λ d. r .none-larger q d b)
             (λ d. absurd (true≢false (sym (down q m (omega arith) (omega arith) (omega arith) b) ∙ n)));
       })))
+
+-- ---- the fit scale of a test that says P, where P holds below where it holds
+
+module _ (t : ℕ → Bool) (P : ℕ → Type 0) (says : (p : ℕ) → 100 ≤ p → p ≤ 1000 → (t p ≡ true) ↔ P p)
+    (lower : (p q : ℕ) → q ≤ p → P p → P q) where
+  found-largest : t 100 ≡ true → Largest P 100 1000 (halve t 10 100 1000)
+  found-largest y =
+      let down : (p q : ℕ) → 100 ≤ q → q ≤ p → p ≤ 1000 → t p ≡ true → t q ≡ true =
+      λ p q l k h e. says q l (omega arith) .1 (lower p q k (says p (omega arith) h .0 e)) in
+      let r = halve-largest t 100 1000 down 10 100 1000 (omega arith) (omega arith) (omega arith) (omega arith) y in
+      record {
+        not-below = r .not-below;
+        not-above = r .not-above;
+        holds = says _ (r .not-below) (r .not-above) .0 (r .holds);
+        none-larger = λ q h g. split 100 q (λ k. r .none-larger q h (says q k h .1 g)) (λ k. omega (arith, r .not-below));
+      }
+
+  pub fit-chosen : Chosen P (fitScale t .permille) (fitScale t .unreachable)
+  unfolding fitScale
+  fit-chosen =
+      let at = says 100 (omega arith) (omega arith) in
+      by-test (t 100)
+      (λ y. rw y (record { reached = λ g. (found-largest y, refl); missed = λ g. absurd (g (at .0 y)) }))
+      (λ n. rw n (record { reached = λ g. absurd (true≢false (sym (at .1 g) ∙ n)); missed = λ g. (refl, refl) }))

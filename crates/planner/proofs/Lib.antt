@@ -13,6 +13,7 @@ pub mod Whole
 pub mod OneRun
 pub mod Fewest
 pub mod Halving
+pub mod Largest
 pub mod Cases
 pub mod Earliest
 pub mod Places

@@ -1,8 +1,8 @@
 -- The words of demand 3 on the fit scale (document 01, "Scale", from "For demand 3" on), over plain numbers and lists. Nothing here says
 -- how runs are found or how a permille is searched. Assumes nothing.
 use mathlib.Core.Path.{_≡_}
-use mathlib.Core.List.{List, [], _∷_}
-use Prim.Native.Nat.{ℕ, _+_, _*_, _/_, _≤_, _<_}
+use mathlib.Core.List.{List}
+use Prim.Native.Nat.{ℕ, _+_, _*_, _/_, _≤_}
 use lib.ListN.{length}
 use Rattle.planner.specs.Slots.{sum}
 use Rattle.planner.specs.Division.{_∈_, Division, pieces}
