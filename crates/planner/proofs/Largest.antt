@@ -205,7 +205,8 @@ meets-is : (target n : ℕ) → (meets target n ≡ true) ↔ MeetsTarget target
 meets-is zero n = ((λ e z. absurd (z refl)), λ h. refl)
 meets-is (suc t) n = rw (ne-eqb (suc t) 0 (λ e. omega arith)) ((λ e z. leb-true n (suc t) e), λ h. le-leb n (suc t) (h (λ e. omega arith)))
 
--- no merges and no title, as many indexes as sizes, and a side of n units that exceeds the headings; n is far within i64
+-- no merges and no title, as many indexes as sizes, and a side of n units that exceeds the headings; below 2^53 the side times 1,000 is
+-- within i64
 pub record Plain (s : Space) (b : Body) (n : ℕ) : Type 0 where
   pub side-is : s .side ≡ pos n
   pub moderate : n < 2 ^ 53
@@ -257,27 +258,33 @@ module _ (s : Space) (b : Body) (n : ℕ) (plain : Plain s b n) (p : ℕ) (low :
   unfolding keptCuts
   runs-fewest = rw (runs-at, ← capacity-at) (axis-fewest (frameFor s b p) (b .indexes) (b .sizes) [] (plain .even) (plain .no-title))
 
-  pub passes-is : (target : ℕ) → (axisPasses s b target p ≡ true) ↔ Reaches n (s .headings) target (b .sizes) p
+  -- the runs cut at p pass exactly if some division reaches the target
+  passes-reaches : (target : ℕ) → axisPasses s b target p ≡ true → Reaches n (s .headings) target (b .sizes) p
   unfolding axisPasses
-  passes-is target =
+  passes-reaches target e =
       let rs : List Run = runsAt s b p in
-      let ps : List (List ℕ) = pieces (counts rs) (b .sizes) in
-      let many : length (counts rs) ≡ length rs = length-map rs _ in (
-        (λ e. let (fit, met) = both-true _ _ .0 e in
-            record {
-              slots = counts rs;
-              division = runs-fewest .division;
-              meets = rw many (meets-is target (length rs) .0 met);
-              fit = fewest-fit n (s .headings) p low high (plain .room) (b .sizes) (counts rs) runs-fewest
-                  (λ run i o. runs-fit rs .0 fit (sum run) (rw runs-tell (in-map sum run ps i)));
-            }),
-        λ r. let w = fewest-reaches n (s .headings) p low high (plain .room) (b .sizes) (counts rs) runs-fewest target r in
-            both-true _ _ .1 (
-              runs-fit rs .1 (λ z i. let o = of-map sum z ps (rw runs-tell at i) in
-                  rw (o .2) (fits-rounded n (s .headings) p low high (plain .room) (o .0) (w .1 (o .0) (o .1)))),
-              meets-is target (length rs) .1 (rw many at (w .0)),
-            ),
-      )
+      let (fit, met) = both-true _ _ .0 e in
+      record {
+        slots = counts rs;
+        division = runs-fewest .division;
+        meets = rw (length-map rs _) (meets-is target (length rs) .0 met);
+        fit = fewest-fit n (s .headings) p low high (plain .room) (b .sizes) (counts rs) runs-fewest
+            (λ run i o. runs-fit rs .0 fit (sum run) (rw runs-tell (in-map sum run (pieces (counts rs) (b .sizes)) i)));
+      }
+
+  reaches-passes : (target : ℕ) → Reaches n (s .headings) target (b .sizes) p → axisPasses s b target p ≡ true
+  unfolding axisPasses
+  reaches-passes target r =
+      let rs : List Run = runsAt s b p in
+      let many : length (counts rs) ≡ length rs = length-map rs _ in
+      let (met, fit) = fewest-reaches n (s .headings) p low high (plain .room) (b .sizes) (counts rs) runs-fewest target r in
+      let rounded : (z : ℕ) → z ∈ sizes rs → Rounded z = λ z i.
+      let (run, j, e) = of-map sum z (pieces (counts rs) (b .sizes)) (rw runs-tell at i) in
+      rw e (fits-rounded n (s .headings) p low high (plain .room) run (fit run j)) in
+      both-true _ _ .1 (runs-fit rs .1 rounded, meets-is target (length rs) .1 (rw many at met))
+
+  pub passes-is : (target : ℕ) → (axisPasses s b target p ≡ true) ↔ Reaches n (s .headings) target (b .sizes) p
+  passes-is target = (passes-reaches target, reaches-passes target)
 
 -- ---- the theorem
 
