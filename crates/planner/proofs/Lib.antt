@@ -13,6 +13,8 @@ pub mod Cuts
 pub mod Whole
 pub mod OneRun
 pub mod Fewest
+pub mod Halving
+pub mod Largest
 pub mod Cases
 pub mod Earliest
 pub mod Places

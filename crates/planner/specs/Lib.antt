@@ -7,3 +7,4 @@ pub mod Lent
 pub mod Partition
 pub mod Scale
 pub mod Division
+pub mod Fitting
