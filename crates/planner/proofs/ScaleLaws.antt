@@ -1,11 +1,14 @@
 -- Laws of `specs/Scale.antt`'s definitions. Assumes nothing.
 use mathlib.Core.Path.{_≡_, refl, sym, ap, _∙_}
-use mathlib.Core.Bool.{Bool, true, false, cond}
+use mathlib.Core.Bool.{Bool, true, false, cond, _&&_}
 use Prim.Native.Nat.{ℕ, _+_, _*_, _≤_, _<_, min, max}
 use native.Mathlib.Omega.{arith}
 use lib.Dec.{eqb}
-use borrow.Author.Tests.{eq-eqb, ne-eqb}
+use borrow.Author.Tests.{eq-eqb, ne-eqb, lt-ltb, le-ltb}
 use Rattle.geometry.specs.declared.paper.Setting.{Setting}
+use Rattle.planner.specs.declared.titles.Title.{Title}
+use Rattle.planner.specs.declared.titles.Title.the-variants.{Absent, Pair}
+use Rattle.planner.specs.Titles.{pastTitle}
 use Rattle.planner.specs.Scale.{Scale, orElse, clamped, fixedScale}
 
 -- ---- a percent, way by way
@@ -27,3 +30,28 @@ module _ (s : Setting) (p : ℕ) (e : p ≡ orElse s 100) where
   pub kept : 10 ≤ p → p ≤ 400 → scaleAt (p * 10) 0 0 ≡ fixedScale s
   unfolding fixedScale
   kept h k = let c : clamped p ≡ p = omega arith in rw (← e, c, eq-eqb p p refl)
+
+-- ---- what a run takes of a page
+
+module _ (title : Title) (first size titles headings : ℕ) where
+  pub takes-absent : title ≡ Absent → size + headings ≡ size + cond (pastTitle title first) titles 0 + headings
+  unfolding pastTitle
+  takes-absent e = rw e (omega arith)
+
+  pub takes-past : (f l : ℕ) → title ≡ Pair f l → l < first → size + titles + headings ≡ size + cond (pastTitle title first) titles 0 + headings
+  unfolding pastTitle
+  takes-past f l e h = rw (e, lt-ltb l first h)
+
+  pub takes-before : (f l : ℕ) → title ≡ Pair f l → first ≤ l → size + headings ≡ size + cond (pastTitle title first) titles 0 + headings
+  unfolding pastTitle
+  takes-before f l e h = rw (e, le-ltb l first h) (omega arith)
+
+-- ---- run after run: the first fits, and so do the others
+
+pub fit-more : (a b c : Bool) → a && b && c ≡ a && (b && c)
+fit-more true b c = refl
+fit-more false b c = refl
+
+pub and-true : (b : Bool) → b && true ≡ b
+and-true true = refl
+and-true false = refl

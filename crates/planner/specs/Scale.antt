@@ -138,6 +138,10 @@ scaleOf c = record { permille = c .permille; clamp = c .clamp; unreachable = c .
 abbrev pub bodyFor : Stretch → List ℕ → List ℕ → List ℕ → List ℕ → Body
 bodyFor t fs ls is ss = record { title = t .title; lo = t .lo; hi = t .hi; firsts = fs; lasts = ls; indexes = is; sizes = ss }
 
+-- a body of which only the title is looked at
+abbrev pub titled : Title → Body
+titled t = record { title = t; lo = 0; hi = 0; firsts = []; lasts = []; indexes = []; sizes = [] }
+
 -- headings and titles are small
 pub record Low (s : Page) : Type 0 where
   pub headings-low : s .headings ≤ 2 ^ 50

@@ -13,7 +13,7 @@ ghost use lib.ListN.{length};
 ghost use Rattle.planner.specs.Slots.{Slots};
 ghost use Rattle.planner.specs.Titles.{pastTitle};
 ghost use Rattle.planner.specs.Runs.{runs};
-ghost use Rattle.planner.specs.Scale.{orElse, fixedScale, capacityOf, fitsSide, allFit, meets, axisPasses, spaceOf, scaleOf, bodyFor, Low};
+ghost use Rattle.planner.specs.Scale.{orElse, fixedScale, capacityOf, fitsSide, allFit, meets, axisPasses, spaceOf, scaleOf, bodyFor, titled, Low};
 
 // A scale in thousandths, and its two notes.
 pub(crate) struct ChosenScale {
@@ -101,4 +101,59 @@ pub(crate) fn fits_side(page: Page, permille: u16, size: u64) -> bool
         Length::Value(scaled) => scaled.raw() <= page.side.raw(),
         Length::CoordinateOverflow => false,
     }
+}
+
+// What a run takes of a page: its size and the headings, and the titles where it lies past the title.
+fn rendered(page: Page, title: Title, first: u32, size: u64) -> u64
+    requires { ⌜ Low page ⌝ }
+    requires { ⌜ size ≤ 2 ^ 50 ⌝ }
+    ensures { λ r. ⌜ r ≡ size + cond (pastTitle title first) (page .titles) 0 + page .headings ⌝ }
+    ensures { λ r. ⌜ r ≤ 2 ^ 53 ⌝ }
+{
+    let Title::Pair(_, last) = title else {
+        return size + page.headings;
+    };
+    if first > last {
+        return size + page.titles + page.headings;
+    }
+    size + page.headings
+}
+
+// How many runs there are, and whether all fit the page.
+pub(crate) struct Tested {
+    pub runs: usize,
+    pub fit: bool,
+}
+
+// Tests the runs of slots at a permille.
+fn test_runs(
+    page: Page,
+    frame: Frame,
+    permille: u16,
+    mfirsts: &[u32],
+    mlasts: &[u32],
+    indexes: &[u32],
+    sizes: &[u64],
+) -> Tested
+    requires { ⌜ Low page ⌝ }
+    requires { ⌜ length (now mfirsts) ≡ length (now mlasts) ⌝ }
+    requires { ⌜ Slots (now indexes) (now sizes) ⌝ }
+    ensures { λ r. ⌜ (r .runs ≡ length (runs frame (now (mfirsts .entry)) (now (mlasts .entry)) (now (indexes .entry)) (now (sizes .entry)))) × (r .fit ≡ allFit (spaceOf page) (titled (frame .title)) permille (runs frame (now (mfirsts .entry)) (now (mlasts .entry)) (now (indexes .entry)) (now (sizes .entry)))) ⌝ }
+{
+    let title = frame.title;
+    let mut is = indexes;
+    let mut ss = sizes;
+    let mut count = 0;
+    let mut fit = true;
+    while ss.len() > 0 {
+        let end = run_end(frame, mfirsts, mlasts, is, ss);
+        let n = end.slots;
+        let t = total(&ss[..n]);
+        let whole = rendered(page, title, is[0], t);
+        fit = fit & fits_side(page, permille, whole);
+        is = &is[n..];
+        ss = &ss[n..];
+        count += 1;
+    }
+    Tested { runs: count, fit }
 }
