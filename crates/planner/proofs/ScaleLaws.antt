@@ -1,15 +1,18 @@
 -- Laws of `specs/Scale.antt`'s definitions. Assumes nothing.
 use mathlib.Core.Path.{_≡_, refl, sym, ap, _∙_}
-use mathlib.Core.Bool.{Bool, true, false, cond, _&&_}
+use mathlib.Core.Bool.{Bool, true, false, cond, _&&_, _||_}
+use mathlib.Core.List.{List, [], _∷_}
 use Prim.Native.Nat.{ℕ, _+_, _*_, _≤_, _<_, min, max}
 use native.Mathlib.Omega.{arith}
-use lib.Dec.{eqb}
-use borrow.Author.Tests.{eq-eqb, ne-eqb, lt-ltb, le-ltb}
+use lib.Dec.{leb, eqb}
+use lib.ListN.{length}
+use borrow.Author.Tests.{eq-eqb, ne-eqb, lt-ltb, le-ltb, le-leb}
 use Rattle.geometry.specs.declared.paper.Setting.{Setting}
 use Rattle.planner.specs.declared.titles.Title.{Title}
 use Rattle.planner.specs.declared.titles.Title.the-variants.{Absent, Pair}
 use Rattle.planner.specs.Titles.{pastTitle}
-use Rattle.planner.specs.Scale.{Scale, orElse, clamped, fixedScale}
+use Rattle.planner.specs.Runs.{Run}
+use Rattle.planner.specs.Scale.{Scale, Space, Body, orElse, clamped, fixedScale, runsAt, fitsSide, rendered, allFit, runsFit, meets, axisPasses, titled}
 
 -- ---- a percent, way by way
 
@@ -55,3 +58,32 @@ fit-more false b c = refl
 pub and-true : (b : Bool) → b && true ≡ b
 and-true true = refl
 and-true false = refl
+
+or-true : (a b : Bool) → b ≡ true → a || b ≡ true
+or-true true b e = refl
+or-true false b e = e
+
+-- ---- an axis
+
+-- only the title of a body is looked at
+titled-fit : (s : Space) (b : Body) (p : ℕ) (rs : List Run) → allFit s (titled (b .title)) p rs ≡ allFit s b p rs
+unfolding allFit
+titled-fit s b p [] = refl
+titled-fit s b p (r ∷ rs) = ap (λ (t : Bool). fitsSide s p (rendered s b r) && t) (titled-fit s b p rs)
+
+module _ (s : Space) (b : Body) (target p : ℕ) (rs : List Run) (e : rs ≡ runsAt s b p) where
+  pub no-runs : length rs ≡ 0 → fitsSide s p (s .titles + s .headings) ≡ axisPasses s b target p
+  unfolding axisPasses runsFit
+  no-runs h = rw (← e) (none rs h)
+    where
+      none : (rs : List Run) → length rs ≡ 0 → fitsSide s p (s .titles + s .headings) ≡ runsFit s b p rs && meets target (length rs)
+      none [] h = unfold runsFit in (sym (and-true (fitsSide s p (s .titles + s .headings))) ∙ ap (λ (t : Bool). fitsSide s p (s .titles + s .headings) && t) (sym (or-true (eqb target 0) (leb 0 target) (le-leb 0 target (omega arith)))))
+      none (r ∷ rs) h = absurd (omega arith)
+
+  pub some-runs : (fit : Bool) → fit ≡ allFit s (titled (b .title)) p rs → (length rs ≡ 0 → ⊥) → fit && meets target (length rs) ≡ axisPasses s b target p
+  unfolding axisPasses
+  some-runs fit q h = rw (← e) (ap (λ (t : Bool). t && meets target (length rs)) (q ∙ titled-fit s b p rs ∙ all rs h))
+    where
+      all : (rs : List Run) → (length rs ≡ 0 → ⊥) → allFit s b p rs ≡ runsFit s b p rs
+      all [] h = absurd (h refl)
+      all (r ∷ rs) h = unfold runsFit in refl

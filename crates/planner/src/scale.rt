@@ -157,3 +157,46 @@ fn test_runs(
     }
     Tested { runs: count, fit }
 }
+
+// A target of 0 bounds nothing.
+fn meets_target(target: u16, runs: usize) -> bool
+    ensures { λ r. ⌜ r ≡ meets target runs ⌝ }
+{
+    if target == 0 {
+        return true;
+    }
+    runs <= target as usize
+}
+
+// Whether an axis passes at a permille: its runs, cut without breaks, fit the page and meet the target.
+fn axis_passes(
+    page: Page,
+    stretch: Stretch,
+    target: u16,
+    permille: u16,
+    mfirsts: &[u32],
+    mlasts: &[u32],
+    indexes: &[u32],
+    sizes: &[u64],
+) -> bool
+    requires { ⌜ Low page ⌝ }
+    requires { ⌜ length (now mfirsts) ≡ length (now mlasts) ⌝ }
+    requires { ⌜ Slots (now indexes) (now sizes) ⌝ }
+    ensures { λ r. ⌜ r ≡ axisPasses (spaceOf page) (bodyFor stretch (now (mfirsts .entry)) (now (mlasts .entry)) (now (indexes .entry)) (now (sizes .entry))) target permille ⌝ }
+{
+    let untitled = capacity_at(page, permille, 0);
+    let titled = capacity_at(page, permille, page.titles);
+    let title = stretch.title;
+    let frame = Frame {
+        untitled,
+        titled,
+        title,
+        lo: stretch.lo,
+        hi: stretch.hi,
+    };
+    let tested = test_runs(page, frame, permille, mfirsts, mlasts, indexes, sizes);
+    if tested.runs == 0 {
+        return fits_side(page, permille, page.titles + page.headings);
+    }
+    tested.fit & meets_target(target, tested.runs)
+}

@@ -1,0 +1,14 @@
+-- `planner::scale::meets_target` meets its contract. Assumes nothing.
+use mathlib.Core.Path.{refl}
+use borrow.Author.Tests.{eq-eqb, ne-eqb}
+use Rattle.planner.proofs.scale.meets_target.Statement.{statement}
+use Rattle.planner.proofs.scale.meets_target.Tie as tie
+
+returns : tie.Need-returns
+returns c = rw (eq-eqb (c .before .args .target) 0 (c .if1 .taken))
+
+returns-2 : tie.Need-returns-2
+returns-2 c = rw (ne-eqb (c .before .args .target) 0 (c .if1 .left))
+
+pub meets-target-spec : {M : Type 1} → statement M
+meets-target-spec = tie.close (tie.spec returns returns-2)
