@@ -12,7 +12,7 @@ use Rattle.planner.specs.declared.titles.Title.{Title}
 use Rattle.planner.specs.declared.titles.Title.the-variants.{Absent, Pair}
 use Rattle.planner.specs.Titles.{pastTitle}
 use Rattle.planner.specs.Runs.{Run}
-use Rattle.planner.specs.Scale.{Scale, Space, Body, orElse, clamped, fixedScale, runsAt, fitsSide, rendered, allFit, runsFit, meets, axisPasses, titled}
+use Rattle.planner.specs.Scale.{Scale, Space, Body, orElse, clamped, fixedScale, runsAt, fitsSide, rendered, allFit, runsFit, meets, axisPasses, halve, fitScale, titled}
 
 -- ---- a percent, way by way
 
@@ -87,3 +87,13 @@ module _ (s : Space) (b : Body) (target p : ℕ) (rs : List Run) (e : rs ≡ run
       all : (rs : List Run) → (length rs ≡ 0 → ⊥) → allFit s b p rs ≡ runsFit s b p rs
       all [] h = absurd (h refl)
       all (r ∷ rs) h = unfold runsFit in refl
+
+-- ---- the halving's two ways
+
+pub fit-none : (t : ℕ → Bool) → t 100 ≡ false → scaleAt 100 0 1 ≡ fitScale t
+unfolding fitScale
+fit-none t e = rw e
+
+pub fit-found : (t : ℕ → Bool) (low : ℕ) → t 100 ≡ true → low ≡ halve t 10 100 1000 → scaleAt low 0 0 ≡ fitScale t
+unfolding fitScale
+fit-found t low e q = rw e (ap (λ (p : ℕ). scaleAt p 0 0) q)

@@ -1,4 +1,5 @@
 -- Document 01, section "Scale". Assumes nothing.
+use mathlib.Core.Path.{_≡_}
 use mathlib.Core.Bool.{Bool, true, false, cond, _&&_, _||_}
 use mathlib.Core.List.{List, [], _∷_}
 use Prim.Native.Nat.{ℕ, zero, suc, _+_, _-_, _*_, _/_, _^_, _≤_, min, max}
@@ -12,9 +13,11 @@ use Rattle.geometry.specs.declared.paper.Setting.{Setting}
 use Rattle.geometry.specs.declared.paper.Setting.the-variants.{Absent, Given}
 use Rattle.planner.specs.declared.titles.Title.{Title}
 use Rattle.planner.specs.declared.runs.Frame.{Frame}
-use Rattle.planner.specs.declared.scale.Page.{Page}
+use Rattle.planner.specs.declared.scale.PageSide.{PageSide}
 use Rattle.planner.specs.declared.scale.Stretch.{Stretch}
+use Rattle.planner.specs.declared.scale.Fit.{Fit}
 use Rattle.planner.specs.declared.scale.ChosenScale.{ChosenScale}
+use Rattle.planner.specs.Slots.{Slots}
 use Rattle.planner.specs.Titles.{pastTitle}
 use Rattle.planner.specs.Runs.{Run, runs}
 
@@ -59,7 +62,7 @@ pub record Body : Type 0 where
   pub indexes : List ℕ
   pub sizes : List ℕ
 
--- a length that was given; 10 does not arise for a side and a permille of a plan
+-- the units of a length that was given
 abbrev pub units : Outcome ℤ → ℕ
 units (given z) = natAbs z
 units (refused n) = 0
@@ -129,7 +132,7 @@ fitScale passes =
 -- ---- for the private functions
 
 -- what a struct of the code stands for
-abbrev pub spaceOf : Page → Space
+abbrev pub spaceOf : PageSide → Space
 spaceOf s = record { side = s .side .0; headings = s .headings; titles = s .titles }
 
 abbrev pub scaleOf : ChosenScale → Scale
@@ -143,6 +146,15 @@ abbrev pub titled : Title → Body
 titled t = record { title = t; lo = 0; hi = 0; firsts = []; lasts = []; indexes = []; sizes = [] }
 
 -- headings and titles are small
-pub record Low (s : Page) : Type 0 where
+pub record Low (s : PageSide) : Type 0 where
   pub headings-low : s .headings ≤ 2 ^ 50
   pub titles-low : s .titles ≤ 2 ^ 50
+
+abbrev pub fitPasses : Fit → List ℕ → List ℕ → List ℕ → List ℕ → ℕ → Bool
+fitPasses f fs ls is ss p = axisPasses (spaceOf (f .page)) (bodyFor (f .stretch) fs ls is ss) (f .target) p
+
+-- an axis that was asked about
+pub record Fitted (f : Fit) (fs ls is ss : List ℕ) : Type 0 where
+  pub low : Low (f .page)
+  pub merges : length fs ≡ length ls
+  pub slots : Slots is ss

@@ -13,7 +13,7 @@ ghost use lib.ListN.{length};
 ghost use Rattle.planner.specs.Slots.{Slots};
 ghost use Rattle.planner.specs.Titles.{pastTitle};
 ghost use Rattle.planner.specs.Runs.{runs};
-ghost use Rattle.planner.specs.Scale.{orElse, fixedScale, capacityOf, fitsSide, allFit, meets, axisPasses, spaceOf, scaleOf, bodyFor, titled, Low};
+ghost use Rattle.planner.specs.Scale.{orElse, fixedScale, capacityOf, fitsSide, allFit, meets, axisPasses, fitScale, spaceOf, scaleOf, bodyFor, titled, Low, fitPasses, Fitted};
 
 // A scale in thousandths, and its two notes.
 pub(crate) struct ChosenScale {
@@ -23,7 +23,7 @@ pub(crate) struct ChosenScale {
 }
 
 // What an axis has on a page: the content side, the headings, and the title's total.
-pub(crate) struct Page {
+pub(crate) struct PageSide {
     pub side: Fixed,
     pub headings: u64,
     pub titles: u64,
@@ -73,7 +73,7 @@ pub(crate) fn fixed_scale(percent: Setting) -> ChosenScale
 }
 
 // The capacity at a permille beside so many units of titles.
-pub(crate) fn capacity_at(page: Page, permille: u16, titles: u64) -> u64
+pub(crate) fn capacity_at(page: PageSide, permille: u16, titles: u64) -> u64
     requires { ⌜ Low page ⌝ }
     requires { ⌜ titles ≤ 2 ^ 50 ⌝ }
     ensures { λ r. ⌜ r ≡ capacityOf (spaceOf page) permille titles ⌝ }
@@ -92,7 +92,7 @@ pub(crate) fn capacity_at(page: Page, permille: u16, titles: u64) -> u64
 }
 
 // Whether a size, scaled and rounded, is at most the side.
-pub(crate) fn fits_side(page: Page, permille: u16, size: u64) -> bool
+pub(crate) fn fits_side(page: PageSide, permille: u16, size: u64) -> bool
     requires { ⌜ size ≤ 2 ^ 53 ⌝ }
     ensures { λ r. ⌜ r ≡ fitsSide (spaceOf page) permille size ⌝ }
 {
@@ -104,7 +104,7 @@ pub(crate) fn fits_side(page: Page, permille: u16, size: u64) -> bool
 }
 
 // What a run takes of a page: its size and the headings, and the titles where it lies past the title.
-fn rendered(page: Page, title: Title, first: u32, size: u64) -> u64
+fn rendered(page: PageSide, title: Title, first: u32, size: u64) -> u64
     requires { ⌜ Low page ⌝ }
     requires { ⌜ size ≤ 2 ^ 50 ⌝ }
     ensures { λ r. ⌜ r ≡ size + cond (pastTitle title first) (page .titles) 0 + page .headings ⌝ }
@@ -127,7 +127,7 @@ pub(crate) struct Tested {
 
 // Tests the runs of slots at a permille.
 fn test_runs(
-    page: Page,
+    page: PageSide,
     frame: Frame,
     permille: u16,
     mfirsts: &[u32],
@@ -170,7 +170,7 @@ fn meets_target(target: u16, runs: usize) -> bool
 
 // Whether an axis passes at a permille: its runs, cut without breaks, fit the page and meet the target.
 fn axis_passes(
-    page: Page,
+    page: PageSide,
     stretch: Stretch,
     target: u16,
     permille: u16,
@@ -199,4 +199,125 @@ fn axis_passes(
         return fits_side(page, permille, page.titles + page.headings);
     }
     tested.fit & meets_target(target, tested.runs)
+}
+
+// An axis to be fitted: its page, its stretch, and the most runs that it may have, 0 for any number.
+pub(crate) struct Fit {
+    pub page: PageSide,
+    pub stretch: Stretch,
+    pub target: u16,
+}
+
+fn fit_passes(
+    fit: Fit,
+    permille: u16,
+    mfirsts: &[u32],
+    mlasts: &[u32],
+    indexes: &[u32],
+    sizes: &[u64],
+) -> bool
+    requires { ⌜ Fitted fit (now mfirsts) (now mlasts) (now indexes) (now sizes) ⌝ }
+    ensures { λ r. ⌜ r ≡ fitPasses fit (now (mfirsts .entry)) (now (mlasts .entry)) (now (indexes .entry)) (now (sizes .entry)) permille ⌝ }
+{
+    let page = fit.page;
+    let stretch = fit.stretch;
+    axis_passes(
+        page,
+        stretch,
+        fit.target,
+        permille,
+        mfirsts,
+        mlasts,
+        indexes,
+        sizes,
+    )
+}
+
+// Whether both axes pass at a permille: rows, then columns.
+fn both_pass(
+    rows: Fit,
+    columns: Fit,
+    permille: u16,
+    rfirsts: &[u32],
+    rlasts: &[u32],
+    rindexes: &[u32],
+    rsizes: &[u64],
+    cfirsts: &[u32],
+    clasts: &[u32],
+    cindexes: &[u32],
+    csizes: &[u64],
+) -> bool
+    requires { ⌜ Fitted rows (now rfirsts) (now rlasts) (now rindexes) (now rsizes) ⌝ }
+    requires { ⌜ Fitted columns (now cfirsts) (now clasts) (now cindexes) (now csizes) ⌝ }
+    ensures { λ r. ⌜ r ≡ fitPasses rows (now (rfirsts .entry)) (now (rlasts .entry)) (now (rindexes .entry)) (now (rsizes .entry)) permille && fitPasses columns (now (cfirsts .entry)) (now (clasts .entry)) (now (cindexes .entry)) (now (csizes .entry)) permille ⌝ }
+{
+    if !fit_passes(rows, permille, rfirsts, rlasts, rindexes, rsizes) {
+        return false;
+    }
+    fit_passes(columns, permille, cfirsts, clasts, cindexes, csizes)
+}
+
+// The scale at which both axes fit: 100 with a note where they do not fit there, and else by halving from 100 to 1,000.
+pub(crate) fn fit_scale(
+    rows: Fit,
+    columns: Fit,
+    rfirsts: &[u32],
+    rlasts: &[u32],
+    rindexes: &[u32],
+    rsizes: &[u64],
+    cfirsts: &[u32],
+    clasts: &[u32],
+    cindexes: &[u32],
+    csizes: &[u64],
+) -> ChosenScale
+    requires { ⌜ Fitted rows (now rfirsts) (now rlasts) (now rindexes) (now rsizes) ⌝ }
+    requires { ⌜ Fitted columns (now cfirsts) (now clasts) (now cindexes) (now csizes) ⌝ }
+    ensures { λ r. ⌜ scaleOf r ≡ fitScale (λ p. fitPasses rows (now (rfirsts .entry)) (now (rlasts .entry)) (now (rindexes .entry)) (now (rsizes .entry)) p && fitPasses columns (now (cfirsts .entry)) (now (clasts .entry)) (now (cindexes .entry)) (now (csizes .entry)) p) ⌝ }
+{
+    if !both_pass(
+        rows,
+        columns,
+        100,
+        rfirsts,
+        rlasts,
+        rindexes,
+        rsizes,
+        cfirsts,
+        clasts,
+        cindexes,
+        csizes,
+    ) {
+        return ChosenScale {
+            permille: 100,
+            clamp: 0,
+            unreachable: 1,
+        };
+    }
+    let mut low: u16 = 100;
+    let mut high: u16 = 1000;
+    while low < high {
+        let middle = low + (high - low + 1) / 2;
+        if both_pass(
+            rows,
+            columns,
+            middle,
+            rfirsts,
+            rlasts,
+            rindexes,
+            rsizes,
+            cfirsts,
+            clasts,
+            cindexes,
+            csizes,
+        ) {
+            low = middle;
+        } else {
+            high = middle - 1;
+        }
+    }
+    ChosenScale {
+        permille: low,
+        clamp: 0,
+        unreachable: 0,
+    }
 }
