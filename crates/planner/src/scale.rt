@@ -13,7 +13,7 @@ ghost use lib.ListN.{length};
 ghost use Rattle.planner.specs.Slots.{Slots};
 ghost use Rattle.planner.specs.Titles.{pastTitle};
 ghost use Rattle.planner.specs.Runs.{runs};
-ghost use Rattle.planner.specs.Scale.{orElse, fixedScale, capacityOf, fitsSide, allFit, meets, axisPasses, fitScale, spaceOf, scaleOf, bodyFor, titled, Low, fitPasses, Fitted};
+ghost use Rattle.planner.specs.Scale.{orElse, fixedScale, capacityOf, fitsSide, allFit, meets, axisPasses, halve, fitScale, spaceOf, scaleOf, bodyFor, titled, Low, fitPasses, Fitted};
 
 // A scale in thousandths, and its two notes.
 pub(crate) struct ChosenScale {
@@ -257,7 +257,49 @@ fn both_pass(
     fit_passes(columns, permille, cfirsts, clasts, cindexes, csizes)
 }
 
-// The scale at which both axes fit: 100 with a note where they do not fit there, and else by halving from 100 to 1,000.
+// The halving from 100 to 1,000.
+fn halved_permille(
+    rows: Fit,
+    columns: Fit,
+    rfirsts: &[u32],
+    rlasts: &[u32],
+    rindexes: &[u32],
+    rsizes: &[u64],
+    cfirsts: &[u32],
+    clasts: &[u32],
+    cindexes: &[u32],
+    csizes: &[u64],
+) -> u16
+    requires { ⌜ Fitted rows (now rfirsts) (now rlasts) (now rindexes) (now rsizes) ⌝ }
+    requires { ⌜ Fitted columns (now cfirsts) (now clasts) (now cindexes) (now csizes) ⌝ }
+    ensures { λ r. ⌜ r ≡ halve (λ p. fitPasses rows (now (rfirsts .entry)) (now (rlasts .entry)) (now (rindexes .entry)) (now (rsizes .entry)) p && fitPasses columns (now (cfirsts .entry)) (now (clasts .entry)) (now (cindexes .entry)) (now (csizes .entry)) p) 10 100 1000 ⌝ }
+{
+    let mut low: u16 = 100;
+    let mut high: u16 = 1000;
+    while low < high {
+        let middle = low + (high - low + 1) / 2;
+        if both_pass(
+            rows,
+            columns,
+            middle,
+            rfirsts,
+            rlasts,
+            rindexes,
+            rsizes,
+            cfirsts,
+            clasts,
+            cindexes,
+            csizes,
+        ) {
+            low = middle;
+        } else {
+            high = middle - 1;
+        }
+    }
+    low
+}
+
+// The scale at which both axes fit: 100 with a note where they do not fit there, and else by halving.
 pub(crate) fn fit_scale(
     rows: Fit,
     columns: Fit,
@@ -293,14 +335,10 @@ pub(crate) fn fit_scale(
             unreachable: 1,
         };
     }
-    let mut low: u16 = 100;
-    let mut high: u16 = 1000;
-    while low < high {
-        let middle = low + (high - low + 1) / 2;
-        if both_pass(
+    ChosenScale {
+        permille: halved_permille(
             rows,
             columns,
-            middle,
             rfirsts,
             rlasts,
             rindexes,
@@ -309,14 +347,7 @@ pub(crate) fn fit_scale(
             clasts,
             cindexes,
             csizes,
-        ) {
-            low = middle;
-        } else {
-            high = middle - 1;
-        }
-    }
-    ChosenScale {
-        permille: low,
+        ),
         clamp: 0,
         unreachable: 0,
     }

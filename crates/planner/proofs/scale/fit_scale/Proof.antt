@@ -1,111 +1,30 @@
--- `planner::scale::fit_scale` meets its contract. The loop's invariant: halving from here on gives what halving from 100 to 1,000 does. Assumes nothing.
-use mathlib.Core.Path.{_≡_, refl, sym, ap, _∙_}
-use mathlib.Core.Bool.{Bool, true, false, _&&_}
-use mathlib.Core.List.{List}
-use Prim.Native.Nat.{ℕ, _+_, _-_, _/_, _≤_, _<_}
-use native.Mathlib.Omega.{arith}
-use lib.Dec.{lit<}
+-- `planner::scale::fit_scale` meets its contract. Assumes nothing.
+use mathlib.Core.Path.{sym, _∙_}
+use mathlib.Core.Bool.{_&&_}
 use borrow.Author.Tests.{not-true, not-false}
-use Rattle.planner.specs.declared.scale.Fit.{Fit}
-use Rattle.planner.specs.Scale.{fitPasses, middle, halve}
-use Rattle.planner.proofs.Halving.{Halving, halving-stop, halving-up, halving-down}
+use Rattle.planner.specs.Scale.{fitPasses}
 use Rattle.planner.proofs.ScaleLaws.{fit-none, fit-found}
 use borrow.Author.Needs.{needs}
 use Rattle.planner.proofs.scale.fit_scale.Statement.{statement}
 use Rattle.planner.proofs.scale.fit_scale.Tie as tie
 
--- the test of both axes
-abbrev test : Fit → Fit → List ℕ → List ℕ → List ℕ → List ℕ → List ℕ → List ℕ → List ℕ → List ℕ → ℕ → Bool
-test rows columns rf rl ri rs cf cl ci cs p = fitPasses rows rf rl ri rs p && fitPasses columns cf cl ci cs p
-
-abbrev Inv-loop : tie.InvT-loop
-Inv-loop rows columns rfirsts rlasts rindexes rsizes cfirsts clasts cindexes csizes low₀ high₀ low high =
-    (100 ≤ low) × (high ≤ 1000) × (low ≤ high) × Halving (test rows columns rfirsts rlasts rindexes rsizes cfirsts clasts cindexes csizes) (halve (test rows columns rfirsts rlasts rindexes rsizes cfirsts clasts cindexes csizes) 10 100 1000) low high
-
-abbrev μ-loop : tie.MeasureT-loop
-μ-loop rows columns rfirsts rlasts rindexes rsizes cfirsts clasts cindexes csizes low₀ high₀ low high = high - low
-
-both-pass-requires : tie.Need-both-pass-requires Inv-loop μ-loop
+both-pass-requires : tie.Need-both-pass-requires
 both-pass-requires c κs = search needs
 
-returns : tie.Need-returns Inv-loop μ-loop
+returns : tie.Need-returns
 returns c =
     let b = c .before in
     let a = b .before .before .before .before .before .before .before .before .before .args in
-    fit-none (test (a .rows) (a .columns) (a .rfirsts .now) (a .rlasts .now) (a .rindexes .now) (a .rsizes .now) (a .cfirsts .now) (a .clasts .now) (a .cindexes .now) (a .csizes .now)) (sym (b .both-pass .ensures) ∙ not-true (b .both-pass .result) (c .if1 .taken))
+    fit-none (λ p. fitPasses (a .rows) (a .rfirsts .now) (a .rlasts .now) (a .rindexes .now) (a .rsizes .now) p && fitPasses (a .columns) (a .cfirsts .now) (a .clasts .now) (a .cindexes .now) (a .csizes .now) p) (sym (b .both-pass .ensures) ∙ not-true (b .both-pass .result) (c .if1 .taken))
 
-loop-holds : tie.Need-loop-holds Inv-loop μ-loop
-loop-holds c = (omega arith, omega arith, omega arith, record { turns = 10; enough = lit< tt; same = refl })
+halved-permille-requires : tie.Need-halved-permille-requires
+halved-permille-requires c κs = search needs
 
-sub-middle : tie.Need-sub-middle Inv-loop μ-loop
-sub-middle c = search needs
-
-add-middle : tie.Need-add-middle Inv-loop μ-loop
-add-middle c = search needs
-
-add-middle-2 : tie.Need-add-middle-2 Inv-loop μ-loop
-add-middle-2 c = search needs
-
-both-pass-requires-2 : tie.Need-both-pass-requires-2 Inv-loop μ-loop
-both-pass-requires-2 c κs = search needs
-
-loop-less : tie.Need-loop-less Inv-loop μ-loop
-loop-less c = search needs
-
-loop-again : tie.Need-loop-again Inv-loop μ-loop
-unfolding middle
-loop-again c =
-    let l = c .before .before .before .loop in
-    let a = c .before .before .before .before .before .before .before .before .before .before .before .before .before .before .args in
-    let taken = c .before .before .loop-test .taken in (
-      omega (arith, taken, l .inv .0),
-      l .inv .1,
-      omega (arith, taken),
-      halving-up (test (a .rows) (a .columns) (a .rfirsts .now) (a .rlasts .now) (a .rindexes .now) (a .rsizes .now) (a .cfirsts .now) (a .clasts .now) (a .cindexes .now) (a .csizes .now)) (halve (test (a .rows) (a .columns) (a .rfirsts .now) (a .rlasts .now) (a .rindexes .now) (a .rsizes .now) (a .cfirsts .now) (a .clasts .now) (a .cindexes .now) (a .csizes .now)) 10 100 1000) (l .low) (l .high) taken (sym (c .before .both-pass2 .ensures) ∙ c .if2 .taken) (l .inv .3),
-    )
-
-sub-high : tie.Need-sub-high Inv-loop μ-loop
-sub-high c = search needs
-
-loop-less-2 : tie.Need-loop-less-2 Inv-loop μ-loop
-loop-less-2 c = search needs
-
-loop-again-2 : tie.Need-loop-again-2 Inv-loop μ-loop
-unfolding middle
-loop-again-2 c =
-    let l = c .before .before .before .loop in
-    let a = c .before .before .before .before .before .before .before .before .before .before .before .before .before .before .args in
-    let taken = c .before .before .loop-test .taken in (
-      l .inv .0,
-      omega (arith, taken, l .inv .1),
-      omega (arith, taken),
-      halving-down (test (a .rows) (a .columns) (a .rfirsts .now) (a .rlasts .now) (a .rindexes .now) (a .rsizes .now) (a .cfirsts .now) (a .clasts .now) (a .cindexes .now) (a .csizes .now)) (halve (test (a .rows) (a .columns) (a .rfirsts .now) (a .rlasts .now) (a .rindexes .now) (a .rsizes .now) (a .cfirsts .now) (a .clasts .now) (a .cindexes .now) (a .csizes .now)) 10 100 1000) (l .low) (l .high) taken (sym (c .before .both-pass2 .ensures) ∙ c .if2 .left) (l .inv .3),
-    )
-
-returns-2 : tie.Need-returns-2 Inv-loop μ-loop
+returns-2 : tie.Need-returns-2
 returns-2 c =
-    let l = c .before .loop in
-    let b = c .before .before .before in
+    let b = c .before .before in
     let a = b .before .before .before .before .before .before .before .before .before .args in
-    fit-found (test (a .rows) (a .columns) (a .rfirsts .now) (a .rlasts .now) (a .rindexes .now) (a .rsizes .now) (a .cfirsts .now) (a .clasts .now) (a .cindexes .now) (a .csizes .now)) (l .low) (sym (b .both-pass .ensures) ∙ not-false (b .both-pass .result) (c .before .before .if1 .left))
-    (halving-stop (test (a .rows) (a .columns) (a .rfirsts .now) (a .rlasts .now) (a .rindexes .now) (a .rsizes .now) (a .cfirsts .now) (a .clasts .now) (a .cindexes .now) (a .csizes .now)) (halve (test (a .rows) (a .columns) (a .rfirsts .now) (a .rlasts .now) (a .rindexes .now) (a .rsizes .now) (a .cfirsts .now) (a .clasts .now) (a .cindexes .now) (a .csizes .now)) 10 100 1000) (l .low) (l .high) (c .loop-test .left) (l .inv .3))
+    fit-found (λ p. fitPasses (a .rows) (a .rfirsts .now) (a .rlasts .now) (a .rindexes .now) (a .rsizes .now) p && fitPasses (a .columns) (a .cfirsts .now) (a .clasts .now) (a .cindexes .now) (a .csizes .now) p) (c .halved-permille .result) (sym (b .both-pass .ensures) ∙ not-false (b .both-pass .result) (c .before .if1 .left)) (c .halved-permille .ensures)
 
 pub fit-scale-spec : {M : Type 1} → statement M
-fit-scale-spec =
-    tie.close
-    (tie.spec
-    Inv-loop
-    μ-loop
-    both-pass-requires
-    returns
-    loop-holds
-    sub-middle
-    add-middle
-    add-middle-2
-    both-pass-requires-2
-    loop-less
-    loop-again
-    sub-high
-    loop-less-2
-    loop-again-2
-    returns-2)
+fit-scale-spec = tie.close (tie.spec both-pass-requires returns halved-permille-requires returns-2)

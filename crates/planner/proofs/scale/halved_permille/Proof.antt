@@ -1,0 +1,96 @@
+-- `planner::scale::halved_permille` meets its contract. The loop's invariant: halving from here on gives what halving from 100 to 1,000 does. Assumes nothing.
+use mathlib.Core.Path.{_≡_, refl, sym, _∙_}
+use mathlib.Core.Bool.{Bool, _&&_}
+use mathlib.Core.List.{List}
+use Prim.Native.Nat.{ℕ, _+_, _-_, _/_, _≤_, _<_}
+use native.Mathlib.Omega.{arith}
+use lib.Dec.{lit<}
+use Rattle.planner.specs.declared.scale.Fit.{Fit}
+use Rattle.planner.specs.Scale.{fitPasses, middle, halve}
+use Rattle.planner.proofs.Halving.{Halving, halving-stop, halving-up, halving-down}
+use borrow.Author.Needs.{needs}
+use Rattle.planner.proofs.scale.halved_permille.Statement.{statement}
+use Rattle.planner.proofs.scale.halved_permille.Tie as tie
+
+-- the test of both axes
+abbrev test : Fit → Fit → List ℕ → List ℕ → List ℕ → List ℕ → List ℕ → List ℕ → List ℕ → List ℕ → ℕ → Bool
+test rows columns rf rl ri rs cf cl ci cs p = fitPasses rows rf rl ri rs p && fitPasses columns cf cl ci cs p
+
+abbrev Inv-loop : tie.InvT-loop
+Inv-loop rows columns rfirsts rlasts rindexes rsizes cfirsts clasts cindexes csizes low₀ high₀ low high =
+    (100 ≤ low) × (high ≤ 1000) × (low ≤ high) × Halving (test rows columns rfirsts rlasts rindexes rsizes cfirsts clasts cindexes csizes) (halve (test rows columns rfirsts rlasts rindexes rsizes cfirsts clasts cindexes csizes) 10 100 1000) low high
+
+abbrev μ-loop : tie.MeasureT-loop
+μ-loop rows columns rfirsts rlasts rindexes rsizes cfirsts clasts cindexes csizes low₀ high₀ low high = high - low
+
+loop-holds : tie.Need-loop-holds Inv-loop μ-loop
+loop-holds c = (omega arith, omega arith, omega arith, record { turns = 10; enough = lit< tt; same = refl })
+
+sub-middle : tie.Need-sub-middle Inv-loop μ-loop
+sub-middle c = search needs
+
+add-middle : tie.Need-add-middle Inv-loop μ-loop
+add-middle c = search needs
+
+add-middle-2 : tie.Need-add-middle-2 Inv-loop μ-loop
+add-middle-2 c = search needs
+
+both-pass-requires : tie.Need-both-pass-requires Inv-loop μ-loop
+both-pass-requires c κs = search needs
+
+loop-less : tie.Need-loop-less Inv-loop μ-loop
+loop-less c = search needs
+
+loop-again : tie.Need-loop-again Inv-loop μ-loop
+unfolding middle
+loop-again c =
+    let l = c .before .before .before .loop in
+    let a = c .before .before .before .before .before .before .before .before .before .before .before .before .args in
+    let taken = c .before .before .loop-test .taken in (
+      omega (arith, taken, l .inv .0),
+      l .inv .1,
+      omega (arith, taken),
+      halving-up (test (a .rows) (a .columns) (a .rfirsts .now) (a .rlasts .now) (a .rindexes .now) (a .rsizes .now) (a .cfirsts .now) (a .clasts .now) (a .cindexes .now) (a .csizes .now)) (halve (test (a .rows) (a .columns) (a .rfirsts .now) (a .rlasts .now) (a .rindexes .now) (a .rsizes .now) (a .cfirsts .now) (a .clasts .now) (a .cindexes .now) (a .csizes .now)) 10 100 1000) (l .low) (l .high) taken (sym (c .before .both-pass .ensures) ∙ c .if1 .taken) (l .inv .3),
+    )
+
+sub-high : tie.Need-sub-high Inv-loop μ-loop
+sub-high c = search needs
+
+loop-less-2 : tie.Need-loop-less-2 Inv-loop μ-loop
+loop-less-2 c = search needs
+
+loop-again-2 : tie.Need-loop-again-2 Inv-loop μ-loop
+unfolding middle
+loop-again-2 c =
+    let l = c .before .before .before .loop in
+    let a = c .before .before .before .before .before .before .before .before .before .before .before .before .args in
+    let taken = c .before .before .loop-test .taken in (
+      l .inv .0,
+      omega (arith, taken, l .inv .1),
+      omega (arith, taken),
+      halving-down (test (a .rows) (a .columns) (a .rfirsts .now) (a .rlasts .now) (a .rindexes .now) (a .rsizes .now) (a .cfirsts .now) (a .clasts .now) (a .cindexes .now) (a .csizes .now)) (halve (test (a .rows) (a .columns) (a .rfirsts .now) (a .rlasts .now) (a .rindexes .now) (a .rsizes .now) (a .cfirsts .now) (a .clasts .now) (a .cindexes .now) (a .csizes .now)) 10 100 1000) (l .low) (l .high) taken (sym (c .before .both-pass .ensures) ∙ c .if1 .left) (l .inv .3),
+    )
+
+returns : tie.Need-returns Inv-loop μ-loop
+returns c =
+    let l = c .before .loop in
+    let a = c .before .before .before .before .before .before .before .before .before .before .args in
+    halving-stop (test (a .rows) (a .columns) (a .rfirsts .now) (a .rlasts .now) (a .rindexes .now) (a .rsizes .now) (a .cfirsts .now) (a .clasts .now) (a .cindexes .now) (a .csizes .now)) (halve (test (a .rows) (a .columns) (a .rfirsts .now) (a .rlasts .now) (a .rindexes .now) (a .rsizes .now) (a .cfirsts .now) (a .clasts .now) (a .cindexes .now) (a .csizes .now)) 10 100 1000) (l .low) (l .high) (c .loop-test .left) (l .inv .3)
+
+pub halved-permille-spec : {M : Type 1} → statement M
+halved-permille-spec =
+    tie.close
+    (tie.spec
+    Inv-loop
+    μ-loop
+    loop-holds
+    sub-middle
+    add-middle
+    add-middle-2
+    both-pass-requires
+    loop-less
+    loop-again
+    sub-high
+    loop-less-2
+    loop-again-2
+    returns)
