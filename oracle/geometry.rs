@@ -13,7 +13,6 @@
 // The answer is the numbers, with the count of notes last for p, m and a, or `no 10`.
 #![allow(dead_code)]
 
-use std::io::{self, BufRead, BufWriter, Write};
 
 include!("shim.rs");
 
@@ -140,10 +139,5 @@ fn answer(line: &str) -> String {
 }
 
 fn main() {
-    let mut out = BufWriter::new(io::stdout().lock());
-    for line in io::stdin().lock().lines() {
-        let line = line.expect("a line of text");
-        writeln!(out, "{}", answer(&line)).expect("room for the answer");
-    }
-    out.flush().expect("room for the answers");
+    answer_lines(answer);
 }

@@ -24,7 +24,6 @@
 // largest: that lies beyond every column, or every sum, too.
 #![allow(dead_code)]
 
-use std::io::{self, BufRead, BufWriter, Write};
 
 include!("shim.rs");
 
@@ -368,10 +367,5 @@ fn answer(line: &str) -> String {
 }
 
 fn main() {
-    let mut out = BufWriter::new(io::stdout().lock());
-    for line in io::stdin().lock().lines() {
-        let line = line.expect("a line of text");
-        writeln!(out, "{}", answer(&line)).expect("room for the answer");
-    }
-    out.flush().expect("room for the answers");
+    answer_lines(answer);
 }

@@ -2,6 +2,7 @@
 // sees the private items too.
 use std::collections::{BTreeMap, BTreeSet};
 use std::fmt;
+use std::io::{self, BufRead, BufWriter, Write};
 
 include!("taken.rs");
 
@@ -21,4 +22,14 @@ impl Sheet {
 struct MeasuredAxisSlot<I> {
     index: I,
     size: Fixed,
+}
+
+/// Answers each line of standard input by a line of standard output.
+fn answer_lines(answer: fn(&str) -> String) {
+    let mut out = BufWriter::new(io::stdout().lock());
+    for line in io::stdin().lock().lines() {
+        let line = line.expect("a line of text");
+        writeln!(out, "{}", answer(&line)).expect("room for the answer");
+    }
+    out.flush().expect("room for the answers");
 }

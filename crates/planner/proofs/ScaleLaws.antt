@@ -1,6 +1,6 @@
 -- Laws of `specs/Scale.antt`'s definitions. Assumes nothing.
 use mathlib.Core.Path.{_≡_, refl, sym, ap, _∙_}
-use mathlib.Core.Bool.{Bool, true, false, cond, _&&_, _||_}
+use mathlib.Core.Bool.{Bool, true, false, cond, _&&_, _||_, and-true}
 use mathlib.Core.List.{List, [], _∷_}
 use Prim.Native.Nat.{ℕ, _+_, _*_, _≤_, _<_, min, max}
 use native.Mathlib.Omega.{arith}
@@ -54,10 +54,6 @@ module _ (title : Title) (first size titles headings : ℕ) where
 pub fit-more : (a b c : Bool) → a && b && c ≡ a && (b && c)
 fit-more true b c = refl
 fit-more false b c = refl
-
-pub and-true : (b : Bool) → b && true ≡ b
-and-true true = refl
-and-true false = refl
 
 or-true : (a b : Bool) → b ≡ true → a || b ≡ true
 or-true true b e = refl

@@ -1,15 +1,11 @@
 -- `geometry::paper::usable` meets its contract: a float at least 0 and below infinity is finite. Assumes nothing.
 use mathlib.Core.Path.{_≡_, refl}
-use mathlib.Core.Bool.{Bool, true, false, _&&_}
+use mathlib.Core.Bool.{true, false, _&&_, and-true}
 use lib.IntN.{pos}
 use lib.Ieee.{Float, nan, inf, fin, le, lt, eq, div, ofBits, binary64}
 use Rattle.geometry.specs.Paper.{usable}
 use Rattle.geometry.proofs.paper.usable.Statement.{statement}
 use Rattle.geometry.proofs.paper.usable.Tie as tie
-
-and-true : (b : Bool) → b && true ≡ b
-and-true true = refl
-and-true false = refl
 
 is-usable : (x : Float) → le (fin false 0 (pos 0)) x && lt x (inf false) ≡ usable x
 unfolding le lt eq

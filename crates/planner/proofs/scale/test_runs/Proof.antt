@@ -1,6 +1,6 @@
 -- `planner::scale::test_runs` meets its contract. The loop's invariant: the runs counted and tested so far, and those of the slots that are left, are all. Assumes nothing.
 use mathlib.Core.Path.{_≡_, refl, sym, ap, _∙_}
-use mathlib.Core.Bool.{Bool, true, cond, _&&_}
+use mathlib.Core.Bool.{Bool, true, cond, _&&_, and-true}
 use mathlib.Core.List.{List}
 use Prim.Native.Nat.{ℕ, _+_, _-_, _^_, _<_, _≤_}
 use native.Mathlib.Omega.{arith}
@@ -13,7 +13,7 @@ use Rattle.planner.specs.Runs.{Run, run, runs}
 use Rattle.planner.specs.Scale.{fitsSide, allFit, rendered, spaceOf, titled}
 use Rattle.planner.proofs.Laws.{part, length-part, slots-part, small-take, turn, none}
 use Rattle.planner.proofs.TitleLaws.{small-sum}
-use Rattle.planner.proofs.ScaleLaws.{fit-more, and-true}
+use Rattle.planner.proofs.ScaleLaws.{fit-more}
 use borrow.Author.Needs.{needs}
 use Rattle.planner.proofs.scale.test_runs.Statement.{statement}
 use Rattle.planner.proofs.scale.test_runs.Tie as tie
