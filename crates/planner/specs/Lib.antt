@@ -6,5 +6,7 @@ pub mod Runs
 pub mod Lent
 pub mod Partition
 pub mod Scale
+pub mod Pages
+pub mod Plan
 pub mod Division
 pub mod Fitting

@@ -62,8 +62,8 @@ partitionOutcome (Value t) = given t
 partitionOutcome (Refused n) = refused n
 
 -- a lent list after the call: the values and what stood behind them, or, where the call is refused, the list as it was
-abbrev pub lent : Outcome Tally → List ℕ → List ℕ → List ℕ
-lent (given t) values old = written values old
+abbrev pub lent : {A : Type 0} → Outcome A → List ℕ → List ℕ → List ℕ
+lent (given a) values old = written values old
 lent (refused n) values old = old
 
 -- the answer r and the four lent lists, which were f₀, l₀, s₀, m₀, where the outcome is o and the runs are rs

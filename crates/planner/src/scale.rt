@@ -37,7 +37,7 @@ pub(crate) struct Stretch {
 }
 
 // A setting, or what its absence means.
-fn or_else(setting: Setting, absent: u16) -> u16
+pub(crate) fn or_else(setting: Setting, absent: u16) -> u16
     ensures { λ r. ⌜ r ≡ orElse setting absent ⌝ }
 {
     match setting {

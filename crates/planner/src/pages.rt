@@ -1,0 +1,215 @@
+// Pages of a plan: document 01, section "Pages".
+use crate::scale::PageSide;
+use crate::scale::fits_side;
+use crate::titles::Title;
+ghost use mathlib.Core.Path.{_≡_};
+ghost use mathlib.Core.Bool.{cond, _||_};
+ghost use Prim.Native.Nat.{_+_, _≤_, _<_, _^_};
+ghost use lib.ListN.{length};
+ghost use Rattle.planner.specs.Titles.{pastTitle};
+ghost use Rattle.planner.specs.Scale.{spaceOf, Low};
+ghost use Rattle.planner.specs.Pages as section;
+
+pub enum PageOrder {
+    DownThenOver,
+    OverThenDown,
+}
+
+// How often each of the nine things happened that a reader of the plan is told.
+pub struct Notes {
+    pub unknown_paper: u64,
+    pub invalid_margins: u64,
+    pub scale_clamped: u64,
+    pub fit_unreachable: u64,
+    pub titles_ignored: u64,
+    pub titles_expanded: u64,
+    pub merge_expansions: u64,
+    pub break_shifts: u64,
+    pub overflowing_runs: u64,
+}
+
+// A finished plan. Its runs stand in the lists that were lent to it.
+pub struct Plan {
+    pub permille: u16,
+    pub row_runs: usize,
+    pub column_runs: usize,
+    pub rows_empty: bool,
+    pub columns_empty: bool,
+    pub pages: u64,
+    pub order: PageOrder,
+    pub notes: Notes,
+}
+
+// A run of rows or columns of a page.
+pub struct PageRun {
+    pub first: u32,
+    pub last: u32,
+    pub size: u64,
+    pub empty_body: bool,
+    pub manual_break: bool,
+}
+
+// A page: the numbers of its two runs, from 0, and the runs.
+pub struct Page {
+    pub vertical: usize,
+    pub horizontal: usize,
+    pub rows: PageRun,
+    pub columns: PageRun,
+}
+
+// What `page_numbered` answers: the page, or a refusal with its number.
+pub enum PageAnswer {
+    Value(Page),
+    Refused(u8),
+}
+
+// What a run takes of a page: its size and the headings, and the titles where it lies past the title or its body is empty.
+fn printed(page: PageSide, title: Title, empty: bool, first: u32, size: u64) -> u64 {
+    if empty {
+        return size + page.titles + page.headings;
+    }
+    let Title::Pair(_, last) = title else {
+        return size + page.headings;
+    };
+    if first > last {
+        return size + page.titles + page.headings;
+    }
+    size + page.headings
+}
+
+// How many runs exceed the content side, scaled and rounded.
+pub(crate) fn overflowing_runs(
+    page: PageSide,
+    title: Title,
+    permille: u16,
+    empty: bool,
+    firsts: &[u32],
+    sizes: &[u64],
+) -> u64 {
+    let mut count = 0;
+    let mut i = 0;
+    while i < firsts.len() {
+        let whole = printed(page, title, empty, firsts[i], sizes[i]);
+        if !fits_side(page, permille, whole) {
+            count += 1;
+        }
+        i += 1;
+    }
+    count
+}
+
+// Where a page stands: the numbers of its two runs, from 0.
+pub struct Place {
+    pub vertical: usize,
+    pub horizontal: usize,
+}
+
+// The place of the page that has so many pages before it.
+fn place_of(order: PageOrder, row_runs: usize, column_runs: usize, before: usize) -> Place {
+    match order {
+        PageOrder::DownThenOver => Place {
+            vertical: before % row_runs,
+            horizontal: before / row_runs,
+        },
+        PageOrder::OverThenDown => Place {
+            vertical: before / column_runs,
+            horizontal: before % column_runs,
+        },
+    }
+}
+
+fn run_at(
+    at: usize,
+    empty_body: bool,
+    firsts: &[u32],
+    lasts: &[u32],
+    sizes: &[u64],
+    marks: &[u8],
+) -> PageRun {
+    PageRun {
+        first: firsts[at],
+        last: lasts[at],
+        size: sizes[at],
+        empty_body,
+        manual_break: marks[at] > 0,
+    }
+}
+
+// The page of a plan with a number from 1 to its count, over the run lists that were lent to the plan.
+pub fn page_numbered(
+    plan: Plan,
+    number: u64,
+    row_firsts: &[u32],
+    row_lasts: &[u32],
+    row_sizes: &[u64],
+    row_marks: &[u8],
+    column_firsts: &[u32],
+    column_lasts: &[u32],
+    column_sizes: &[u64],
+    column_marks: &[u8],
+) -> PageAnswer {
+    let rows_even = (row_firsts.len() == row_lasts.len())
+        & (row_firsts.len() == row_sizes.len())
+        & (row_firsts.len() == row_marks.len());
+    let columns_even = (column_firsts.len() == column_lasts.len())
+        & (column_firsts.len() == column_sizes.len())
+        & (column_firsts.len() == column_marks.len());
+    if !(rows_even & columns_even) {
+        return PageAnswer::Refused(6);
+    }
+    if plan.row_runs > row_firsts.len() {
+        return PageAnswer::Refused(11);
+    }
+    if plan.column_runs > column_firsts.len() {
+        return PageAnswer::Refused(11);
+    }
+    if number == 0 {
+        return PageAnswer::Refused(14);
+    }
+    if number > plan.pages {
+        return PageAnswer::Refused(14);
+    }
+    if plan.row_runs == 0 {
+        return PageAnswer::Refused(14);
+    }
+    if plan.column_runs == 0 {
+        return PageAnswer::Refused(14);
+    }
+    let order = plan.order;
+    let place = place_of(
+        order,
+        plan.row_runs,
+        plan.column_runs,
+        (number - 1) as usize,
+    );
+    let vertical = place.vertical;
+    let horizontal = place.horizontal;
+    if vertical >= plan.row_runs {
+        return PageAnswer::Refused(14);
+    }
+    if horizontal >= plan.column_runs {
+        return PageAnswer::Refused(14);
+    }
+    let rows = run_at(
+        vertical,
+        plan.rows_empty,
+        row_firsts,
+        row_lasts,
+        row_sizes,
+        row_marks,
+    );
+    let columns = run_at(
+        horizontal,
+        plan.columns_empty,
+        column_firsts,
+        column_lasts,
+        column_sizes,
+        column_marks,
+    );
+    PageAnswer::Value(Page {
+        vertical,
+        horizontal,
+        rows,
+        columns,
+    })
+}

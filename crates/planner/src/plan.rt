@@ -1,0 +1,713 @@
+// The plan call: questions, scale, cuts and notes for both axes of a range.
+use crate::pages::Notes;
+use crate::pages::PageOrder;
+use crate::pages::Plan;
+use crate::pages::overflowing_runs;
+use crate::questions::all_small;
+use crate::questions::all_within;
+use crate::questions::pairs_ordered;
+use crate::questions::rising_within;
+use crate::runs::Frame;
+use crate::runs::count_axis;
+use crate::runs::slots_below;
+use crate::runs::wide;
+use crate::runs::write_axis;
+use crate::scale::ChosenScale;
+use crate::scale::Fit;
+use crate::scale::PageSide;
+use crate::scale::Stretch;
+use crate::scale::capacity_at;
+use crate::scale::fit_scale;
+use crate::scale::fixed_scale;
+use crate::scale::or_else;
+use crate::titles::Axis;
+use crate::titles::Title;
+use crate::titles::body_start;
+use crate::titles::title_total;
+use crate::titles::widened_title;
+use geometry::Content;
+use geometry::Fixed;
+use geometry::MarginSetting;
+use geometry::Setting;
+
+// How a range is printed. A target is the most pages in a direction, 0 for any number.
+pub struct Settings {
+    pub paper: Setting,
+    pub landscape: bool,
+    pub margins: MarginSetting,
+    pub percent: Setting,
+    pub fit: bool,
+    pub fit_width: Setting,
+    pub fit_height: Setting,
+    pub order: PageOrder,
+    pub headings: bool,
+    pub page_limit: u64,
+}
+
+pub struct PrintRange {
+    pub first_row: u32,
+    pub first_column: u32,
+    pub last_row: u32,
+    pub last_column: u32,
+}
+
+// What `plan_pages` answers: the plan, or a refusal with its number.
+pub enum Planning {
+    Value(Plan),
+    Refused(u8),
+}
+
+// An axis of a range, as the settings make it.
+pub(crate) struct AxisRange {
+    pub limit: u32,
+    pub first: u32,
+    pub last: u32,
+    pub title: Title,
+    pub side: Fixed,
+    pub headings: u64,
+    pub target: u16,
+}
+
+// An axis that is ready to be cut: what it is fitted by, where its body stands among the slots, and the notes on its title.
+pub(crate) struct Ready {
+    pub fit: Fit,
+    pub from: usize,
+    pub to: usize,
+    pub ignored: u64,
+    pub expanded: u64,
+}
+
+// Widens the title of an axis and finds the body.
+fn ready_axis(
+    axis: AxisRange,
+    indexes: &[u32],
+    sizes: &[u64],
+    merge_firsts: &[u32],
+    merge_lasts: &[u32],
+) -> Ready {
+    let asked = axis.title;
+    let widened = widened_title(axis.limit, asked, merge_firsts, merge_lasts);
+    let title = widened.title;
+    let titles = title_total(title, indexes, sizes);
+    let start = body_start(title, axis.first);
+    let from = slots_below(indexes, start);
+    let end = slots_below(indexes, wide(axis.last) + 1);
+    let side = axis.side;
+    Ready {
+        fit: Fit {
+            page: PageSide {
+                side,
+                headings: axis.headings,
+                titles,
+            },
+            stretch: Stretch {
+                title,
+                lo: start as u32,
+                hi: axis.last,
+            },
+            target: axis.target,
+        },
+        from,
+        to: later(from, end),
+        ignored: widened.ignored,
+        expanded: widened.expanded,
+    }
+}
+
+fn later(a: usize, b: usize) -> usize {
+    if a < b { b } else { a }
+}
+
+// The scale of a plan: by fitting, or by percent.
+fn choose_scale(
+    settings: Settings,
+    rows: Fit,
+    columns: Fit,
+    rfirsts: &[u32],
+    rlasts: &[u32],
+    rindexes: &[u32],
+    rsizes: &[u64],
+    cfirsts: &[u32],
+    clasts: &[u32],
+    cindexes: &[u32],
+    csizes: &[u64],
+) -> ChosenScale {
+    if settings.fit {
+        return fit_scale(
+            rows, columns, rfirsts, rlasts, rindexes, rsizes, cfirsts, clasts, cindexes, csizes,
+        );
+    }
+    let percent = settings.percent;
+    fixed_scale(percent)
+}
+
+// What the runs of an axis go by at a permille.
+fn frame_at(fit: Fit, permille: u16) -> Frame {
+    let page = fit.page;
+    let stretch = fit.stretch;
+    let title = stretch.title;
+    Frame {
+        untitled: capacity_at(page, permille, 0),
+        titled: capacity_at(page, permille, page.titles),
+        title,
+        lo: stretch.lo,
+        hi: stretch.hi,
+    }
+}
+
+// The final cut of an axis: how many runs its pages are made of, whether its body is empty, and the notes on the cut.
+pub(crate) struct FinalCut {
+    pub runs: usize,
+    pub empty: bool,
+    pub expansions: u64,
+    pub shifts: u64,
+}
+
+// Counts the final cut of an axis, without writing it.
+fn count_cut(
+    ready: Ready,
+    permille: u16,
+    merge_firsts: &[u32],
+    merge_lasts: &[u32],
+    breaks: &[u32],
+    indexes: &[u32],
+    sizes: &[u64],
+) -> FinalCut {
+    let fit = ready.fit;
+    let from = ready.from;
+    let to = ready.to;
+    let frame = frame_at(fit, permille);
+    let tally = count_axis(
+        frame,
+        merge_firsts,
+        merge_lasts,
+        breaks,
+        &indexes[from..to],
+        &sizes[from..to],
+    );
+    let empty = tally.runs == 0;
+    FinalCut {
+        runs: if empty { 1 } else { tally.runs },
+        empty,
+        expansions: tally.expansions,
+        shifts: tally.shifts,
+    }
+}
+
+// Writes the run of an axis without slots: at the range's first, size 0.
+fn write_empty(
+    first: u32,
+    run_firsts: &mut [u32],
+    run_lasts: &mut [u32],
+    run_sizes: &mut [u64],
+    run_marks: &mut [u8],
+) {
+    run_firsts[0] = first;
+    run_lasts[0] = first;
+    run_sizes[0] = 0;
+    run_marks[0] = 0;
+}
+
+// Writes the final cut of an axis, and answers how many of its runs overflow.
+fn write_cut(
+    ready: Ready,
+    cut: FinalCut,
+    permille: u16,
+    first: u32,
+    merge_firsts: &[u32],
+    merge_lasts: &[u32],
+    breaks: &[u32],
+    indexes: &[u32],
+    sizes: &[u64],
+    run_firsts: &mut [u32],
+    run_lasts: &mut [u32],
+    run_sizes: &mut [u64],
+    run_marks: &mut [u8],
+) -> u64 {
+    let fit = ready.fit;
+    let page = fit.page;
+    let stretch = fit.stretch;
+    let title = stretch.title;
+    let runs = cut.runs;
+    if cut.empty {
+        write_empty(first, run_firsts, run_lasts, run_sizes, run_marks);
+    } else {
+        let from = ready.from;
+        let to = ready.to;
+        write_axis(
+            frame_at(fit, permille),
+            merge_firsts,
+            merge_lasts,
+            breaks,
+            &indexes[from..to],
+            &sizes[from..to],
+            run_firsts,
+            run_lasts,
+            run_sizes,
+            run_marks,
+        );
+    }
+    overflowing_runs(
+        page,
+        title,
+        permille,
+        cut.empty,
+        &run_firsts[..runs],
+        &run_sizes[..runs],
+    )
+}
+
+// The sides of the content, and the notes on paper and margins.
+pub(crate) struct Sides {
+    pub width: Fixed,
+    pub height: Fixed,
+    pub unknown: u64,
+    pub invalid: u64,
+}
+
+// What the notes of a plan are made of, beside the cuts.
+fn notes_of(
+    sides: Sides,
+    scale: ChosenScale,
+    rows: Ready,
+    columns: Ready,
+    row_cut: FinalCut,
+    column_cut: FinalCut,
+    overflowing: u64,
+) -> Notes {
+    Notes {
+        unknown_paper: sides.unknown,
+        invalid_margins: sides.invalid,
+        scale_clamped: scale.clamp,
+        fit_unreachable: scale.unreachable,
+        titles_ignored: rows.ignored + columns.ignored,
+        titles_expanded: rows.expanded + columns.expanded,
+        merge_expansions: row_cut.expansions + column_cut.expansions,
+        break_shifts: row_cut.shifts + column_cut.shifts,
+        overflowing_runs: overflowing,
+    }
+}
+
+// Cuts both axes at the scale that was chosen: counted before any run is written.
+fn plan_cut(
+    settings: Settings,
+    range: PrintRange,
+    sides: Sides,
+    rows: Ready,
+    columns: Ready,
+    scale: ChosenScale,
+    row_indexes: &[u32],
+    row_sizes: &[u64],
+    column_indexes: &[u32],
+    column_sizes: &[u64],
+    merge_first_rows: &[u32],
+    merge_first_columns: &[u32],
+    merge_last_rows: &[u32],
+    merge_last_columns: &[u32],
+    row_breaks: &[u32],
+    column_breaks: &[u32],
+    row_run_firsts: &mut [u32],
+    row_run_lasts: &mut [u32],
+    row_run_sizes: &mut [u64],
+    row_run_marks: &mut [u8],
+    column_run_firsts: &mut [u32],
+    column_run_lasts: &mut [u32],
+    column_run_sizes: &mut [u64],
+    column_run_marks: &mut [u8],
+) -> Planning {
+    let permille = scale.permille;
+    let row_cut = count_cut(
+        rows,
+        permille,
+        merge_first_rows,
+        merge_last_rows,
+        row_breaks,
+        row_indexes,
+        row_sizes,
+    );
+    let column_cut = count_cut(
+        columns,
+        permille,
+        merge_first_columns,
+        merge_last_columns,
+        column_breaks,
+        column_indexes,
+        column_sizes,
+    );
+    if row_cut.runs > row_run_firsts.len() {
+        return Planning::Refused(11);
+    }
+    if column_cut.runs > column_run_firsts.len() {
+        return Planning::Refused(11);
+    }
+    let pages = (row_cut.runs as u64) * (column_cut.runs as u64);
+    if pages > settings.page_limit {
+        return Planning::Refused(12);
+    }
+    let row_overflows = write_cut(
+        rows,
+        row_cut,
+        permille,
+        range.first_row,
+        merge_first_rows,
+        merge_last_rows,
+        row_breaks,
+        row_indexes,
+        row_sizes,
+        row_run_firsts,
+        row_run_lasts,
+        row_run_sizes,
+        row_run_marks,
+    );
+    let column_overflows = write_cut(
+        columns,
+        column_cut,
+        permille,
+        range.first_column,
+        merge_first_columns,
+        merge_last_columns,
+        column_breaks,
+        column_indexes,
+        column_sizes,
+        column_run_firsts,
+        column_run_lasts,
+        column_run_sizes,
+        column_run_marks,
+    );
+    let order = settings.order;
+    Planning::Value(Plan {
+        permille,
+        row_runs: row_cut.runs,
+        column_runs: column_cut.runs,
+        rows_empty: row_cut.empty,
+        columns_empty: column_cut.empty,
+        pages,
+        order,
+        notes: notes_of(
+            sides,
+            scale,
+            rows,
+            columns,
+            row_cut,
+            column_cut,
+            row_overflows + column_overflows,
+        ),
+    })
+}
+
+// Prepares both axes, chooses the scale and cuts.
+fn plan_axes(
+    settings: Settings,
+    range: PrintRange,
+    sides: Sides,
+    row_axis: AxisRange,
+    column_axis: AxisRange,
+    row_indexes: &[u32],
+    row_sizes: &[u64],
+    column_indexes: &[u32],
+    column_sizes: &[u64],
+    merge_first_rows: &[u32],
+    merge_first_columns: &[u32],
+    merge_last_rows: &[u32],
+    merge_last_columns: &[u32],
+    row_breaks: &[u32],
+    column_breaks: &[u32],
+    row_run_firsts: &mut [u32],
+    row_run_lasts: &mut [u32],
+    row_run_sizes: &mut [u64],
+    row_run_marks: &mut [u8],
+    column_run_firsts: &mut [u32],
+    column_run_lasts: &mut [u32],
+    column_run_sizes: &mut [u64],
+    column_run_marks: &mut [u8],
+) -> Planning {
+    let rows = ready_axis(
+        row_axis,
+        row_indexes,
+        row_sizes,
+        merge_first_rows,
+        merge_last_rows,
+    );
+    let columns = ready_axis(
+        column_axis,
+        column_indexes,
+        column_sizes,
+        merge_first_columns,
+        merge_last_columns,
+    );
+    let row_from = rows.from;
+    let row_to = rows.to;
+    let column_from = columns.from;
+    let column_to = columns.to;
+    let row_fit = rows.fit;
+    let column_fit = columns.fit;
+    let scale = choose_scale(
+        settings,
+        row_fit,
+        column_fit,
+        merge_first_rows,
+        merge_last_rows,
+        &row_indexes[row_from..row_to],
+        &row_sizes[row_from..row_to],
+        merge_first_columns,
+        merge_last_columns,
+        &column_indexes[column_from..column_to],
+        &column_sizes[column_from..column_to],
+    );
+    plan_cut(
+        settings,
+        range,
+        sides,
+        rows,
+        columns,
+        scale,
+        row_indexes,
+        row_sizes,
+        column_indexes,
+        column_sizes,
+        merge_first_rows,
+        merge_first_columns,
+        merge_last_rows,
+        merge_last_columns,
+        row_breaks,
+        column_breaks,
+        row_run_firsts,
+        row_run_lasts,
+        row_run_sizes,
+        row_run_marks,
+        column_run_firsts,
+        column_run_lasts,
+        column_run_sizes,
+        column_run_marks,
+    )
+}
+
+// What paper and margins come to: the content's sides, or the refusal 10.
+pub(crate) enum SidesFound {
+    Value(Sides),
+    CoordinateOverflow,
+}
+
+fn content_sides(settings: Settings) -> SidesFound {
+    let code = settings.paper;
+    let margins = settings.margins;
+    let paper = geometry::paper_geometry(code, settings.landscape);
+    let sheet = paper.geometry;
+    let found = geometry::content_geometry(sheet, margins);
+    let Content::Value(placed) = found else {
+        return SidesFound::CoordinateOverflow;
+    };
+    let content = placed.content;
+    let width = content.width;
+    let height = content.height;
+    SidesFound::Value(Sides {
+        width,
+        height,
+        unknown: paper.unknown_paper,
+        invalid: placed.invalid_margins,
+    })
+}
+
+fn row_range(settings: Settings, range: PrintRange, title: Title, side: Fixed) -> AxisRange {
+    let target = settings.fit_height;
+    AxisRange {
+        limit: Axis::Rows.limit(),
+        first: range.first_row,
+        last: range.last_row,
+        title,
+        side,
+        headings: if settings.headings { 17_408 } else { 0 },
+        target: or_else(target, 1),
+    }
+}
+
+fn column_range(settings: Settings, range: PrintRange, title: Title, side: Fixed) -> AxisRange {
+    let target = settings.fit_width;
+    AxisRange {
+        limit: Axis::Columns.limit(),
+        first: range.first_column,
+        last: range.last_column,
+        title,
+        side,
+        headings: if settings.headings { 38_912 } else { 0 },
+        target: or_else(target, 1),
+    }
+}
+
+// The breaks that are looked at: with fit on, none.
+fn looked_at(fit: bool, breaks: usize) -> usize {
+    if fit { 0 } else { breaks }
+}
+
+// 6 of an axis: its lists are equally long, and no first is above its last.
+fn formed(
+    first: u32,
+    last: u32,
+    lent_even: bool,
+    indexes: &[u32],
+    sizes: &[u64],
+    merge_firsts: &[u32],
+    merge_lasts: &[u32],
+) -> bool {
+    let shaped = (indexes.len() == sizes.len())
+        & (merge_firsts.len() == merge_lasts.len())
+        & lent_even
+        & (first <= last);
+    if !shaped {
+        return false;
+    }
+    pairs_ordered(merge_firsts, merge_lasts)
+}
+
+// 7 of an axis: the range and every merge are inside the grid.
+fn in_grid(limit: u32, last: u32, merge_lasts: &[u32]) -> bool {
+    if last > limit {
+        return false;
+    }
+    all_within(merge_lasts, limit)
+}
+
+// The first of the questions 6 to 9 whose answer is no, or 0.
+fn first_no(
+    range: PrintRange,
+    lent_rows_even: bool,
+    lent_columns_even: bool,
+    row_indexes: &[u32],
+    row_sizes: &[u64],
+    column_indexes: &[u32],
+    column_sizes: &[u64],
+    merge_first_rows: &[u32],
+    merge_first_columns: &[u32],
+    merge_last_rows: &[u32],
+    merge_last_columns: &[u32],
+) -> u8 {
+    if !formed(
+        range.first_row,
+        range.last_row,
+        lent_rows_even,
+        row_indexes,
+        row_sizes,
+        merge_first_rows,
+        merge_last_rows,
+    ) {
+        return 6;
+    }
+    if !formed(
+        range.first_column,
+        range.last_column,
+        lent_columns_even,
+        column_indexes,
+        column_sizes,
+        merge_first_columns,
+        merge_last_columns,
+    ) {
+        return 6;
+    }
+    if merge_first_rows.len() != merge_first_columns.len() {
+        return 6;
+    }
+    if !in_grid(Axis::Rows.limit(), range.last_row, merge_last_rows) {
+        return 7;
+    }
+    if !in_grid(
+        Axis::Columns.limit(),
+        range.last_column,
+        merge_last_columns,
+    ) {
+        return 7;
+    }
+    if !rising_within(row_indexes, Axis::Rows.limit()) {
+        return 8;
+    }
+    if !rising_within(column_indexes, Axis::Columns.limit()) {
+        return 8;
+    }
+    if !all_small(row_sizes) {
+        return 9;
+    }
+    if all_small(column_sizes) { 0 } else { 9 }
+}
+
+// Plans the pages of a range: the scale, the runs of rows and columns, which go to the fronts of eight lent lists, and the notes.
+pub fn plan_pages(
+    settings: Settings,
+    range: PrintRange,
+    row_title: Title,
+    column_title: Title,
+    row_indexes: &[u32],
+    row_sizes: &[u64],
+    column_indexes: &[u32],
+    column_sizes: &[u64],
+    merge_first_rows: &[u32],
+    merge_first_columns: &[u32],
+    merge_last_rows: &[u32],
+    merge_last_columns: &[u32],
+    row_breaks: &[u32],
+    column_breaks: &[u32],
+    row_run_firsts: &mut [u32],
+    row_run_lasts: &mut [u32],
+    row_run_sizes: &mut [u64],
+    row_run_marks: &mut [u8],
+    column_run_firsts: &mut [u32],
+    column_run_lasts: &mut [u32],
+    column_run_sizes: &mut [u64],
+    column_run_marks: &mut [u8],
+) -> Planning
+{
+    let lent_rows_even = (row_run_firsts.len() == row_run_lasts.len())
+        & (row_run_firsts.len() == row_run_sizes.len())
+        & (row_run_firsts.len() == row_run_marks.len());
+    let lent_columns_even = (column_run_firsts.len() == column_run_lasts.len())
+        & (column_run_firsts.len() == column_run_sizes.len())
+        & (column_run_firsts.len() == column_run_marks.len());
+    let refusal = first_no(
+        range,
+        lent_rows_even,
+        lent_columns_even,
+        row_indexes,
+        row_sizes,
+        column_indexes,
+        column_sizes,
+        merge_first_rows,
+        merge_first_columns,
+        merge_last_rows,
+        merge_last_columns,
+    );
+    if refusal > 0 {
+        return Planning::Refused(refusal);
+    }
+    let SidesFound::Value(sides) = content_sides(settings) else {
+        return Planning::Refused(10);
+    };
+    let height = sides.height;
+    let width = sides.width;
+    let rows = row_range(settings, range, row_title, height);
+    let columns = column_range(settings, range, column_title, width);
+    let row_kept = looked_at(settings.fit, row_breaks.len());
+    let column_kept = looked_at(settings.fit, column_breaks.len());
+    plan_axes(
+        settings,
+        range,
+        sides,
+        rows,
+        columns,
+        row_indexes,
+        row_sizes,
+        column_indexes,
+        column_sizes,
+        merge_first_rows,
+        merge_first_columns,
+        merge_last_rows,
+        merge_last_columns,
+        &row_breaks[..row_kept],
+        &column_breaks[..column_kept],
+        row_run_firsts,
+        row_run_lasts,
+        row_run_sizes,
+        row_run_marks,
+        column_run_firsts,
+        column_run_lasts,
+        column_run_sizes,
+        column_run_marks,
+    )
+}
