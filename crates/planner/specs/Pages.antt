@@ -2,7 +2,7 @@
 use mathlib.Core.Path.{_≡_}
 use mathlib.Core.Bool.{Bool, true, false, cond, _&&_, _||_}
 use mathlib.Core.List.{List, [], _∷_, _++_, map}
-use Prim.Native.Nat.{ℕ, zero, suc, _+_, _-_, _*_, min}
+use Prim.Native.Nat.{ℕ, zero, suc, _+_, _-_, _*_, _^_, _≤_}
 use lib.Dec.{leb, ltb}
 use lib.ListN.{length, getD, take}
 use Rattle.geometry.specs.Outcome.{Outcome, given, refused}
@@ -14,7 +14,6 @@ use Rattle.planner.specs.declared.pages.Page.{Page}
 use Rattle.planner.specs.declared.pages.Plan.{Plan}
 use Rattle.planner.specs.declared.pages.PageAnswer.{PageAnswer}
 use Rattle.planner.specs.declared.pages.PageAnswer.the-variants.{Value, Refused}
-use Rattle.planner.specs.Slots.{sum}
 use Rattle.planner.specs.Questions.{ask}
 use Rattle.planner.specs.Titles.{pastTitle}
 use Rattle.planner.specs.Runs.{Run}
@@ -39,13 +38,14 @@ orEmpty first (r ∷ rs) = r ∷ rs
 -- ---- overflowing runs
 
 -- "its size plus headings, plus titles where it lies past the title or its body is empty"
-abbrev pub printed : Space → Title → Bool → Run → ℕ
-printed s t empty r = r .size + cond (empty || pastTitle t (r .first)) (s .titles) 0 + s .headings
+abbrev pub printed : Space → Title → Bool → ℕ → ℕ → ℕ
+printed s t empty first size = size + cond (empty || pastTitle t first) (s .titles) 0 + s .headings
 
--- how many runs are such that this, "scaled and rounded at the final permille, exceeds the content side"
-unfoldable pub overflowing : Space → Title → ℕ → Bool → List Run → ℕ
-overflowing s t p empty [] = 0
-overflowing s t p empty (r ∷ rs) = cond (fitsSide s p (printed s t empty r)) 0 1 + overflowing s t p empty rs
+-- of runs by their firsts and sizes: how many are such that this, "scaled and rounded at the final permille, exceeds the content side"
+unfoldable pub overflowing : Space → Title → ℕ → Bool → List ℕ → List ℕ → ℕ
+overflowing s t p empty [] zs = 0
+overflowing s t p empty (f ∷ fs) [] = 0
+overflowing s t p empty (f ∷ fs) (z ∷ zs) = cond (fitsSide s p (printed s t empty f z)) 0 1 + overflowing s t p empty fs zs
 
 -- ---- pages
 
@@ -55,6 +55,9 @@ pub record RunLists : Type 0 where
   pub lasts : List ℕ
   pub sizes : List ℕ
   pub marks : List ℕ
+
+abbrev pub runLists : List ℕ → List ℕ → List ℕ → List ℕ → RunLists
+runLists f l z m = record { firsts = f; lasts = l; sizes = z; marks = m }
 
 -- "A run has first, last, size, empty-body mark, manual-break mark": the run with the number k
 abbrev pub runAt : RunLists → Bool → ℕ → PageRun
@@ -108,3 +111,9 @@ pageNumbered p rows columns n =
 abbrev pub pageOutcome : PageAnswer → Outcome Page
 pageOutcome (Value p) = given p
 pageOutcome (Refused n) = refused n
+
+-- ---- for the private functions
+
+-- sizes of runs
+abbrev pub Moderate : List ℕ → Type 0
+Moderate zs = (k : ℕ) → getD zs k 0 ≤ 2 ^ 50

@@ -3,7 +3,7 @@
 use mathlib.Core.Path.{_≡_}
 use mathlib.Core.Bool.{Bool, true, false, cond, _&&_}
 use mathlib.Core.List.{List, []}
-use Prim.Native.Nat.{ℕ, _+_, _*_}
+use Prim.Native.Nat.{ℕ, _+_, _*_, _^_, _≤_, _<_, max}
 use lib.Dec.{leb}
 use lib.IntN.{ℤ}
 use lib.ListN.{length}
@@ -12,18 +12,26 @@ use Rattle.geometry.specs.Paper.{PaperFound, Placed, paperGeometry, contentGeom
 use Rattle.planner.specs.declared.titles.Axis.the-variants.{Rows, Columns}
 use Rattle.planner.specs.declared.titles.Title.{Title}
 use Rattle.planner.specs.declared.titles.Widened.{Widened}
+use Rattle.planner.specs.declared.runs.Frame.{Frame}
+use Rattle.planner.specs.declared.scale.Fit.{Fit}
 use Rattle.planner.specs.declared.pages.Plan.{Plan}
 use Rattle.planner.specs.declared.plan.Settings.{Settings}
 use Rattle.planner.specs.declared.plan.PrintRange.{PrintRange}
+use Rattle.planner.specs.declared.plan.AxisRange.{AxisRange}
+use Rattle.planner.specs.declared.plan.Ready.{Ready}
+use Rattle.planner.specs.declared.plan.FinalCut.{FinalCut}
+use Rattle.planner.specs.declared.plan.ContentSides.{ContentSides}
+use Rattle.planner.specs.declared.plan.SidesFound.{SidesFound}
+use Rattle.planner.specs.declared.plan.SidesFound.the-variants as found
 use Rattle.planner.specs.declared.plan.Planning.{Planning}
 use Rattle.planner.specs.declared.plan.Planning.the-variants.{Value, Refused}
-use Rattle.planner.specs.Slots.{below, mid}
+use Rattle.planner.specs.Slots.{Slots, below, mid}
 use Rattle.planner.specs.Questions.{ask, equallyLong, allOrdered, allWithin, risingWithin, allSmall}
 use Rattle.planner.specs.Titles.{limitOf, widened, bodyStart, titleTotal}
 use Rattle.planner.specs.Runs.{Run, axisRuns, shifts, expansions}
 use Rattle.planner.specs.Lent.{firsts, lasts, sizes, marks}
-use Rattle.planner.specs.Partition.{lent, lentEven}
-use Rattle.planner.specs.Scale.{Scale, Space, Body, orElse, frameFor, fixedScale, axisPasses, fitScale}
+use Rattle.planner.specs.Partition.{lent, noOr}
+use Rattle.planner.specs.Scale.{Scale, Space, Body, orElse, frameFor, fixedScale, axisPasses, fitScale, spaceOf, bodyFor, Low}
 use Rattle.planner.specs.Pages.{RunLists, evenLists, none, orEmpty, overflowing}
 
 -- ---- an axis, as it is handed over
@@ -153,7 +161,9 @@ abbrev pub bodyIsEmpty : ℤ → AxisInput → ℕ → Bool
 bodyIsEmpty side a p = none (cutRuns side a p)
 
 abbrev pub overflows : ℤ → AxisInput → ℕ → ℕ
-overflows side a p = overflowing (spaceOn side a) (titleOf a .title) p (bodyIsEmpty side a p) (pageRuns side a p)
+overflows side a p =
+    let rs = pageRuns side a p in
+    overflowing (spaceOn side a) (titleOf a .title) p (bodyIsEmpty side a p) (firsts rs) (sizes rs)
 
 -- ---- a plan
 
@@ -188,22 +198,23 @@ planOf s c rows columns scale =
       };
     }
 
+unfoldable pub layoutAt : Settings → Sides → AxisInput → AxisInput → Scale → Layout
+layoutAt s c rows columns scale = record {
+  plan = planOf s c rows columns scale;
+  rows = pageRuns (c .height) rows (scale .permille);
+  columns = pageRuns (c .width) columns (scale .permille);
+}
+
 unfoldable pub layout : Settings → Sides → AxisInput → AxisInput → Layout
-unfolding planOf
-layout s c rows columns =
-    let scale = chosenScale s c rows columns in
-    record {
-      plan = planOf s c rows columns scale;
-      rows = pageRuns (c .height) rows (scale .permille);
-      columns = pageRuns (c .width) columns (scale .permille);
-    }
+layout s c rows columns = layoutAt s c rows columns (chosenScale s c rows columns)
 
 -- ---- the call
 
--- 6 of an axis: "Slices that make up one list equally long, and firsts not above lasts in AR and every MR"
-unfoldable pub formed : AxisInput → RunLists → Bool
-formed a room =
-    equallyLong (a .indexes) (a .sizes) && equallyLong (a .merge-firsts) (a .merge-lasts) && evenLists room && leb (a .first) (a .last)
+-- 6 of an axis, whose lent lists are equally long or not: "Slices that make up one list equally long, and firsts not above lasts in AR and
+-- every MR"
+unfoldable pub formed : AxisInput → Bool → Bool
+formed a lent-even =
+    equallyLong (a .indexes) (a .sizes) && equallyLong (a .merge-firsts) (a .merge-lasts) && lent-even && leb (a .first) (a .last)
     && allOrdered (a .merge-firsts) (a .merge-lasts)
 
 -- 7 of an axis: "AR and every MR inside the grid"
@@ -219,7 +230,7 @@ roomFor l row-room column-room limit =
 -- questions 6 to 12 in order, then the plan; the lent lists are those of the rows and those of the columns
 unfoldable pub planned : Settings → AxisInput → AxisInput → RunLists → RunLists → Outcome Layout
 planned s rows columns lent-rows lent-columns =
-    ask 6 (formed rows lent-rows && formed columns lent-columns && equallyLong (rows .merge-firsts) (columns .merge-firsts))
+    ask 6 (formed rows (evenLists lent-rows) && formed columns (evenLists lent-columns) && equallyLong (rows .merge-firsts) (columns .merge-firsts))
     (ask 7 (inGrid rows && inGrid columns)
     (ask 8 (risingWithin (rows .limit) (rows .indexes) && risingWithin (columns .limit) (columns .indexes))
     (ask 9 (allSmall (rows .sizes) && allSmall (columns .sizes))
@@ -252,3 +263,103 @@ pub record Planned (o : Outcome Layout) (r : Planning) (rows₀ columns₀ rows 
   pub answer : planOutcome r ≡ andThen o (λ (l : Layout). given (l .plan))
   pub rows-are : RunsLent o (rowsIn o) rows₀ rows
   pub columns-are : RunsLent o (columnsIn o) columns₀ columns
+
+-- ---- for the private functions
+
+-- what structs of the code stand for
+abbrev pub axisFor : AxisRange → List ℕ → List ℕ → List ℕ → List ℕ → List ℕ → AxisInput
+axisFor r is ss fs ls bs = record {
+  limit = r .limit;
+  first = r .first;
+  last = r .last;
+  title = r .title;
+  indexes = is;
+  sizes = ss;
+  merge-firsts = fs;
+  merge-lasts = ls;
+  breaks = bs;
+  headings = r .headings;
+  target = r .target;
+}
+
+abbrev pub sidesOf : ContentSides → Sides
+sidesOf c = record { width = c .width .0; height = c .height .0; unknown = c .unknown; invalid = c .invalid }
+
+abbrev pub sidesOutcome : SidesFound → Outcome Sides
+sidesOutcome (found.Value c) = given (sidesOf c)
+sidesOutcome found.CoordinateOverflow = refused 10
+
+-- the sums of the notes of both axes are within u64
+pub record Addable (a b : Ready) (c d : FinalCut) (m n : ℕ) : Type 0 where
+  pub ignored : a .ignored + b .ignored < 2 ^ 64
+  pub expanded : a .expanded + b .expanded < 2 ^ 64
+  pub expansions : c .expansions + d .expansions < 2 ^ 64
+  pub shifts : c .shifts + d .shifts < 2 ^ 64
+  pub overflows : m + n < 2 ^ 64
+
+-- an axis that can be made ready: the questions were answered with yes
+pub record Fine (r : AxisRange) (is ss fs ls : List ℕ) : Type 0 where
+  pub slots : Slots is ss
+  pub merges : length fs ≡ length ls
+  pub merges-inside : allWithin (r .limit) ls ≡ true
+  pub limit-small : r .limit ≤ 1048575
+  pub last-inside : r .last ≤ r .limit
+  pub first-inside : r .first ≤ r .last
+  pub headings-low : r .headings ≤ 2 ^ 50
+
+-- a ready axis is this one
+pub record ReadyFor (r : Ready) (side : ℤ) (a : AxisInput) : Type 0 where
+  pub space-is : spaceOf (r .fit .page) ≡ spaceOn side a
+  pub title-is : r .fit .stretch .title ≡ titleOf a .title
+  pub lo-is : r .fit .stretch .lo ≡ startOf a
+  pub hi-is : r .fit .stretch .hi ≡ a .last
+  pub target-is : r .fit .target ≡ a .target
+  pub from-is : r .from ≡ below (startOf a) (a .indexes)
+  pub to-is : r .to ≡ max (r .from) (below (a .last + 1) (a .indexes))
+  pub ignored-is : r .ignored ≡ titleOf a .ignored
+  pub expanded-is : r .expanded ≡ titleOf a .expanded
+  pub low : Low (r .fit .page)
+
+-- so whatever the breaks
+abbrev pub MadeReady : Ready → ℤ → AxisRange → List ℕ → List ℕ → List ℕ → List ℕ → Type 0
+MadeReady r side axis is ss fs ls = (bs : List ℕ) → ReadyFor r side (axisFor axis is ss fs ls bs)
+
+-- an axis as the settings make it
+abbrev pub AreRows : AxisRange → Settings → PrintRange → Title → Type 0
+AreRows r s g title = (is ss fs ls bs : List ℕ) → axisFor r is ss fs ls (lookedAt (s .fit) bs) ≡ rowsOf s g title is ss fs ls bs
+
+abbrev pub AreColumns : AxisRange → Settings → PrintRange → Title → Type 0
+AreColumns r s g title = (is ss fs ls bs : List ℕ) → axisFor r is ss fs ls (lookedAt (s .fit) bs) ≡ columnsOf s g title is ss fs ls bs
+
+-- what a ready axis has of a list that goes with the indexes
+abbrev pub within : Ready → List ℕ → List ℕ
+within r xs = mid (r .from) (r .to) xs
+
+abbrev pub readyFrame : Fit → ℕ → Frame
+readyFrame f p = frameFor (spaceOf (f .page)) (bodyFor (f .stretch) [] [] [] []) p
+
+abbrev pub readyRuns : Ready → ℕ → List ℕ → List ℕ → List ℕ → List ℕ → List ℕ → List Run
+readyRuns r p is ss fs ls bs = axisRuns (readyFrame (r .fit) p) fs ls (within r is) (within r ss) 0 bs
+
+abbrev pub readyShifts : Ready → ℕ → List ℕ → List ℕ → List ℕ → List ℕ → ℕ
+readyShifts r p is fs ls bs = shifts (readyFrame (r .fit) p) fs ls (within r is) 0 bs
+
+-- the numbers of a final cut
+abbrev pub cutOf : List Run → ℕ → FinalCut
+cutOf rs n = record { runs = length (orEmpty 0 rs); empty = none rs; expansions = expansions rs; shifts = n }
+
+-- the slots of a ready axis
+pub record Cuttable (r : Ready) (is ss fs ls : List ℕ) : Type 0 where
+  pub slots : Slots is ss
+  pub merges : length fs ≡ length ls
+  pub ordered : r .from ≤ r .to
+  pub inside : r .to ≤ length is
+  pub low : Low (r .fit .page)
+
+-- the first of the questions 6 to 9 with the answer no, or 0
+unfoldable pub firstNo : AxisInput → AxisInput → Bool → Bool → ℕ
+firstNo rows columns rows-even columns-even =
+    noOr 6 (formed rows rows-even && formed columns columns-even && equallyLong (rows .merge-firsts) (columns .merge-firsts))
+    (noOr 7 (inGrid rows && inGrid columns)
+    (noOr 8 (risingWithin (rows .limit) (rows .indexes) && risingWithin (columns .limit) (columns .indexes))
+    (noOr 9 (allSmall (rows .sizes) && allSmall (columns .sizes)) 0)))

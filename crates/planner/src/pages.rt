@@ -3,10 +3,9 @@ use crate::scale::PageSide;
 use crate::scale::fits_side;
 use crate::titles::Title;
 ghost use mathlib.Core.Path.{_≡_};
-ghost use mathlib.Core.Bool.{cond, _||_};
-ghost use Prim.Native.Nat.{_+_, _≤_, _<_, _^_};
+ghost use Prim.Native.Nat.{_≤_, _<_, _^_};
 ghost use lib.ListN.{length};
-ghost use Rattle.planner.specs.Titles.{pastTitle};
+ghost use Rattle.planner.specs.Partition.{Even};
 ghost use Rattle.planner.specs.Scale.{spaceOf, Low};
 ghost use Rattle.planner.specs.Pages as section;
 
@@ -64,7 +63,12 @@ pub enum PageAnswer {
 }
 
 // What a run takes of a page: its size and the headings, and the titles where it lies past the title or its body is empty.
-fn printed(page: PageSide, title: Title, empty: bool, first: u32, size: u64) -> u64 {
+fn printed(page: PageSide, title: Title, empty: bool, first: u32, size: u64) -> u64
+    requires { ⌜ Low page ⌝ }
+    requires { ⌜ size ≤ 2 ^ 50 ⌝ }
+    ensures { λ r. ⌜ r ≡ section.printed (spaceOf page) title empty first size ⌝ }
+    ensures { λ r. ⌜ r ≤ 2 ^ 53 ⌝ }
+{
     if empty {
         return size + page.titles + page.headings;
     }
@@ -85,7 +89,12 @@ pub(crate) fn overflowing_runs(
     empty: bool,
     firsts: &[u32],
     sizes: &[u64],
-) -> u64 {
+) -> u64
+    requires { ⌜ Low page ⌝ }
+    requires { ⌜ length (now firsts) ≡ length (now sizes) ⌝ }
+    requires { ⌜ section.Moderate (now sizes) ⌝ }
+    ensures { λ r. ⌜ r ≡ section.overflowing (spaceOf page) title permille empty (now (firsts .entry)) (now (sizes .entry)) ⌝ }
+{
     let mut count = 0;
     let mut i = 0;
     while i < firsts.len() {
@@ -125,7 +134,11 @@ fn run_at(
     lasts: &[u32],
     sizes: &[u64],
     marks: &[u8],
-) -> PageRun {
+) -> PageRun
+    requires { ⌜ Even (now firsts) (now lasts) (now sizes) (now marks) ⌝ }
+    requires { ⌜ at < length (now firsts) ⌝ }
+    ensures { λ r. ⌜ r ≡ section.runAt (section.runLists (now (firsts .entry)) (now (lasts .entry)) (now (sizes .entry)) (now (marks .entry))) «empty_body» at ⌝ }
+{
     PageRun {
         first: firsts[at],
         last: lasts[at],
@@ -147,7 +160,9 @@ pub fn page_numbered(
     column_lasts: &[u32],
     column_sizes: &[u64],
     column_marks: &[u8],
-) -> PageAnswer {
+) -> PageAnswer
+    ensures { λ r. ⌜ section.pageOutcome r ≡ section.pageNumbered plan (section.runLists (now («row_firsts» .entry)) (now («row_lasts» .entry)) (now («row_sizes» .entry)) (now («row_marks» .entry))) (section.runLists (now («column_firsts» .entry)) (now («column_lasts» .entry)) (now («column_sizes» .entry)) (now («column_marks» .entry))) number ⌝ }
+{
     let rows_even = (row_firsts.len() == row_lasts.len())
         & (row_firsts.len() == row_sizes.len())
         & (row_firsts.len() == row_marks.len());

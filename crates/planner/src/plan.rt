@@ -29,6 +29,20 @@ use geometry::Content;
 use geometry::Fixed;
 use geometry::MarginSetting;
 use geometry::Setting;
+ghost use mathlib.Core.Path.{_≡_};
+ghost use mathlib.Core.Bool.{cond, _&&_};
+ghost use mathlib.Core.List.{List, []};
+ghost use Prim.Native.Nat.{ℕ, _+_, _≤_, max};
+ghost use lib.Dec.{leb};
+ghost use lib.ListN.{length};
+ghost use Rattle.planner.specs.Questions.{equallyLong, allOrdered, allWithin};
+ghost use Rattle.planner.specs.Lent.{Room, Written};
+ghost use Rattle.planner.specs.Lent as lists;
+ghost use Rattle.planner.specs.Partition.{Even};
+ghost use Rattle.planner.specs.Scale.{fixedScale, fitScale, spaceOf, scaleOf, fitPasses, Fitted, Low};
+ghost use Rattle.planner.specs.Pages.{emptyRun, none, orEmpty, overflowing};
+ghost use Rattle.planner.specs.Pages as pages;
+ghost use Rattle.planner.specs.Plan as call;
 
 // How a range is printed. A target is the most pages in a direction, 0 for any number.
 pub struct Settings {
@@ -63,7 +77,6 @@ pub(crate) struct AxisRange {
     pub first: u32,
     pub last: u32,
     pub title: Title,
-    pub side: Fixed,
     pub headings: u64,
     pub target: u16,
 }
@@ -80,11 +93,15 @@ pub(crate) struct Ready {
 // Widens the title of an axis and finds the body.
 fn ready_axis(
     axis: AxisRange,
+    side: Fixed,
     indexes: &[u32],
     sizes: &[u64],
     merge_firsts: &[u32],
     merge_lasts: &[u32],
-) -> Ready {
+) -> Ready
+    requires { ⌜ call.Fine axis (now indexes) (now sizes) (now «merge_firsts») (now «merge_lasts») ⌝ }
+    ensures { λ r. ⌜ call.MadeReady r (side .0) axis (now (indexes .entry)) (now (sizes .entry)) (now («merge_firsts» .entry)) (now («merge_lasts» .entry)) ⌝ }
+{
     let asked = axis.title;
     let widened = widened_title(axis.limit, asked, merge_firsts, merge_lasts);
     let title = widened.title;
@@ -92,7 +109,6 @@ fn ready_axis(
     let start = body_start(title, axis.first);
     let from = slots_below(indexes, start);
     let end = slots_below(indexes, wide(axis.last) + 1);
-    let side = axis.side;
     Ready {
         fit: Fit {
             page: PageSide {
@@ -114,7 +130,9 @@ fn ready_axis(
     }
 }
 
-fn later(a: usize, b: usize) -> usize {
+fn later(a: usize, b: usize) -> usize
+    ensures { λ r. ⌜ r ≡ max a b ⌝ }
+{
     if a < b { b } else { a }
 }
 
@@ -131,7 +149,11 @@ fn choose_scale(
     clasts: &[u32],
     cindexes: &[u32],
     csizes: &[u64],
-) -> ChosenScale {
+) -> ChosenScale
+    requires { ⌜ Fitted rows (now rfirsts) (now rlasts) (now rindexes) (now rsizes) ⌝ }
+    requires { ⌜ Fitted columns (now cfirsts) (now clasts) (now cindexes) (now csizes) ⌝ }
+    ensures { λ r. ⌜ scaleOf r ≡ cond (settings .fit) (fitScale (λ p. fitPasses rows (now (rfirsts .entry)) (now (rlasts .entry)) (now (rindexes .entry)) (now (rsizes .entry)) p && fitPasses columns (now (cfirsts .entry)) (now (clasts .entry)) (now (cindexes .entry)) (now (csizes .entry)) p)) (fixedScale (settings .percent)) ⌝ }
+{
     if settings.fit {
         return fit_scale(
             rows, columns, rfirsts, rlasts, rindexes, rsizes, cfirsts, clasts, cindexes, csizes,
@@ -142,7 +164,10 @@ fn choose_scale(
 }
 
 // What the runs of an axis go by at a permille.
-fn frame_at(fit: Fit, permille: u16) -> Frame {
+fn frame_at(fit: Fit, permille: u16) -> Frame
+    requires { ⌜ Low (fit .page) ⌝ }
+    ensures { λ r. ⌜ r ≡ call.readyFrame fit permille ⌝ }
+{
     let page = fit.page;
     let stretch = fit.stretch;
     let title = stretch.title;
@@ -172,7 +197,10 @@ fn count_cut(
     breaks: &[u32],
     indexes: &[u32],
     sizes: &[u64],
-) -> FinalCut {
+) -> FinalCut
+    requires { ⌜ call.Cuttable ready (now indexes) (now sizes) (now «merge_firsts») (now «merge_lasts») ⌝ }
+    ensures { λ r. ⌜ r ≡ call.cutOf (call.readyRuns ready permille (now (indexes .entry)) (now (sizes .entry)) (now («merge_firsts» .entry)) (now («merge_lasts» .entry)) (now (breaks .entry))) (call.readyShifts ready permille (now (indexes .entry)) (now («merge_firsts» .entry)) (now («merge_lasts» .entry)) (now (breaks .entry))) ⌝ }
+{
     let fit = ready.fit;
     let from = ready.from;
     let to = ready.to;
@@ -201,7 +229,10 @@ fn write_empty(
     run_lasts: &mut [u32],
     run_sizes: &mut [u64],
     run_marks: &mut [u8],
-) {
+)
+    requires { ⌜ Room (orEmpty first []) (now «run_firsts») (now «run_lasts») (now «run_sizes») (now «run_marks») ⌝ }
+    ensures { λ _. ⌜ Written (orEmpty first []) 1 (now («run_firsts» .entry)) (now («run_lasts» .entry)) (now («run_sizes» .entry)) (now («run_marks» .entry)) (now («run_firsts» .exit)) (now («run_lasts» .exit)) (now («run_sizes» .exit)) (now («run_marks» .exit)) ⌝ }
+{
     run_firsts[0] = first;
     run_lasts[0] = first;
     run_sizes[0] = 0;
@@ -223,7 +254,13 @@ fn write_cut(
     run_lasts: &mut [u32],
     run_sizes: &mut [u64],
     run_marks: &mut [u8],
-) -> u64 {
+) -> u64
+    requires { ⌜ call.Cuttable ready (now indexes) (now sizes) (now «merge_firsts») (now «merge_lasts») ⌝ }
+    requires { ⌜ cut ≡ call.cutOf (call.readyRuns ready permille (now indexes) (now sizes) (now «merge_firsts») (now «merge_lasts») (now breaks)) (call.readyShifts ready permille (now indexes) (now «merge_firsts») (now «merge_lasts») (now breaks)) ⌝ }
+    requires { ⌜ Room (orEmpty first (call.readyRuns ready permille (now indexes) (now sizes) (now «merge_firsts») (now «merge_lasts») (now breaks))) (now «run_firsts») (now «run_lasts») (now «run_sizes») (now «run_marks») ⌝ }
+    ensures { λ r. ⌜ Written (orEmpty first (call.readyRuns ready permille (now (indexes .entry)) (now (sizes .entry)) (now («merge_firsts» .entry)) (now («merge_lasts» .entry)) (now (breaks .entry)))) (cut .runs) (now («run_firsts» .entry)) (now («run_lasts» .entry)) (now («run_sizes» .entry)) (now («run_marks» .entry)) (now («run_firsts» .exit)) (now («run_lasts» .exit)) (now («run_sizes» .exit)) (now («run_marks» .exit)) ⌝ }
+    ensures { λ r. ⌜ r ≡ overflowing (spaceOf (ready .fit .page)) (ready .fit .stretch .title) permille (none (call.readyRuns ready permille (now (indexes .entry)) (now (sizes .entry)) (now («merge_firsts» .entry)) (now («merge_lasts» .entry)) (now (breaks .entry)))) (lists.firsts (orEmpty first (call.readyRuns ready permille (now (indexes .entry)) (now (sizes .entry)) (now («merge_firsts» .entry)) (now («merge_lasts» .entry)) (now (breaks .entry))))) (lists.sizes (orEmpty first (call.readyRuns ready permille (now (indexes .entry)) (now (sizes .entry)) (now («merge_firsts» .entry)) (now («merge_lasts» .entry)) (now (breaks .entry))))) ⌝ }
+{
     let fit = ready.fit;
     let page = fit.page;
     let stretch = fit.stretch;
@@ -258,7 +295,7 @@ fn write_cut(
 }
 
 // The sides of the content, and the notes on paper and margins.
-pub(crate) struct Sides {
+pub(crate) struct ContentSides {
     pub width: Fixed,
     pub height: Fixed,
     pub unknown: u64,
@@ -267,14 +304,18 @@ pub(crate) struct Sides {
 
 // What the notes of a plan are made of, beside the cuts.
 fn notes_of(
-    sides: Sides,
+    sides: ContentSides,
     scale: ChosenScale,
     rows: Ready,
     columns: Ready,
     row_cut: FinalCut,
     column_cut: FinalCut,
-    overflowing: u64,
-) -> Notes {
+    row_overflows: u64,
+    column_overflows: u64,
+) -> Notes
+    requires { ⌜ call.Addable rows columns «row_cut» «column_cut» «row_overflows» «column_overflows» ⌝ }
+    ensures { λ r. ⌜ r ≡ record { «unknown_paper» = sides .unknown; «invalid_margins» = sides .invalid; «scale_clamped» = scale .clamp; «fit_unreachable» = scale .unreachable; «titles_ignored» = rows .ignored + columns .ignored; «titles_expanded» = rows .expanded + columns .expanded; «merge_expansions» = «row_cut» .expansions + «column_cut» .expansions; «break_shifts» = «row_cut» .shifts + «column_cut» .shifts; «overflowing_runs» = «row_overflows» + «column_overflows» } ⌝ }
+{
     Notes {
         unknown_paper: sides.unknown,
         invalid_margins: sides.invalid,
@@ -284,15 +325,16 @@ fn notes_of(
         titles_expanded: rows.expanded + columns.expanded,
         merge_expansions: row_cut.expansions + column_cut.expansions,
         break_shifts: row_cut.shifts + column_cut.shifts,
-        overflowing_runs: overflowing,
+        overflowing_runs: row_overflows + column_overflows,
     }
 }
 
 // Cuts both axes at the scale that was chosen: counted before any run is written.
 fn plan_cut(
     settings: Settings,
-    range: PrintRange,
-    sides: Sides,
+    sides: ContentSides,
+    row_axis: AxisRange,
+    column_axis: AxisRange,
     rows: Ready,
     columns: Ready,
     scale: ChosenScale,
@@ -314,7 +356,15 @@ fn plan_cut(
     column_run_lasts: &mut [u32],
     column_run_sizes: &mut [u64],
     column_run_marks: &mut [u8],
-) -> Planning {
+) -> Planning
+    requires { ⌜ call.Fine «row_axis» (now «row_indexes») (now «row_sizes») (now «merge_first_rows») (now «merge_last_rows») ⌝ }
+    requires { ⌜ call.Fine «column_axis» (now «column_indexes») (now «column_sizes») (now «merge_first_columns») (now «merge_last_columns») ⌝ }
+    requires { ⌜ call.ReadyFor rows (sides .height .0) (call.axisFor «row_axis» (now «row_indexes») (now «row_sizes») (now «merge_first_rows») (now «merge_last_rows») (now «row_breaks»)) ⌝ }
+    requires { ⌜ call.ReadyFor columns (sides .width .0) (call.axisFor «column_axis» (now «column_indexes») (now «column_sizes») (now «merge_first_columns») (now «merge_last_columns») (now «column_breaks»)) ⌝ }
+    requires { ⌜ Even (now «row_run_firsts») (now «row_run_lasts») (now «row_run_sizes») (now «row_run_marks») ⌝ }
+    requires { ⌜ Even (now «column_run_firsts») (now «column_run_lasts») (now «column_run_sizes») (now «column_run_marks») ⌝ }
+    ensures { λ r. ⌜ call.Planned (call.roomFor (call.layoutAt settings (call.sidesOf sides) (call.axisFor «row_axis» (now («row_indexes» .entry)) (now («row_sizes» .entry)) (now («merge_first_rows» .entry)) (now («merge_last_rows» .entry)) (now («row_breaks» .entry))) (call.axisFor «column_axis» (now («column_indexes» .entry)) (now («column_sizes» .entry)) (now («merge_first_columns» .entry)) (now («merge_last_columns» .entry)) (now («column_breaks» .entry))) (scaleOf scale)) (length (now («row_run_firsts» .entry))) (length (now («column_run_firsts» .entry))) (settings .«page_limit»)) r (pages.runLists (now («row_run_firsts» .entry)) (now («row_run_lasts» .entry)) (now («row_run_sizes» .entry)) (now («row_run_marks» .entry))) (pages.runLists (now («column_run_firsts» .entry)) (now («column_run_lasts» .entry)) (now («column_run_sizes» .entry)) (now («column_run_marks» .entry))) (pages.runLists (now («row_run_firsts» .exit)) (now («row_run_lasts» .exit)) (now («row_run_sizes» .exit)) (now («row_run_marks» .exit))) (pages.runLists (now («column_run_firsts» .exit)) (now («column_run_lasts» .exit)) (now («column_run_sizes» .exit)) (now («column_run_marks» .exit))) ⌝ }
+{
     let permille = scale.permille;
     let row_cut = count_cut(
         rows,
@@ -348,7 +398,7 @@ fn plan_cut(
         rows,
         row_cut,
         permille,
-        range.first_row,
+        row_axis.first,
         merge_first_rows,
         merge_last_rows,
         row_breaks,
@@ -363,7 +413,7 @@ fn plan_cut(
         columns,
         column_cut,
         permille,
-        range.first_column,
+        column_axis.first,
         merge_first_columns,
         merge_last_columns,
         column_breaks,
@@ -390,7 +440,8 @@ fn plan_cut(
             columns,
             row_cut,
             column_cut,
-            row_overflows + column_overflows,
+            row_overflows,
+            column_overflows,
         ),
     })
 }
@@ -398,8 +449,7 @@ fn plan_cut(
 // Prepares both axes, chooses the scale and cuts.
 fn plan_axes(
     settings: Settings,
-    range: PrintRange,
-    sides: Sides,
+    sides: ContentSides,
     row_axis: AxisRange,
     column_axis: AxisRange,
     row_indexes: &[u32],
@@ -420,9 +470,18 @@ fn plan_axes(
     column_run_lasts: &mut [u32],
     column_run_sizes: &mut [u64],
     column_run_marks: &mut [u8],
-) -> Planning {
+) -> Planning
+    requires { ⌜ call.Fine «row_axis» (now «row_indexes») (now «row_sizes») (now «merge_first_rows») (now «merge_last_rows») ⌝ }
+    requires { ⌜ call.Fine «column_axis» (now «column_indexes») (now «column_sizes») (now «merge_first_columns») (now «merge_last_columns») ⌝ }
+    requires { ⌜ Even (now «row_run_firsts») (now «row_run_lasts») (now «row_run_sizes») (now «row_run_marks») ⌝ }
+    requires { ⌜ Even (now «column_run_firsts») (now «column_run_lasts») (now «column_run_sizes») (now «column_run_marks») ⌝ }
+    ensures { λ r. ⌜ call.Planned (call.roomFor (call.layout settings (call.sidesOf sides) (call.axisFor «row_axis» (now («row_indexes» .entry)) (now («row_sizes» .entry)) (now («merge_first_rows» .entry)) (now («merge_last_rows» .entry)) (now («row_breaks» .entry))) (call.axisFor «column_axis» (now («column_indexes» .entry)) (now («column_sizes» .entry)) (now («merge_first_columns» .entry)) (now («merge_last_columns» .entry)) (now («column_breaks» .entry)))) (length (now («row_run_firsts» .entry))) (length (now («column_run_firsts» .entry))) (settings .«page_limit»)) r (pages.runLists (now («row_run_firsts» .entry)) (now («row_run_lasts» .entry)) (now («row_run_sizes» .entry)) (now («row_run_marks» .entry))) (pages.runLists (now («column_run_firsts» .entry)) (now («column_run_lasts» .entry)) (now («column_run_sizes» .entry)) (now («column_run_marks» .entry))) (pages.runLists (now («row_run_firsts» .exit)) (now («row_run_lasts» .exit)) (now («row_run_sizes» .exit)) (now («row_run_marks» .exit))) (pages.runLists (now («column_run_firsts» .exit)) (now («column_run_lasts» .exit)) (now («column_run_sizes» .exit)) (now («column_run_marks» .exit))) ⌝ }
+{
+    let height = sides.height;
+    let width = sides.width;
     let rows = ready_axis(
         row_axis,
+        height,
         row_indexes,
         row_sizes,
         merge_first_rows,
@@ -430,6 +489,7 @@ fn plan_axes(
     );
     let columns = ready_axis(
         column_axis,
+        width,
         column_indexes,
         column_sizes,
         merge_first_columns,
@@ -456,8 +516,9 @@ fn plan_axes(
     );
     plan_cut(
         settings,
-        range,
         sides,
+        row_axis,
+        column_axis,
         rows,
         columns,
         scale,
@@ -484,11 +545,13 @@ fn plan_axes(
 
 // What paper and margins come to: the content's sides, or the refusal 10.
 pub(crate) enum SidesFound {
-    Value(Sides),
+    Value(ContentSides),
     CoordinateOverflow,
 }
 
-fn content_sides(settings: Settings) -> SidesFound {
+fn content_sides(settings: Settings) -> SidesFound
+    ensures { λ r. ⌜ call.sidesOutcome r ≡ call.contentSides settings ⌝ }
+{
     let code = settings.paper;
     let margins = settings.margins;
     let paper = geometry::paper_geometry(code, settings.landscape);
@@ -500,7 +563,7 @@ fn content_sides(settings: Settings) -> SidesFound {
     let content = placed.content;
     let width = content.width;
     let height = content.height;
-    SidesFound::Value(Sides {
+    SidesFound::Value(ContentSides {
         width,
         height,
         unknown: paper.unknown_paper,
@@ -508,34 +571,38 @@ fn content_sides(settings: Settings) -> SidesFound {
     })
 }
 
-fn row_range(settings: Settings, range: PrintRange, title: Title, side: Fixed) -> AxisRange {
+fn row_range(settings: Settings, range: PrintRange, title: Title) -> AxisRange
+    ensures { λ r. ⌜ call.AreRows r settings range title ⌝ }
+{
     let target = settings.fit_height;
     AxisRange {
         limit: Axis::Rows.limit(),
         first: range.first_row,
         last: range.last_row,
         title,
-        side,
         headings: if settings.headings { 17_408 } else { 0 },
         target: or_else(target, 1),
     }
 }
 
-fn column_range(settings: Settings, range: PrintRange, title: Title, side: Fixed) -> AxisRange {
+fn column_range(settings: Settings, range: PrintRange, title: Title) -> AxisRange
+    ensures { λ r. ⌜ call.AreColumns r settings range title ⌝ }
+{
     let target = settings.fit_width;
     AxisRange {
         limit: Axis::Columns.limit(),
         first: range.first_column,
         last: range.last_column,
         title,
-        side,
         headings: if settings.headings { 38_912 } else { 0 },
         target: or_else(target, 1),
     }
 }
 
 // The breaks that are looked at: with fit on, none.
-fn looked_at(fit: bool, breaks: usize) -> usize {
+fn looked_at(fit: bool, breaks: usize) -> usize
+    ensures { λ r. ⌜ r ≡ cond fit 0 breaks ⌝ }
+{
     if fit { 0 } else { breaks }
 }
 
@@ -548,7 +615,9 @@ fn formed(
     sizes: &[u64],
     merge_firsts: &[u32],
     merge_lasts: &[u32],
-) -> bool {
+) -> bool
+    ensures { λ r. ⌜ r ≡ (equallyLong (now (indexes .entry)) (now (sizes .entry)) && equallyLong (now («merge_firsts» .entry)) (now («merge_lasts» .entry)) && «lent_even» && leb first last && allOrdered (now («merge_firsts» .entry)) (now («merge_lasts» .entry))) ⌝ }
+{
     let shaped = (indexes.len() == sizes.len())
         & (merge_firsts.len() == merge_lasts.len())
         & lent_even
@@ -560,7 +629,9 @@ fn formed(
 }
 
 // 7 of an axis: the range and every merge are inside the grid.
-fn in_grid(limit: u32, last: u32, merge_lasts: &[u32]) -> bool {
+fn in_grid(limit: u32, last: u32, merge_lasts: &[u32]) -> bool
+    ensures { λ r. ⌜ r ≡ (leb last limit && allWithin limit (now («merge_lasts» .entry))) ⌝ }
+{
     if last > limit {
         return false;
     }
@@ -569,7 +640,8 @@ fn in_grid(limit: u32, last: u32, merge_lasts: &[u32]) -> bool {
 
 // The first of the questions 6 to 9 whose answer is no, or 0.
 fn first_no(
-    range: PrintRange,
+    row_axis: AxisRange,
+    column_axis: AxisRange,
     lent_rows_even: bool,
     lent_columns_even: bool,
     row_indexes: &[u32],
@@ -580,10 +652,12 @@ fn first_no(
     merge_first_columns: &[u32],
     merge_last_rows: &[u32],
     merge_last_columns: &[u32],
-) -> u8 {
+) -> u8
+    ensures { λ r. ⌜ r ≡ call.firstNo (call.axisFor «row_axis» (now («row_indexes» .entry)) (now («row_sizes» .entry)) (now («merge_first_rows» .entry)) (now («merge_last_rows» .entry)) []) (call.axisFor «column_axis» (now («column_indexes» .entry)) (now («column_sizes» .entry)) (now («merge_first_columns» .entry)) (now («merge_last_columns» .entry)) []) «lent_rows_even» «lent_columns_even» ⌝ }
+{
     if !formed(
-        range.first_row,
-        range.last_row,
+        row_axis.first,
+        row_axis.last,
         lent_rows_even,
         row_indexes,
         row_sizes,
@@ -593,8 +667,8 @@ fn first_no(
         return 6;
     }
     if !formed(
-        range.first_column,
-        range.last_column,
+        column_axis.first,
+        column_axis.last,
         lent_columns_even,
         column_indexes,
         column_sizes,
@@ -606,20 +680,20 @@ fn first_no(
     if merge_first_rows.len() != merge_first_columns.len() {
         return 6;
     }
-    if !in_grid(Axis::Rows.limit(), range.last_row, merge_last_rows) {
+    if !in_grid(row_axis.limit, row_axis.last, merge_last_rows) {
         return 7;
     }
     if !in_grid(
-        Axis::Columns.limit(),
-        range.last_column,
+        column_axis.limit,
+        column_axis.last,
         merge_last_columns,
     ) {
         return 7;
     }
-    if !rising_within(row_indexes, Axis::Rows.limit()) {
+    if !rising_within(row_indexes, row_axis.limit) {
         return 8;
     }
-    if !rising_within(column_indexes, Axis::Columns.limit()) {
+    if !rising_within(column_indexes, column_axis.limit) {
         return 8;
     }
     if !all_small(row_sizes) {
@@ -660,8 +734,11 @@ pub fn plan_pages(
     let lent_columns_even = (column_run_firsts.len() == column_run_lasts.len())
         & (column_run_firsts.len() == column_run_sizes.len())
         & (column_run_firsts.len() == column_run_marks.len());
+    let rows = row_range(settings, range, row_title);
+    let columns = column_range(settings, range, column_title);
     let refusal = first_no(
-        range,
+        rows,
+        columns,
         lent_rows_even,
         lent_columns_even,
         row_indexes,
@@ -679,15 +756,10 @@ pub fn plan_pages(
     let SidesFound::Value(sides) = content_sides(settings) else {
         return Planning::Refused(10);
     };
-    let height = sides.height;
-    let width = sides.width;
-    let rows = row_range(settings, range, row_title, height);
-    let columns = column_range(settings, range, column_title, width);
     let row_kept = looked_at(settings.fit, row_breaks.len());
     let column_kept = looked_at(settings.fit, column_breaks.len());
     plan_axes(
         settings,
-        range,
         sides,
         rows,
         columns,
