@@ -31,14 +31,14 @@ use geometry::MarginSetting;
 use geometry::Setting;
 ghost use mathlib.Core.Path.{_≡_};
 ghost use mathlib.Core.Bool.{cond, _&&_};
-ghost use mathlib.Core.List.{List, []};
-ghost use Prim.Native.Nat.{ℕ, _+_, _≤_, max};
+ghost use mathlib.Core.List.{[]};
+ghost use Prim.Native.Nat.{_+_, _≤_, _^_, max};
 ghost use lib.Dec.{leb};
 ghost use lib.ListN.{length};
 ghost use Rattle.planner.specs.Questions.{equallyLong, allOrdered, allWithin};
 ghost use Rattle.planner.specs.Lent.{Room, Written};
 ghost use Rattle.planner.specs.Lent as lists;
-ghost use Rattle.planner.specs.Partition.{Even};
+ghost use Rattle.planner.specs.Partition.{Even, noOr};
 ghost use Rattle.planner.specs.Scale.{fixedScale, fitScale, spaceOf, scaleOf, fitPasses, Fitted, Low};
 ghost use Rattle.planner.specs.Pages.{emptyRun, none, orEmpty, overflowing};
 ghost use Rattle.planner.specs.Pages as pages;
@@ -156,7 +156,16 @@ fn choose_scale(
 {
     if settings.fit {
         return fit_scale(
-            rows, columns, rfirsts, rlasts, rindexes, rsizes, cfirsts, clasts, cindexes, csizes,
+            rows,
+            columns,
+            rfirsts,
+            rlasts,
+            rindexes,
+            rsizes,
+            cfirsts,
+            clasts,
+            cindexes,
+            csizes,
         );
     }
     let percent = settings.percent;
@@ -200,6 +209,7 @@ fn count_cut(
 ) -> FinalCut
     requires { ⌜ call.Cuttable ready (now indexes) (now sizes) (now «merge_firsts») (now «merge_lasts») ⌝ }
     ensures { λ r. ⌜ r ≡ call.cutOf (call.readyRuns ready permille (now (indexes .entry)) (now (sizes .entry)) (now («merge_firsts» .entry)) (now («merge_lasts» .entry)) (now (breaks .entry))) (call.readyShifts ready permille (now (indexes .entry)) (now («merge_firsts» .entry)) (now («merge_lasts» .entry)) (now (breaks .entry))) ⌝ }
+    ensures { λ r. ⌜ (r .runs ≤ 2 ^ 20) × (r .expansions ≤ 2 ^ 20) × (r .shifts ≤ length (now (breaks .entry))) ⌝ }
 {
     let fit = ready.fit;
     let from = ready.from;
@@ -655,7 +665,7 @@ fn first_no(
 ) -> u8
     ensures { λ r. ⌜ r ≡ call.firstNo (call.axisFor «row_axis» (now («row_indexes» .entry)) (now («row_sizes» .entry)) (now («merge_first_rows» .entry)) (now («merge_last_rows» .entry)) []) (call.axisFor «column_axis» (now («column_indexes» .entry)) (now («column_sizes» .entry)) (now («merge_first_columns» .entry)) (now («merge_last_columns» .entry)) []) «lent_rows_even» «lent_columns_even» ⌝ }
 {
-    if !formed(
+    let six = formed(
         row_axis.first,
         row_axis.last,
         lent_rows_even,
@@ -663,43 +673,39 @@ fn first_no(
         row_sizes,
         merge_first_rows,
         merge_last_rows,
-    ) {
+    )
+        & formed(
+            column_axis.first,
+            column_axis.last,
+            lent_columns_even,
+            column_indexes,
+            column_sizes,
+            merge_first_columns,
+            merge_last_columns,
+        )
+        & (merge_first_rows.len() == merge_first_columns.len());
+    let seven = in_grid(row_axis.limit, row_axis.last, merge_last_rows)
+        & in_grid(column_axis.limit, column_axis.last, merge_last_columns);
+    let eight = rising_within(row_indexes, row_axis.limit)
+        & rising_within(column_indexes, column_axis.limit);
+    let nine = all_small(row_sizes) & all_small(column_sizes);
+    first_refused(six, seven, eight, nine)
+}
+
+// The number of the first question whose answer is no, or 0.
+fn first_refused(six: bool, seven: bool, eight: bool, nine: bool) -> u8
+    ensures { λ r. ⌜ r ≡ noOr 6 six (noOr 7 seven (noOr 8 eight (noOr 9 nine 0))) ⌝ }
+{
+    if !six {
         return 6;
     }
-    if !formed(
-        column_axis.first,
-        column_axis.last,
-        lent_columns_even,
-        column_indexes,
-        column_sizes,
-        merge_first_columns,
-        merge_last_columns,
-    ) {
-        return 6;
-    }
-    if merge_first_rows.len() != merge_first_columns.len() {
-        return 6;
-    }
-    if !in_grid(row_axis.limit, row_axis.last, merge_last_rows) {
+    if !seven {
         return 7;
     }
-    if !in_grid(
-        column_axis.limit,
-        column_axis.last,
-        merge_last_columns,
-    ) {
-        return 7;
-    }
-    if !rising_within(row_indexes, row_axis.limit) {
+    if !eight {
         return 8;
     }
-    if !rising_within(column_indexes, column_axis.limit) {
-        return 8;
-    }
-    if !all_small(row_sizes) {
-        return 9;
-    }
-    if all_small(column_sizes) { 0 } else { 9 }
+    if nine { 0 } else { 9 }
 }
 
 // Plans the pages of a range: the scale, the runs of rows and columns, which go to the fronts of eight lent lists, and the notes.
@@ -726,8 +732,7 @@ pub fn plan_pages(
     column_run_lasts: &mut [u32],
     column_run_sizes: &mut [u64],
     column_run_marks: &mut [u8],
-) -> Planning
-{
+) -> Planning {
     let lent_rows_even = (row_run_firsts.len() == row_run_lasts.len())
         & (row_run_firsts.len() == row_run_sizes.len())
         & (row_run_firsts.len() == row_run_marks.len());

@@ -477,6 +477,7 @@ pub(crate) fn count_axis(
     requires { ⌜ length (now mfirsts) ≡ length (now mlasts) ⌝ }
     requires { ⌜ Slots (now indexes) (now sizes) ⌝ }
     ensures { λ r. ⌜ r ≡ axisTally k (now (mfirsts .entry)) (now (mlasts .entry)) (now (indexes .entry)) (now (sizes .entry)) (now (breaks .entry)) ⌝ }
+    ensures { λ r. ⌜ (r .runs ≤ length (now (sizes .entry))) × (r .expansions ≤ length (now (sizes .entry))) × (r .shifts ≤ length (now (breaks .entry))) ⌝ }
 {
     let end = sizes.len();
     let mut prev = 0;

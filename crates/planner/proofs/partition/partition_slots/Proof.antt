@@ -16,7 +16,7 @@ use Rattle.planner.proofs.partition.partition_slots.Tie as tie
 counted : (c : tie.After-count-axis) → let a = c .before .before .before .before .before .before .before .before .before .before .args in
     c .count-axis .result .runs ≡ length (axisRuns (a .frame) (a .merge-firsts .now) (a .merge-lasts .now) (a .indexes .now) (a .sizes .now) 0 (a .breaks .now))
 unfolding axisTally
-counted c = ap (λ (t : Tally). t .runs) (c .count-axis .ensures)
+counted c = ap (λ (t : Tally). t .runs) (c .count-axis .ensures .0)
 
 count-axis-requires : tie.Need-count-axis-requires
 count-axis-requires c κs = search needs
@@ -55,7 +55,7 @@ returns-2 c =
     let rs = axisRuns (a .frame) (a .merge-firsts .now) (a .merge-lasts .now) (a .indexes .now) (a .sizes .now) 0 (a .breaks .now) in
     let t = axisTally (a .frame) (a .merge-firsts .now) (a .merge-lasts .now) (a .indexes .now) (a .sizes .now) (a .breaks .now) in
     let e : roomFor rs t (length (a .run-firsts .now)) ≡ given (d .count-axis .result) =
-    room-enough rs t (length (a .run-firsts .now)) (omega (arith, c .before .before .before .before .before .before .before .before .before .before .before .before .before .if1 .left, counted d)) ∙ ap (λ (x : Tally). given x) (sym (d .count-axis .ensures)) in
+    room-enough rs t (length (a .run-firsts .now)) (omega (arith, c .before .before .before .before .before .before .before .before .before .before .before .before .before .if1 .left, counted d)) ∙ ap (λ (x : Tally). given x) (sym (d .count-axis .ensures .0)) in
     answers (roomFor rs t (length (a .run-firsts .now))) rs (d .count-axis .result) _ (a .run-firsts .now) (a .run-lasts .now) (a .run-sizes .now) (a .run-marks .now) _ _ _ _ e (c .before .before .before .before .before .before .before .before .write-axis .ensures)
 
 pub partition-slots-spec : {M : Type 1} → statement M

@@ -167,10 +167,13 @@ returns c =
     let a = c .before .before .before .before .before .before .before .before .before .before .before .before .args in
     let left = c .before .before .before .before .before .loop-test .left in
     let stop = axis-end (a .k) (a .mfirsts .now) (a .mlasts .now) (a .indexes .now) (a .sizes .now) (l .prev) (l .j) (a .breaks .now) left in
-    λ i. tallies
-    ((let p : l .count + t .result .runs ≡ length (axisRuns (a .k) (a .mfirsts .now) (a .mlasts .now) (a .indexes .now) (a .sizes .now) 0 (a .breaks .now)) = omega (arith, ap length stop, stretch-length (a .k) (a .mfirsts .now) (a .mlasts .now) (a .indexes .now) (a .sizes .now) (l .prev) (length (a .sizes .now)), ap (λ (r : Counted). r .runs) (t .ensures .0), l .inv .5) in p) i)
-    ((let p : l .grown + t .result .grown ≡ expansions (axisRuns (a .k) (a .mfirsts .now) (a .mlasts .now) (a .indexes .now) (a .sizes .now) 0 (a .breaks .now)) = omega (arith, ap expansions stop, stretch-expansions (a .k) (a .mfirsts .now) (a .mlasts .now) (a .indexes .now) (a .sizes .now) (l .prev) (length (a .sizes .now)), ap (λ (r : Counted). r .grown) (t .ensures .0), l .inv .6) in p) i)
-    ((let p : l .shifts ≡ shifts (a .k) (a .mfirsts .now) (a .mlasts .now) (a .indexes .now) 0 (a .breaks .now) = omega (arith, shifts-end (a .k) (a .mfirsts .now) (a .mlasts .now) (a .indexes .now) (a .sizes .now) (l .prev) (l .j) (a .breaks .now) left, l .inv .7) in p) i)
+    let len = length-mid (l .prev) (length (a .sizes .now)) (a .sizes .now) (omega arith) in (
+      (λ i. tallies
+          ((let p : l .count + t .result .runs ≡ length (axisRuns (a .k) (a .mfirsts .now) (a .mlasts .now) (a .indexes .now) (a .sizes .now) 0 (a .breaks .now)) = omega (arith, ap length stop, stretch-length (a .k) (a .mfirsts .now) (a .mlasts .now) (a .indexes .now) (a .sizes .now) (l .prev) (length (a .sizes .now)), ap (λ (r : Counted). r .runs) (t .ensures .0), l .inv .5) in p) i)
+          ((let p : l .grown + t .result .grown ≡ expansions (axisRuns (a .k) (a .mfirsts .now) (a .mlasts .now) (a .indexes .now) (a .sizes .now) 0 (a .breaks .now)) = omega (arith, ap expansions stop, stretch-expansions (a .k) (a .mfirsts .now) (a .mlasts .now) (a .indexes .now) (a .sizes .now) (l .prev) (length (a .sizes .now)), ap (λ (r : Counted). r .grown) (t .ensures .0), l .inv .6) in p) i)
+          ((let p : l .shifts ≡ shifts (a .k) (a .mfirsts .now) (a .mlasts .now) (a .indexes .now) 0 (a .breaks .now) = omega (arith, shifts-end (a .k) (a .mfirsts .now) (a .mlasts .now) (a .indexes .now) (a .sizes .now) (l .prev) (l .j) (a .breaks .now) left, l .inv .7) in p) i)),
+      (omega (arith, l .inv .2, l .inv .1, t .ensures .1 .0, len), omega (arith, l .inv .3, l .inv .1, t .ensures .1 .1, len), omega (arith, l .inv .4, l .inv .0)),
+    )
 
 pub count-axis-spec : {M : Type 1} → statement M
 count-axis-spec =

@@ -1,0 +1,38 @@
+-- `planner::plan::content_sides` meets its contract. Assumes nothing.
+use Rattle.planner.specs.Plan.{contentSides}
+use borrow.Author.Needs.{needs}
+use Rattle.planner.proofs.plan.content_sides.Statement.{statement}
+use Rattle.planner.proofs.plan.content_sides.Tie as tie
+
+paper-geometry-requires : tie.Need-paper-geometry-requires
+paper-geometry-requires c κs = search needs
+
+content-geometry-requires : tie.Need-content-geometry-requires
+content-geometry-requires c κs = search needs
+
+enum-known-found : tie.Need-enum-known-found
+enum-known-found c = search needs
+
+enum-told : tie.Need-enum-told
+enum-told c = search needs
+
+returns : tie.Need-returns
+unfolding contentSides
+returns c =
+    rw (← c .before .before .paper-geometry .ensures, ← c .before .content-geometry .ensures, c .enum-told .given .1)
+
+returns-2 : tie.Need-returns-2
+unfolding contentSides
+returns-2 c =
+    rw (← c .before .before .paper-geometry .ensures, ← c .before .content-geometry .ensures, c .found .given .1)
+
+pub content-sides-spec : {M : Type 1} → statement M
+content-sides-spec =
+    tie.close
+    (tie.spec
+    paper-geometry-requires
+    content-geometry-requires
+    enum-known-found
+    enum-told
+    returns
+    returns-2)

@@ -1,0 +1,55 @@
+-- `planner::plan::first_no` meets its contract. Assumes nothing.
+use mathlib.Core.Path.{_∙_}
+use Rattle.planner.specs.Plan.{formed, inGrid, firstNo}
+use borrow.Author.Needs.{needs}
+use Rattle.planner.proofs.plan.first_no.Statement.{statement}
+use Rattle.planner.proofs.plan.first_no.Tie as tie
+
+formed-requires : tie.Need-formed-requires
+formed-requires c κs = search needs
+
+formed-requires-2 : tie.Need-formed-requires-2
+formed-requires-2 c κs = search needs
+
+in-grid-requires : tie.Need-in-grid-requires
+in-grid-requires c κs = search needs
+
+in-grid-requires-2 : tie.Need-in-grid-requires-2
+in-grid-requires-2 c κs = search needs
+
+rising-within-requires : tie.Need-rising-within-requires
+rising-within-requires c κs = search needs
+
+rising-within-requires-2 : tie.Need-rising-within-requires-2
+rising-within-requires-2 c κs = search needs
+
+all-small-requires : tie.Need-all-small-requires
+all-small-requires c κs = search needs
+
+all-small-requires-2 : tie.Need-all-small-requires-2
+all-small-requires-2 c κs = search needs
+
+first-refused-requires : tie.Need-first-refused-requires
+first-refused-requires c κs = search needs
+
+returns : tie.Need-returns
+unfolding formed inGrid firstNo
+returns c =
+    let f = c .before in
+    c .first-refused .ensures
+    ∙ rw (f .all-small2 .ensures, f .before .all-small .ensures, f .before .before .rising-within2 .ensures, f .before .before .before .rising-within .ensures, f .before .before .before .before .in-grid2 .ensures, f .before .before .before .before .before .in-grid .ensures, f .before .before .before .before .before .before .formed2 .ensures, f .before .before .before .before .before .before .before .formed .ensures)
+
+pub first-no-spec : {M : Type 1} → statement M
+first-no-spec =
+    tie.close
+    (tie.spec
+    formed-requires
+    formed-requires-2
+    in-grid-requires
+    in-grid-requires-2
+    rising-within-requires
+    rising-within-requires-2
+    all-small-requires
+    all-small-requires-2
+    first-refused-requires
+    returns)
