@@ -30,9 +30,10 @@ use Rattle.planner.specs.Lent.{firsts, lasts, sizes, marks, Room, Writte
 use Rattle.planner.specs.Partition.{lentEven, noOr, Even}
 use Rattle.planner.specs.Scale.{Space, Body, Low, spaceOf, frameFor, axisPasses, fitPasses, Fitted}
 use Rattle.planner.specs.Pages.{RunLists, runLists, evenLists, none, orEmpty, overflowing}
-use Rattle.planner.specs.Plan.{AxisInput, Sides, titleOf, startOf, bodyPart, bodyOf, spaceOn, lookedAt, cutRuns, cutShifts, pageRuns, overflows, Layout, layoutAt, roomFor, planned, formed, inGrid, firstNo, Planned, axisFor, Fine, ReadyFor, within, readyFrame, readyRuns, readyShifts, cutOf, Cuttable}
+use Rattle.planner.specs.Plan.{AxisInput, Sides, titleOf, startOf, bodyPart, bodyOf, spaceOn, lookedAt, contentSides, cutRuns, cutShifts, pageRuns, overflows, Layout, layoutAt, layout, roomFor, planned, formed, inGrid, firstNo, Planned, axisFor, Fine, ReadyFor, within, readyFrame, readyRuns, readyShifts, cutOf, Cuttable}
 use Rattle.planner.proofs.QuestionLaws.{both, slots-of}
 use Rattle.planner.proofs.Laws.{slots-mid}
+use Rattle.planner.proofs.EndLaws.{below-le}
 use Rattle.planner.proofs.TitleLaws.{widened-pair, body-start-le, title-total-le}
 
 -- ---- the first no
@@ -128,20 +129,22 @@ fine-of r is ss fs ls bs even low h y =
 module _ (s : Settings) (a b : AxisInput) (la lb : RunLists) (n : ℕ) (e : n ≡ firstNo a b (evenLists la) (evenLists lb)) where
   pub is-refused : 0 < n → planned s a b la lb ≡ refused n
   unfolding planned firstNo
-  is-refused h = stops _ _ _ _ n _ e h
+  is-refused h =
+      stops (formed a (evenLists la) && formed b (evenLists lb) && equallyLong (a .merge-firsts) (b .merge-firsts)) (inGrid a && inGrid b) (risingWithin (a .limit) (a .indexes) && risingWithin (b .limit) (b .indexes)) (allSmall (a .sizes) && allSmall (b .sizes)) n
+      (andThen (contentSides s) (λ (c : Sides). roomFor (layout s c a b) (length (la .firsts)) (length (lb .firsts)) (s .«page_limit»))) e h
 
   -- after four yeses
   pub record Asked : Type 0 where
     pub rows-yes : Yes a (evenLists la)
     pub columns-yes : Yes b (evenLists lb)
-    pub goes-on : planned s a b la lb ≡ andThen (Rattle.planner.specs.Plan.contentSides s)
-        (λ (c : Sides). roomFor (Rattle.planner.specs.Plan.layout s c a b) (length (la .firsts)) (length (lb .firsts)) (s .«page_limit»))
+    pub goes-on : planned s a b la lb ≡ andThen (contentSides s)
+        (λ (c : Sides). roomFor (layout s c a b) (length (la .firsts)) (length (lb .firsts)) (s .«page_limit»))
 
   pub is-asked : n ≤ 0 → Asked
   unfolding planned firstNo
   is-asked h =
       let z : 0 ≡ n = omega arith in
-      let y = goes _ _ _ _ (z ∙ e) in
+      let y = goes (formed a (evenLists la) && formed b (evenLists lb) && equallyLong (a .merge-firsts) (b .merge-firsts)) (inGrid a && inGrid b) (risingWithin (a .limit) (a .indexes) && risingWithin (b .limit) (b .indexes)) (allSmall (a .sizes) && allSmall (b .sizes)) (z ∙ e) in
       let six = both (formed a (evenLists la) && formed b (evenLists lb)) (equallyLong (a .merge-firsts) (b .merge-firsts)) (y .0) in
       let two = both (formed a (evenLists la)) (formed b (evenLists lb)) (six .0) in
       let seven = both (inGrid a) (inGrid b) (y .1) in
@@ -171,7 +174,7 @@ within-body r side a y xs =
 
 pub frame-of : (r : Ready) (side : ℤ) (a : AxisInput) → ReadyFor r side a → (p : ℕ) → readyFrame (r .fit) p ≡ frameFor (spaceOn side a) (bodyOf a) p
 unfolding bodyOf
-frame-of r side a y p = rw (y .space-is, y .title-is, y .lo-is, y .hi-is)
+frame-of r side a y p = rw (y .space-is, y .title-is, y .lo-is, y .hi-is) ?
 
 module _ (r : Ready) (side : ℤ) (a : AxisInput) (y : ReadyFor r side a) (p : ℕ) where
   pub runs-of : readyRuns r p (a .indexes) (a .sizes) (a .merge-firsts) (a .merge-lasts) (a .breaks) ≡ cutRuns side a p

@@ -581,6 +581,12 @@ fn content_sides(settings: Settings) -> SidesFound
     })
 }
 
+fn headings_of(on: bool, size: u64) -> u64
+    ensures { λ r. ⌜ r ≡ cond on size 0 ⌝ }
+{
+    if on { size } else { 0 }
+}
+
 fn row_range(settings: Settings, range: PrintRange, title: Title) -> AxisRange
     ensures { λ r. ⌜ call.AreRows r settings range title ⌝ }
 {
@@ -590,7 +596,7 @@ fn row_range(settings: Settings, range: PrintRange, title: Title) -> AxisRange
         first: range.first_row,
         last: range.last_row,
         title,
-        headings: if settings.headings { 17_408 } else { 0 },
+        headings: headings_of(settings.headings, 17_408),
         target: or_else(target, 1),
     }
 }
@@ -604,7 +610,7 @@ fn column_range(settings: Settings, range: PrintRange, title: Title) -> AxisRang
         first: range.first_column,
         last: range.last_column,
         title,
-        headings: if settings.headings { 38_912 } else { 0 },
+        headings: headings_of(settings.headings, 38_912),
         target: or_else(target, 1),
     }
 }

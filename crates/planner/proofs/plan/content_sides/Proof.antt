@@ -19,12 +19,12 @@ enum-told c = search needs
 returns : tie.Need-returns
 unfolding contentSides
 returns c =
-    rw (← c .before .before .paper-geometry .ensures, ← c .before .content-geometry .ensures, c .enum-told .given .1)
+    rw (← c .before .before .before .before .paper-geometry .ensures, ← c .before .before .content-geometry .ensures, c .enum-told .given .1)
 
 returns-2 : tie.Need-returns-2
 unfolding contentSides
 returns-2 c =
-    rw (← c .before .before .paper-geometry .ensures, ← c .before .content-geometry .ensures, c .found .given .1)
+    rw (← c .before .before .before .before .before .before .before .before .paper-geometry .ensures, ← c .before .before .before .before .before .before .content-geometry .ensures, c .before .before .before .before .found .given .1)
 
 pub content-sides-spec : {M : Type 1} → statement M
 content-sides-spec =

@@ -1,59 +1,74 @@
+-- `planner::plan::count_cut` meets its contract. Assumes nothing.
+use mathlib.Core.Path.{_≡_, ap, _∙_}
+use Prim.Native.Nat.{_≤_, _^_}
+use lib.Dec.{eqb}
+use lib.ListN.{length}
+use borrow.Author.Tests.{eqb-true}
+use Rattle.planner.specs.declared.runs.Tally.{Tally}
+use Rattle.planner.specs.declared.runs.Frame.{Frame}
+use Rattle.planner.specs.declared.plan.FinalCut.{FinalCut}
+use Rattle.planner.specs.Runs.{axisTally, expansions, tallies}
+use Rattle.planner.specs.Plan.{readyRuns, readyShifts, within, readyFrame}
+use Rattle.planner.proofs.Laws.{slots-mid}
+use Rattle.planner.proofs.PlanLaws.{cut-none, cut-some}
 use native.Mathlib.Omega.{arith}
 use borrow.Author.Needs.{needs}
 use Rattle.planner.proofs.plan.count_cut.Statement.{statement}
 use Rattle.planner.proofs.plan.count_cut.Tie as tie
-use Rattle.planner.proofs.plan.count_cut.Reads as reads
-use Rattle.planner.proofs.plan.count_cut.Lts as lts
-use Rattle.planner.proofs.plan.frame_at.Reads as frame-at-reads
-use Rattle.planner.proofs.runs.count_axis.Reads as count-axis-reads
 
--- src/plan.rt:217:9
+-- what was counted is of the body's runs
+counted : (t : tie.After-count-axis) → let a = t .before .before .before .before .before .before .before .before .before .before .args in
+    t .count-axis .result ≡ tallies (length (readyRuns (a .ready) (a .permille) (a .indexes .now) (a .sizes .now) (a .merge-firsts .now) (a .merge-lasts .now) (a .breaks .now))) (expansions (readyRuns (a .ready) (a .permille) (a .indexes .now) (a .sizes .now) (a .merge-firsts .now) (a .merge-lasts .now) (a .breaks .now))) (readyShifts (a .ready) (a .permille) (a .indexes .now) (a .merge-firsts .now) (a .merge-lasts .now) (a .breaks .now))
+unfolding axisTally
+counted t =
+    let a = t .before .before .before .before .before .before .before .before .before .before .args in
+    t .count-axis .ensures .0
+    ∙ ap (λ (f : Frame). axisTally f (a .merge-firsts .now) (a .merge-lasts .now) (within (a .ready) (a .indexes .now)) (within (a .ready) (a .sizes .now)) (a .breaks .now)) (t .before .before .before .frame-at .ensures)
+
 frame-at-requires : tie.Need-frame-at-requires
-frame-at-requires c κs = search needs
+frame-at-requires c κs =
+    c .before .before .before .before .before .before .pre .low
 
--- src/plan.rt:223:9
 mul-count-axis : tie.Need-mul-count-axis
 mul-count-axis c = search needs
 
--- src/plan.rt:223:9
 sub-count-axis : tie.Need-sub-count-axis
 sub-count-axis c = search needs
 
--- src/plan.rt:223:9
 part-count-axis-start : tie.Need-part-count-axis-start
 part-count-axis-start c = search needs
 
--- src/plan.rt:223:9
 part-count-axis-end : tie.Need-part-count-axis-end
 part-count-axis-end c = search needs
 
--- src/plan.rt:224:9
 mul-count-axis-2 : tie.Need-mul-count-axis-2
 mul-count-axis-2 c = search needs
 
--- src/plan.rt:224:9
 sub-count-axis-2 : tie.Need-sub-count-axis-2
 sub-count-axis-2 c = search needs
 
--- src/plan.rt:224:9
 part-count-axis-start-2 : tie.Need-part-count-axis-start-2
 part-count-axis-start-2 c = search needs
 
--- src/plan.rt:224:9
 part-count-axis-end-2 : tie.Need-part-count-axis-end-2
 part-count-axis-end-2 c = search needs
 
--- src/plan.rt:218:9
 count-axis-requires : tie.Need-count-axis-requires
-count-axis-requires c κs = search needs
+count-axis-requires c κs =
+    let s = c .before .before .before .before .before .before .before .before .before in
+    let p = s .pre in
+    (p .merges, slots-mid (s .args .ready .from) (s .args .ready .to) (s .args .indexes .now) (s .args .sizes .now) (omega (arith, p .inside, p .slots .even)) (p .slots))
 
--- src/plan.rt:201:1
 returns : tie.Need-returns
-returns c = search needs
+returns c =
+    let t = c .before in
+    let e = counted t in
+    let z : t .count-axis .result .runs ≡ 0 = eqb-true _ _ (c .if1 .taken) in
+    ?
 
--- src/plan.rt:201:1
 returns-2 : tie.Need-returns-2
-returns-2 c = search needs
+returns-2 c =
+    ?
 
 pub count-cut-spec : {M : Type 1} → statement M
 count-cut-spec =

@@ -5,11 +5,11 @@ use Rattle.planner.proofs.plan.frame_at.Tie as tie
 
 capacity-at-requires : tie.Need-capacity-at-requires
 capacity-at-requires c κs =
-    (c .pre, omega arith)
+    (c .before .before .pre, omega arith)
 
 capacity-at-requires-2 : tie.Need-capacity-at-requires-2
 capacity-at-requires-2 c κs =
-    let p = c .before .pre in (p, p .titles-low)
+    let p = c .before .before .before .pre in (p, p .titles-low)
 
 returns : tie.Need-returns
 returns c =

@@ -1,55 +1,72 @@
+-- `planner::plan::ready_axis` meets its contract. Assumes nothing.
+use mathlib.Core.Path.{_≡_, refl, sym, ap, _∙_}
+use Prim.Native.Nat.{ℕ, _+_, max}
+use Rattle.planner.proofs.TitleLaws.{title-total-le}
+use lib.ListN.{length}
+use Rattle.planner.specs.declared.titles.Title.{Title}
+use Rattle.planner.specs.declared.titles.Widened.{Widened}
+use Rattle.planner.specs.Slots.{below}
+use Rattle.planner.specs.Titles.{bodyStart, titleTotal}
+use Rattle.planner.specs.Plan.{spaceOn}
+use Rattle.planner.proofs.PlanLaws.{start-small}
 use native.Mathlib.Omega.{arith}
 use borrow.Author.Needs.{needs}
 use Rattle.planner.proofs.plan.ready_axis.Statement.{statement}
 use Rattle.planner.proofs.plan.ready_axis.Tie as tie
-use Rattle.planner.proofs.plan.ready_axis.Reads as reads
-use Rattle.planner.proofs.plan.ready_axis.Lts as lts
-use Rattle.planner.proofs.plan.later.Reads as later-reads
-use Rattle.planner.proofs.runs.slots_below.Reads as slots-below-reads
-use Rattle.planner.proofs.runs.wide.Reads as wide-reads
-use Rattle.planner.proofs.titles.body_start.Reads as body-start-reads
-use Rattle.planner.proofs.titles.title_total.Reads as title-total-reads
-use Rattle.planner.proofs.titles.widened_title.Reads as widened-title-reads
 
--- src/plan.rt:106:9
 widened-title-requires : tie.Need-widened-title-requires
-widened-title-requires c κs = search needs
+widened-title-requires c κs =
+    c .before .before .before .before .pre .merges
 
--- src/plan.rt:108:9
 title-total-requires : tie.Need-title-total-requires
-title-total-requires c κs = search needs
+title-total-requires c κs =
+    c .before .before .before .before .before .pre .slots
 
--- src/plan.rt:109:9
 body-start-requires : tie.Need-body-start-requires
 body-start-requires c κs = search needs
 
--- src/plan.rt:110:9
 slots-below-requires : tie.Need-slots-below-requires
 slots-below-requires c κs = search needs
 
--- src/plan.rt:111:36
 wide-requires : tie.Need-wide-requires
 wide-requires c κs = search needs
 
--- src/plan.rt:111:36
 add-slots-below : tie.Need-add-slots-below
 add-slots-below c = search needs
 
--- src/plan.rt:111:9
 slots-below-requires-2 : tie.Need-slots-below-requires-2
 slots-below-requires-2 c κs = search needs
 
--- src/plan.rt:121:21
 cast-t17 : tie.Need-cast-t17
-cast-t17 c = search needs
+cast-t17 c =
+    let s = c .before .before .before .before .before .before .before .before .before .before in
+    let q = s .pre in
+    let st = c .before .before .before .body-start .ensures in
+    omega (arith, st, start-small (s .args .axis) (s .args .indexes .now) (s .args .sizes .now) (s .args .merge-firsts .now) (s .args .merge-lasts .now) q _ (ap (λ (w : Widened). w .title) (sym (c .before .before .before .before .before .widened-title .ensures))), q .limit-small)
 
--- src/plan.rt:127:13
 later-requires : tie.Need-later-requires
 later-requires c κs = search needs
 
--- src/plan.rt:94:1
 returns : tie.Need-returns
-returns c = search needs
+unfolding spaceOn
+returns c =
+    let w = c .before .before .before .before .before .before .widened-title .ensures in
+    let s = c .before .before .before .before .before .before .before .before .before .before .before in
+    let is = s .args .indexes .now in
+    let t = ap (λ (x : Widened). x .title) w in
+    let st = c .before .before .before .before .body-start .ensures ∙ ap (λ (x : Title). bodyStart x (s .args .axis .first)) t in
+    λ bs. record {
+      space-is = rw (c .before .before .before .before .before .title-total .ensures, t);
+      title-is = t;
+      lo-is = st;
+      hi-is = refl;
+      target-is = refl;
+      from-is = c .before .before .before .slots-below .ensures .0 ∙ ap (λ (x : ℕ). below x is) st;
+      to-is = c .later .ensures ∙ ap (λ (x : ℕ). max (c .before .before .before .slots-below .result) x) (c .before .slots-below2 .ensures .0 ∙ ap (λ (x : ℕ). below (x + 1) is) (c .before .before .wide .ensures));
+      ignored-is = ap (λ (x : Widened). x .ignored) w;
+      expanded-is = ap (λ (x : Widened). x .expanded) w;
+      low = record { headings-low = s .pre .headings-low; titles-low = rw (c .before .before .before .before .before .title-total .ensures) (title-total-le _ is (s .args .sizes .now) (s .pre .slots)) };
+    }
 
 pub ready-axis-spec : {M : Type 1} → statement M
 ready-axis-spec =
