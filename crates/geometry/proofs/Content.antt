@@ -1,11 +1,10 @@
 -- Paper and content are always given: no paper, landscape or margins lead to a refusal, and the content's sides are moderate. Assumes nothing.
-use mathlib.Core.Path.{_≡_, refl, sym, ap, _∙_, subst}
+use mathlib.Core.Path.{_≡_, refl, ap, _∙_}
 use mathlib.Core.Bool.{Bool, true, false, cond, _&&_}
 use mathlib.Core.List.{List, [], _∷_}
-use Prim.Native.Nat.{ℕ, zero, suc, _+_, _-_, _*_, _^_, _≤_, _<_}
+use Prim.Native.Nat.{ℕ, zero, suc, _+_, _*_, _^_, _≤_, _<_}
 use native.Mathlib.Omega.{arith}
 use native.Mathlib.Decide.{decLe}
-use native.Mathlib.Nat.{le-trans}
 use lib.Dec.{T, eqb, leb, leb→le, lit≤}
 use lib.IntN.{ℤ, pos, negsuc, subℕ, _-ℤ_}
 use lib.Signed.{mag}
@@ -17,8 +16,9 @@ use Rattle.geometry.specs.declared.paper.Margins.{Margins}
 use Rattle.geometry.specs.declared.paper.MarginSetting.{MarginSetting}
 use Rattle.geometry.specs.declared.paper.MarginSetting.the-variants as margin
 use Rattle.geometry.specs.Outcome.{Outcome, given, refused, andThen}
-use Rattle.geometry.specs.Units.{inI64, lessOf, inPixels, inchesToFixed}
+use Rattle.geometry.specs.Units.{lessOf, inchesToFixed}
 use Rattle.geometry.specs.Paper.{Sheet, PaperFound, Placed, letter, sheets, requested, resolved, upright, turned, paperGeometry, usable, allUsable, sideInPixels, shorter, marginsHold, defaultMargins, between, footerAt, placed, contentBetween, contentGeometry}
+use Rattle.geometry.proofs.Signs.{inside}
 use Rattle.geometry.proofs.Floats.{Reaches, Within, SmallUnits, units-given, not-reaching, near-reaches, far-reaches}
 
 -- ---- papers: one test, computed over the whole list
@@ -124,10 +124,7 @@ mag-sub (negsuc m) zero = rw (lt-ltb 0 (suc m) (omega arith)) (omega arith)
 mag-sub (negsuc m) (suc n) = omega arith
 
 less-given : (z : ℤ) (n : ℕ) → mag z + n < 2 ^ 63 → lessOf (given z) (given (pos n)) ≡ given (z -ℤ pos n)
-unfolding inI64
-less-given z n h =
-    let l : mag (z -ℤ pos n) < 2 ^ 63 = omega (arith, mag-sub z n) in
-    rw (lt-ltb (mag (z -ℤ pos n)) (2 ^ 63) l) refl
+less-given z n h = inside (z -ℤ pos n) (omega (arith, mag-sub z n))
 
 -- a difference that is given, and moderate
 abbrev pub Moderate : Outcome ℤ → Type 0

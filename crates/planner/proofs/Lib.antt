@@ -18,3 +18,4 @@ pub mod Largest
 pub mod Cases
 pub mod Earliest
 pub mod Places
+pub mod NoTen
