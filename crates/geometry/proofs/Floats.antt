@@ -2,19 +2,19 @@
 use mathlib.Core.Path.{_≡_, refl, sym, ap, _∙_, subst}
 use mathlib.Core.Logic.{_⊎_, inl, inr}
 use mathlib.Core.Bool.{Bool, true, false, true≢false, not, cond, _&&_, _||_}
-use Prim.Native.Nat.{ℕ, zero, suc, _+_, _-_, _*_, _/_, _^_, _≤_, _<_, min, zero-le}
+use Prim.Native.Nat.{ℕ, zero, suc, _+_, _-_, _*_, _^_, _≤_, _<_, min, zero-le}
 use native.Mathlib.Omega.{arith}
 use native.Mathlib.Decide.{decLe}
 use native.Mathlib.Nat.{suc-mul, mul-left-comm, mul-one, zero-mul, mul-comm, zero-lt-suc, le-mul-of-pos-right, lt-irrefl, lt-of-lt-of-le, div-lt-iff-lt-mul, div-eq-of-lt, mul-assoc, mul-right-comm, mul-pos, mul-le-mul-right, le-of-mul-le-mul-right, le-trans, le-of-eq, eq-of-mul-eq-mul-right}
 use lib.Dec.{T, eqb, ltb, eqb→eq, ltb→lt, nltb→le, lit≤}
 use lib.Pow.{pow-pos}
-use lib.IntN.{ℤ, pos, negsuc}
-use lib.Ieee.{Float, nan, inf, fin, binary64, up, down, add, mul, sum, lt, eq, le, round, ofInt}
-use lib.Ieee.Fits.{and-l, and-r, up-pos, down-pos}
+use lib.IntN.{ℤ, pos}
+use lib.Ieee.{Float, nan, inf, fin, binary64, up, down, add, mul, sum, lt, le, round, ofInt}
+use lib.Ieee.Fits.{and-l, down-pos}
 use lib.Ieee.Exact.{HasValue, round-exact}
 use lib.Ieee.Back.{round-whole}
 use lib.Ieee.Order.{round-mono}
-use lib.Ieee.Scale.{finite, grid, overflow, round-val, round-under}
+use lib.Ieee.Scale.{finite, grid, round-val, round-under}
 use lib.Ieee.Positive.{positive, above-of-le, values-of-le, own-value, positive-of-value}
 use borrow.Author.Tests.{le-ltb, ne-eqb}
 use Rattle.geometry.specs.Outcome.{given}
@@ -61,7 +61,7 @@ or-split a b t = go (ltb a b) (eqb a b) (ltb→lt a b) (eqb→eq a b) t
     go false true f g t = le-of-eq (g tt)
     go false false f g t = absurd t
 
-within : (zero' z hi : Float) (k v : ℕ) → HasValue zero' false 0 1 → HasValue hi false k 1 → T (le zero' z) → T (le z hi)
+within : (none z hi : Float) (k v : ℕ) → HasValue none false 0 1 → HasValue hi false k 1 → T (le none z) → T (le z hi)
     → (T (finite z) → HasValue z false v (2 ^ 1074)) → Within k z
 unfolding le
 within nan z hi k v o w a b s = absurd o
@@ -284,17 +284,17 @@ nearest-minus (fin true m e) v =
     half b h = omega arith
 
 -- x × 96 × 1,024, by the constants' digits
-abbrev inPixels' : Float → Float
-inPixels' x = mul binary64 x (fin false 3 (pos 5))
+abbrev byPixels : Float → Float
+byPixels x = mul binary64 x (fin false 3 (pos 5))
 
 abbrev inUnits : Float → Float
-inUnits x = mul binary64 (inPixels' x) (fin false 1 (pos 10))
+inUnits x = mul binary64 (byPixels x) (fin false 1 (pos 10))
 
 units-are : (x : Float) → inchesToFixed x ≡ nearestUnits (inUnits x)
 unfolding inchesToFixed
 units-are x =
     ap (λ (y : Float). nearestUnits (mul binary64 (mul binary64 x y) (ofInt binary64 (pos 1024)))) ninety-six
-    ∙ ap (λ (y : Float). nearestUnits (mul binary64 (inPixels' x) y)) thousand
+    ∙ ap (λ (y : Float). nearestUnits (mul binary64 (byPixels x) y)) thousand
 
 -- a length that is given in units, at least 0 and small
 abbrev pub SmallUnits : Float → Type 0
@@ -305,10 +305,10 @@ pub units-given : (x : Float) → T (usable x) → (Reaches 8192 x → ⊥) → 
 units-given x u r = go (small 8192 x u r)
   where
     go : HasValue x true 0 1 ⊎ Within 8192 x → SmallUnits x
-    go (inl v) = (0, units-are x ∙ nearest-minus (inUnits x) (mul-minus 1 10 (inPixels' x) (mul-minus 3 5 x v)), zero-le)
+    go (inl v) = (0, units-are x ∙ nearest-minus (inUnits x) (mul-minus 1 10 (byPixels x) (mul-minus 3 5 x v)), zero-le)
     go (inr w) =
-        let p : Within 786432 (inPixels' x) = mul-within 8192 3 5 x (lit≤ tt) w in
-        let b : Within 805306368 (inUnits x) = mul-within 786432 1 10 (inPixels' x) (lit≤ tt) p in
+        let p : Within 786432 (byPixels x) = mul-within 8192 3 5 x (lit≤ tt) w in
+        let b : Within 805306368 (inUnits x) = mul-within 786432 1 10 (byPixels x) (lit≤ tt) p in
         let f = nearest-within 805306368 (inUnits x) (lit≤ tt) b in
         (f .0, units-are x ∙ f .1, le-trans (f .2) (lit≤ tt))
 

@@ -7,15 +7,14 @@ use native.Mathlib.Omega.{arith}
 use native.Mathlib.Nat.{div-le-self, mul-le-mul, le-trans}
 use lib.Dec.{leb}
 use lib.IntN.{ℤ, pos, negsuc, negℤ, natAbs, _*ℤ_}
-use lib.Signed.{mag, quotZ, leZ}
+use lib.Signed.{mag, quotZ}
 use lib.ListN.{length}
 use borrow.Author.Tests.{ne-eqb}
 use Rattle.geometry.specs.Outcome.{Outcome, given, refused, andThen}
 use Rattle.geometry.specs.Units.{inI64, scaleFixed, lessOf, atLeastOne, unscaledCapacity}
-use Rattle.geometry.specs.Paper.{PaperFound, Placed, paperGeometry, contentGeometry}
 use Rattle.geometry.proofs.Signs.{inside}
 use Rattle.geometry.proofs.Scaling.{scaled}
-use Rattle.geometry.proofs.Content.{PaperGiven, ContentGiven, paper-given, content-given}
+use Rattle.geometry.proofs.Content.{paper-given, content-given}
 use Rattle.planner.specs.declared.plan.Settings.{Settings}
 use Rattle.planner.specs.Questions.{ask, equallyLong, risingWithin, allSmall}
 use Rattle.planner.specs.Scale.{units}
@@ -28,8 +27,7 @@ pub sides-given : (s : Settings) → (c : Sides) × (contentSides s ≡ given c)
 unfolding contentSides
 sides-given s =
     let p = paper-given (s .paper) (s .landscape) in
-    let c = content-given (p .paper .width) (p .paper .height) (s .margins) (p .wide) (p .high) in
-    (
+    let c = content-given (p .paper .width) (p .paper .height) (s .margins) (p .wide) (p .high) in (
       record { width = c .content .width; height = c .content .height; unknown = p .paper .unknown; invalid = c .content .invalid },
       rw (p .is, c .is) refl,
       c .wide,
