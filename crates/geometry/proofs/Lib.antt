@@ -7,3 +7,5 @@ pub mod Doubling
 pub mod Nearest
 pub mod Table
 pub mod Sheets
+pub mod Floats
+pub mod Content

@@ -20,3 +20,4 @@ pub mod Largest
 pub mod Cases
 pub mod Earliest
 pub mod Places
+pub mod NoTen
