@@ -8,6 +8,7 @@ pub mod EndLaws
 pub mod AxisLaws
 pub mod PartitionLaws
 pub mod ScaleLaws
+pub mod PageLaws
 pub mod Division
 pub mod Cuts
 pub mod Whole
