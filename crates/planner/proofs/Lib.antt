@@ -19,3 +19,5 @@ pub mod Largest
 pub mod Cases
 pub mod Earliest
 pub mod Places
+pub mod BodyLaws
+pub mod Demand
