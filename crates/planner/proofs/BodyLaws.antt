@@ -1,27 +1,27 @@
 -- The body of an axis: its indexes, by their places, and the runs that cover them. Assumes nothing.
-use mathlib.Core.Path.{_≡_, refl, sym, ap, _∙_}
-use mathlib.Core.Logic.{inl, inr}
+use mathlib.Core.Path.{_≡_, refl, sym, _∙_}
+use mathlib.Core.Logic.{_↔_, inl, inr}
 use mathlib.Core.List.{List, [], _∷_}
 use Prim.Native.Nat.{ℕ, zero, suc, _+_, _-_, _≤_, _<_}
 use native.Mathlib.Omega.{arith}
-use lib.Dec.{ltb}
 use lib.IntN.{ℤ}
-use lib.ListN.{length, getD, take, drop, length-map}
+use lib.ListN.{length, getD, drop, length-map}
 use lib.Seq.{getD-take, getD-drop}
 use borrow.Author.Tests.{lt-ltb}
 use Rattle.planner.specs.declared.titles.Title.the-variants.{Absent}
 use Rattle.planner.specs.declared.runs.Frame.{Frame}
-use Rattle.planner.specs.Slots.{sum, below, mid}
+use Rattle.planner.specs.Slots.{sum, below}
 use Rattle.planner.specs.Titles.{titleTotal, normalized, widened, widenedFrom}
 use Rattle.planner.specs.Runs.{Run, axisRuns}
 use Rattle.planner.specs.Lent.{firsts, lasts, sizes}
-use Rattle.planner.specs.Scale.{Space, Body, frameFor}
+use Rattle.planner.specs.Scale.{frameFor}
 use Rattle.planner.specs.Pages.{orEmpty}
 use Rattle.planner.specs.Plan.{AxisInput, titleOf, startOf, bodyOf, spaceOn, cutRuns, pageRuns}
 use Rattle.planner.specs.Division.{_∈_, Division, counts, keptBreaks, Rising, InOneRun, FewestRuns}
 use Rattle.planner.specs.Demand.{IsBody, Bare, bodyIndexes, bodySizes, capacityBeside}
 use Rattle.planner.proofs.Laws.{either-lt, length-mid}
 use Rattle.planner.proofs.EndLaws.{below-le}
+use Rattle.planner.proofs.Division.{split}
 use Rattle.planner.proofs.Places.{rising-take}
 use Rattle.planner.proofs.Whole.{axis-division}
 use Rattle.planner.proofs.OneRun.{rising-drop, axis-covered}
@@ -33,6 +33,11 @@ use Rattle.planner.proofs.Fewest.{axis-fewest-runs, kept-plain}
 place-in : (i : ℕ) (is : List ℕ) → i ∈ is → (k : ℕ) × (k < length is) × (getD is k 0 ≡ i)
 place-in i (x ∷ is) (inl e) = (0, omega arith, sym e)
 place-in i (x ∷ is) (inr m) = let (k, h, e) = place-in i is m in (suc k, omega arith, e)
+
+in-place : (is : List ℕ) (k : ℕ) → k < length is → getD is k 0 ∈ is
+in-place [] k h = absurd (omega arith)
+in-place (x ∷ is) zero h = inl refl
+in-place (x ∷ is) (suc k) h = inr (in-place is k (omega arith))
 
 -- no slot at a limit or past it is below it
 below-up-to : (limit : ℕ) (is : List ℕ) (k : ℕ) → k < length is → limit ≤ getD is k 0 → below limit is ≤ k
@@ -81,6 +86,30 @@ module _ (a : AxisInput) where
           omega arith,
           getD-take (to - from) (drop from (a .indexes)) (k - from) 0 (omega arith) ∙ getD-drop from (a .indexes) (k - from) 0 ∙ rw back e,
         )
+
+    -- and what stands there is one
+    place-body : (i : ℕ) → i ∈ bodyIndexes a → IsBody a i
+    place-body i m =
+        let (j, h, e) = place-in i (bodyIndexes a) m in
+        let is : List ℕ = a .indexes in
+        let most = below-le (a .last + 1) is in
+        let k : ℕ = from + j in
+        let many : length (bodyIndexes a) ≡ to - from = length-mid from to is most in
+        let in-to : k < to = omega arith in
+        let inside : k < length is = omega arith in
+        let same : getD is k 0 ≡ i = sym (getD-take (to - from) (drop from is) j 0 (omega arith) ∙ getD-drop from is j 0) ∙ e in
+        record {
+          measured = rw same at (in-place is k inside);
+          from-start = split (startOf a) i (λ l. l) (λ l. absurd (omega (arith, below-past-it (startOf a) is rising k inside (omega arith))));
+          to-last = split i (a .last) (λ l. l) (λ l. absurd (omega (arith, below-up-to (a .last + 1) is k inside (omega arith))));
+        }
+
+    -- the body's indexes are those of the measured slots from its start to the range's last
+    pub body-is : (i : ℕ) → IsBody a i ↔ (i ∈ bodyIndexes a)
+    body-is i = (
+      (λ b. let (j, h, e) = body-place i b in rw e at (in-place (bodyIndexes a) j h)),
+      place-body i,
+    )
 
 -- ---- the runs of the pages
 

@@ -1,17 +1,16 @@
 -- Demand 3 from the promise of the plan call: every pair on one page, the fewest runs, the largest permille. Assumes nothing.
 use mathlib.Core.Path.{_≡_, refl, sym, ap, _∙_, subst}
-use mathlib.Core.Bool.{Bool, true, false, cond, _&&_}
-use mathlib.Core.List.{List, [], _∷_, _++_, map}
-use Prim.Native.Nat.{ℕ, zero, suc, _+_, _-_, _*_, _≤_, _<_, _^_}
+use mathlib.Core.Bool.{Bool, true, false, _&&_}
+use mathlib.Core.List.{List, map}
+use Prim.Native.Nat.{ℕ, zero, suc, _*_, _≤_, _<_, _^_}
 use native.Mathlib.Omega.{arith}
-use lib.Dec.{leb, eqb}
-use lib.IntN.{ℤ, pos}
+use lib.Dec.{leb}
+use lib.IntN.{ℤ}
 use lib.Signed.{mag}
 use lib.ListN.{length, getD, take, drop, length-append, length-drop, length-map}
 use lib.Seq.{getD-take, length-take-le, take-at}
 use borrow.Author.Tests.{le-leb, leb-true, eq-eqb, eqb-true}
 use Rattle.geometry.specs.Outcome.{Outcome, given, refused, andThen}
-use Rattle.planner.specs.declared.pages.PageOrder.{PageOrder}
 use Rattle.planner.specs.declared.pages.Page.{Page}
 use Rattle.planner.specs.declared.pages.Plan.{Plan}
 use Rattle.planner.specs.declared.plan.Settings.{Settings}
@@ -20,12 +19,11 @@ use Rattle.planner.specs.Slots.{written}
 use Rattle.planner.specs.Questions.{ask, equallyLong, allOrdered, risingWithin, allSmall}
 use Rattle.planner.specs.Runs.{Run}
 use Rattle.planner.specs.Lent.{firsts, lasts, sizes}
-use Rattle.planner.specs.Scale.{Scale}
 use Rattle.planner.specs.Pages.{RunLists, evenLists, pageAt, inOrder, pagesOf, numbered, pageNumbered}
-use Rattle.planner.specs.Plan.{AxisInput, Sides, Layout, RunsLent, Planned, contentSides, chosenScale, pageRuns, planOf, layout, formed, inGrid, roomFor, planned, planOutcome, bodyOf, spaceOn}
+use Rattle.planner.specs.Plan.{AxisInput, Sides, Layout, RunsLent, Planned, contentSides, chosenScale, pageRuns, planOf, layout, formed, inGrid, roomFor, planned, bodyOf, spaceOn}
 use Rattle.planner.specs.Division.{Rising, LiesIn, InOneRun}
 use Rattle.planner.specs.Fitting.{Chosen}
-use Rattle.planner.specs.Demand.{Finished, OnPage, OnOnePage, CoversPairs, Bare, NoMergesNoTitles, FewestPlan, Exceeds, EachReaches, LargestPlan}
+use Rattle.planner.specs.Demand.{Finished, OnPage, OnOnePage, CoversPairs, Bare, FewestPlan, Exceeds, EachReaches, LargestPlan}
 use Rattle.planner.proofs.QuestionLaws.{both, rising-of}
 use Rattle.planner.proofs.Division.{split}
 use Rattle.planner.proofs.PageLaws.{verticalOf, horizontalOf, beforeOf, numbered-zero, numbered-take, numbered-take-past, page-after, vertical-below, horizontal-below, before-of-place, before-below, vertical-is, horizontal-is}
@@ -49,6 +47,9 @@ all-yes u v w x o y e =
     let (seven, g) = ask-yes 7 v (ask 8 w (ask 9 x o)) y f in
     let (eight, h) = ask-yes 8 w (ask 9 x o) y g in
     (six, eight, ask-yes 9 x o y h .1)
+
+same-sides : {o : Outcome Sides} {x c : Sides} → o ≡ given x → o ≡ given c → x ≡ c
+same-sides e f = cc
 
 -- ---- the lists of an axis after the call
 
@@ -244,21 +245,16 @@ module _ (s : Settings) (a b : AxisInput) (rows₀ columns₀ rows columns : Run
 
   -- ---- fewest
 
-  same-sides : (x c : Sides) → contentSides s ≡ given x → contentSides s ≡ given c → x ≡ c
-  same-sides x c e f = cc
-
   pub fewest-plan : FewestPlan r s a b rows columns
   fewest-plan = record {
-    rows-fewest = λ plan f c e none h.
+    fewest = λ plan f c e none.
         let d = done s a b rows₀ columns₀ rows columns r p plan f in
         let u = d .on-rows in
-        rw (← (same-sides (d .sides) c (d .sides-are) e), u .firsts-are, u .lasts-are, u .sizes-are)
-        (page-runs-fewest a (none .rows-bare) (d .sides .height) (plan .permille) (u .even) h);
-    columns-fewest = λ plan f c e none h.
-        let d = done s a b rows₀ columns₀ rows columns r p plan f in
         let w = d .on-columns in
-        rw (← (same-sides (d .sides) c (d .sides-are) e), w .firsts-are, w .lasts-are, w .sizes-are)
-        (page-runs-fewest b (none .columns-bare) (d .sides .width) (plan .permille) (w .even) h);
+        let same = same-sides (d .sides-are) e in (
+          λ h. rw (← same, u .firsts-are, u .lasts-are, u .sizes-are) (page-runs-fewest a (none .rows-bare) (d .sides .height) (plan .permille) (u .even) h),
+          λ h. rw (← same, w .firsts-are, w .lasts-are, w .sizes-are) (page-runs-fewest b (none .columns-bare) (d .sides .width) (plan .permille) (w .even) h),
+        );
   }
 
 -- ---- largest
@@ -284,7 +280,7 @@ unfolding chosenScale spaceOn bodyOf
 scale-is s c a b height width fit x y =
     rw fit (scale-chosen (spaceOn (c .height) a) (spaceOn (c .width) b) (bodyOf a) (bodyOf b) height width (a .target) (b .target) x y)
 
-module _ (s : Settings) (moderate : (c : Sides) → contentSides s ≡ given c → (mag (c .width) < 2 ^ 53) × (mag (c .height) < 2 ^ 53))
+module _ (s : Settings) (content : (c : Sides) × (contentSides s ≡ given c) × (mag (c .width) < 2 ^ 53) × (mag (c .height) < 2 ^ 53))
     (a b : AxisInput) (rows₀ columns₀ rows columns : RunLists) (r : Planning)
     (p : Planned (planned s a b rows₀ columns₀) r rows₀ columns₀ rows columns) where
   pub largest-plan : LargestPlan r s a b
@@ -292,10 +288,10 @@ module _ (s : Settings) (moderate : (c : Sides) → contentSides s ≡ given c �
   largest-plan = record {
     largest = λ plan f c e none fit height width x y.
         let d = done s a b rows₀ columns₀ rows columns r p plan f in
-        let m = moderate c e in
-        let same : d .sides ≡ c = same-sides s a b rows₀ columns₀ rows columns r p (d .sides) c (d .sides-are) e in
-        let is : planOf s c a b (chosenScale s c a b) ≡ plan = rw (← same) (d .plan-is) in
+        let (k, given-k, width-low, height-low) = content in
+        let low = same-sides given-k e in
+        let is : planOf s c a b (chosenScale s c a b) ≡ plan = rw (← (same-sides (d .sides-are) e)) (d .plan-is) in
         subst (λ (l : Plan). Chosen (EachReaches a b height width) (l .permille) (l .notes .«fit_unreachable»)) is
-        (scale-is s c a b height width fit (plain (c .height) a height (none .rows-bare) x (m .1) (d .on-rows .even))
-        (plain (c .width) b width (none .columns-bare) y (m .0) (d .on-columns .even)));
+        (scale-is s c a b height width fit (plain (c .height) a height (none .rows-bare) x (rw low at height-low) (d .on-rows .even))
+        (plain (c .width) b width (none .columns-bare) y (rw low at width-low) (d .on-columns .even)));
   }

@@ -25,7 +25,8 @@ Finished r plan = planOutcome r ≡ given plan
 
 -- ---- covered
 
--- a body row or a body column, by its index: "The body is the measured slots from there to the range's last."
+-- a body row or a body column, by its index: "Where a title, as widened, covers the range's first index, the body starts after the title's
+-- last; otherwise at the range's first. The body is the measured slots from there to the range's last."
 pub record IsBody (a : AxisInput) (index : ℕ) : Type 0 where
   pub measured : index ∈ a .indexes
   pub from-start : startOf a ≤ index
@@ -86,10 +87,8 @@ FewestOnAxis side permille a n runs =
 
 -- "Found where no merges or titles exist, on each axis"
 pub record FewestPlan (r : Planning) (s : Settings) (a b : AxisInput) (rows columns : RunLists) : Type 0 where
-  pub rows-fewest : (plan : Plan) → Finished r plan → (c : Sides) → contentSides s ≡ given c → NoMergesNoTitles a b
-      → FewestOnAxis (c .height) (plan .permille) a (plan .«row_runs») rows
-  pub columns-fewest : (plan : Plan) → Finished r plan → (c : Sides) → contentSides s ≡ given c → NoMergesNoTitles a b
-      → FewestOnAxis (c .width) (plan .permille) b (plan .«column_runs») columns
+  pub fewest : (plan : Plan) → Finished r plan → (c : Sides) → contentSides s ≡ given c → NoMergesNoTitles a b
+      → FewestOnAxis (c .height) (plan .permille) a (plan .«row_runs») rows × FewestOnAxis (c .width) (plan .permille) b (plan .«column_runs») columns
 
 -- ---- largest
 
