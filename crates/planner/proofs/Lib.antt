@@ -10,6 +10,7 @@ pub mod PartitionLaws
 pub mod ScaleLaws
 pub mod PlanLaws
 pub mod PagesCode
+pub mod PageLaws
 pub mod Division
 pub mod Cuts
 pub mod Whole
@@ -21,3 +22,5 @@ pub mod Cases
 pub mod Earliest
 pub mod Places
 pub mod NoTen
+pub mod BodyLaws
+pub mod Demand

@@ -12,7 +12,7 @@ use Rattle.planner.specs.Division.{Rising}
 use Rattle.planner.proofs.Division.{split}
 use Rattle.planner.proofs.OneRun.{rising-drop}
 
-rising-take : (n : ℕ) (xs : List ℕ) → Rising xs → Rising (take n xs)
+pub rising-take : (n : ℕ) (xs : List ℕ) → Rising xs → Rising (take n xs)
 rising-take n xs r j k h q =
     let l = length-take n xs in rw (getD-take n xs j 0 (omega arith), getD-take n xs k 0 (omega arith)) (r j k h (omega arith))
 

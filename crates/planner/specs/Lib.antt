@@ -10,3 +10,4 @@ pub mod Pages
 pub mod Plan
 pub mod Division
 pub mod Fitting
+pub mod Demand
