@@ -68,7 +68,7 @@ pub record Shows (a : AxisInput) (rs : List Run) (n : ℕ) (l : RunLists) : Type
   pub sizes-are : take n (l .sizes) ≡ sizes rs
 
 module _ (a : AxisInput) (rs : List Run) (before after : RunLists) (l : Layout) (lent : RunsLent (given l) rs before after) where
-  shows : formed a before ≡ true → risingWithin (a .limit) (a .indexes) ≡ true → length rs ≤ length (before .firsts) → Shows a rs (length rs) after
+  shows : formed a (evenLists before) ≡ true → risingWithin (a .limit) (a .indexes) ≡ true → length rs ≤ length (before .firsts) → Shows a rs (length rs) after
   unfolding formed
   shows form rise room =
       let slots = equallyLong (a .indexes) (a .sizes) in
@@ -116,7 +116,7 @@ module _ (s : Settings) (a b : AxisInput) (rows₀ columns₀ rows columns : Run
   laid : (l : Layout) → planned s a b rows₀ columns₀ ≡ given l → Done s a b (l .plan) rows columns
   unfolding planned roomFor layout planOf
   laid l e =
-      let form = formed a rows₀ && formed b columns₀ in
+      let form = formed a (evenLists rows₀) && formed b (evenLists columns₀) in
       let rise = risingWithin (a .limit) (a .indexes) && risingWithin (b .limit) (b .indexes) in
       let room : Sides → Outcome Layout = λ (c : Sides). roomFor (layout s c a b) (length (rows₀ .firsts)) (length (columns₀ .firsts)) (s .«page_limit») in
       let y = all-yes (form && equallyLong (a .merge-firsts) (b .merge-firsts)) (inGrid a && inGrid b) rise (allSmall (a .sizes) && allSmall (b .sizes))
@@ -129,7 +129,7 @@ module _ (s : Settings) (a b : AxisInput) (rows₀ columns₀ rows columns : Run
       let same : k ≡ l = cc in
       let q : Planned (given k) r rows₀ columns₀ rows columns =
       subst (λ (o : Outcome Layout). Planned o r rows₀ columns₀ rows columns) (e ∙ sym last) p in
-      let forms = both (formed a rows₀) (formed b columns₀) (both form (equallyLong (a .merge-firsts) (b .merge-firsts)) (y .0) .0) in
+      let forms = both (formed a (evenLists rows₀)) (formed b (evenLists columns₀)) (both form (equallyLong (a .merge-firsts) (b .merge-firsts)) (y .0) .0) in
       let rises = both (risingWithin (a .limit) (a .indexes)) (risingWithin (b .limit) (b .indexes)) (y .1) in
       let rooms = both (leb (length (k .rows)) (length (rows₀ .firsts))) (leb (length (k .columns)) (length (columns₀ .firsts))) eleven in
       subst (λ (l : Layout). Done s a b (l .plan) rows columns) same (record {

@@ -18,7 +18,7 @@ use Rattle.geometry.proofs.Content.{paper-given, content-given}
 use Rattle.planner.specs.declared.plan.Settings.{Settings}
 use Rattle.planner.specs.Questions.{ask, equallyLong, risingWithin, allSmall}
 use Rattle.planner.specs.Scale.{units}
-use Rattle.planner.specs.Pages.{RunLists}
+use Rattle.planner.specs.Pages.{RunLists, evenLists}
 use Rattle.planner.specs.Plan.{AxisInput, Sides, Layout, contentSides, layout, formed, inGrid, roomFor, planned}
 
 -- ---- the content's sides
@@ -105,7 +105,7 @@ after o c next g n e = n (sym (ap (λ (o : Outcome Sides). andThen o next) g) �
 pub never-ten : (s : Settings) (rows columns : AxisInput) (lr lc : RunLists) → planned s rows columns lr lc ≡ refused 10 → ⊥
 unfolding planned
 never-ten s rows columns lr lc =
-    let six = formed rows lr && formed columns lc && equallyLong (rows .merge-firsts) (columns .merge-firsts) in
+    let six = formed rows (evenLists lr) && formed columns (evenLists lc) && equallyLong (rows .merge-firsts) (columns .merge-firsts) in
     let seven = inGrid rows && inGrid columns in
     let eight = risingWithin (rows .limit) (rows .indexes) && risingWithin (columns .limit) (columns .indexes) in
     let nine = allSmall (rows .sizes) && allSmall (columns .sizes) in

@@ -28,7 +28,7 @@ use Rattle.planner.specs.Titles.{widened, bodyStart}
 use Rattle.planner.specs.Runs.{Run, axisRuns, shifts, expansions}
 use Rattle.planner.specs.Lent.{firsts, lasts, sizes, marks, Room, Written}
 use Rattle.planner.specs.Partition.{lentEven, noOr, Even}
-use Rattle.planner.specs.Scale.{Space, Body, Low, spaceOf, frameFor, axisPasses, fitPasses, Fitted}
+use Rattle.planner.specs.Scale.{Space, Body, Low, spaceOf, bodyFor, frameFor, axisPasses, fitPasses, Fitted}
 use Rattle.planner.specs.Pages.{RunLists, runLists, evenLists, none, orEmpty, overflowing}
 use Rattle.planner.specs.Plan.{AxisInput, Sides, titleOf, startOf, bodyPart, bodyOf, spaceOn, lookedAt, contentSides, cutRuns, cutShifts, pageRuns, overflows, Layout, layoutAt, layout, roomFor, planned, formed, inGrid, firstNo, Planned, axisFor, Fine, ReadyFor, within, readyFrame, readyRuns, readyShifts, cutOf, Cuttable}
 use Rattle.planner.proofs.QuestionLaws.{both, slots-of}
@@ -174,7 +174,8 @@ within-body r side a y xs =
 
 pub frame-of : (r : Ready) (side : ℤ) (a : AxisInput) → ReadyFor r side a → (p : ℕ) → readyFrame (r .fit) p ≡ frameFor (spaceOn side a) (bodyOf a) p
 unfolding bodyOf
-frame-of r side a y p = rw (y .space-is, y .title-is, y .lo-is, y .hi-is) ?
+frame-of r side a y p =
+    ap (λ (s : Space). frameFor s (bodyFor (r .fit .stretch) [] [] [] []) p) (y .space-is) ∙ rw (y .title-is, y .lo-is, y .hi-is)
 
 module _ (r : Ready) (side : ℤ) (a : AxisInput) (y : ReadyFor r side a) (p : ℕ) where
   pub runs-of : readyRuns r p (a .indexes) (a .sizes) (a .merge-firsts) (a .merge-lasts) (a .breaks) ≡ cutRuns side a p
@@ -215,14 +216,13 @@ pub as-many : (first : ℕ) (rs : List Run) → length (orEmpty first rs) ≡ le
 as-many first [] = refl
 as-many first (r ∷ rs) = refl
 
--- the numbers of a cut, where the runs were counted
-abbrev pub cutAs : ℕ → Bool → List Run → ℕ → FinalCut
-cutAs n empty rs k = record { runs = n; empty = empty; expansions = expansions rs; shifts = k }
+abbrev pub cutAs : ℕ → Bool → ℕ → ℕ → FinalCut
+cutAs n empty grown k = record { runs = n; empty = empty; expansions = grown; shifts = k }
 
-pub cut-none : (rs : List Run) (k : ℕ) → length rs ≡ 0 → cutAs 1 (eqb (length rs) 0) rs k ≡ cutOf rs k
+pub cut-none : (rs : List Run) (k : ℕ) → length rs ≡ 0 → cutAs 1 (eqb (length rs) 0) (expansions rs) k ≡ cutOf rs k
 cut-none [] k e = refl
 cut-none (r ∷ rs) k e = absurd (omega arith)
 
-pub cut-some : (rs : List Run) (k : ℕ) → ¬ (length rs ≡ 0) → cutAs (length rs) (eqb (length rs) 0) rs k ≡ cutOf rs k
+pub cut-some : (rs : List Run) (k : ℕ) → ¬ (length rs ≡ 0) → cutAs (length rs) (eqb (length rs) 0) (expansions rs) k ≡ cutOf rs k
 cut-some [] k e = absurd (e refl)
 cut-some (r ∷ rs) k e = rw (ne-eqb (length (r ∷ rs)) 0 (λ z. omega arith))

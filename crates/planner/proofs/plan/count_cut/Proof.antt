@@ -1,16 +1,16 @@
 -- `planner::plan::count_cut` meets its contract. Assumes nothing.
-use mathlib.Core.Path.{_≡_, ap, _∙_}
+use mathlib.Core.Path.{_≡_, sym, ap, _∙_}
 use Prim.Native.Nat.{_≤_, _^_}
 use lib.Dec.{eqb}
 use lib.ListN.{length}
-use borrow.Author.Tests.{eqb-true}
+use borrow.Author.Tests.{eqb-true, eqb-false}
 use Rattle.planner.specs.declared.runs.Tally.{Tally}
 use Rattle.planner.specs.declared.runs.Frame.{Frame}
 use Rattle.planner.specs.declared.plan.FinalCut.{FinalCut}
 use Rattle.planner.specs.Runs.{axisTally, expansions, tallies}
 use Rattle.planner.specs.Plan.{readyRuns, readyShifts, within, readyFrame}
 use Rattle.planner.proofs.Laws.{slots-mid}
-use Rattle.planner.proofs.PlanLaws.{cut-none, cut-some}
+use Rattle.planner.proofs.PlanLaws.{cutAs, cut-none, cut-some}
 use native.Mathlib.Omega.{arith}
 use borrow.Author.Needs.{needs}
 use Rattle.planner.proofs.plan.count_cut.Statement.{statement}
@@ -62,13 +62,26 @@ count-axis-requires c κs =
 returns : tie.Need-returns
 returns c =
     let t = c .before in
+    let a = t .before .before .before .before .before .before .before .before .before .before .args in
+    let q = t .before .before .before .before .before .before .before .before .before .before .pre in
     let e = counted t in
-    let z : t .count-axis .result .runs ≡ 0 = eqb-true _ _ (c .if1 .taken) in
-    ?
+    let few = slots-mid (a .ready .from) (a .ready .to) (a .indexes .now) (a .sizes .now) (omega (arith, q .inside, q .slots .even)) (q .slots) .small .few in
+    let z : length (readyRuns (a .ready) (a .permille) (a .indexes .now) (a .sizes .now) (a .merge-firsts .now) (a .merge-lasts .now) (a .breaks .now)) ≡ 0 = sym (ap (λ (x : Tally). x .runs) e) ∙ eqb-true _ _ (c .if1 .taken) in (
+      ap (λ (x : Tally). cutAs 1 (eqb (x .runs) 0) (x .expansions) (x .shifts)) e ∙ cut-none (readyRuns (a .ready) (a .permille) (a .indexes .now) (a .sizes .now) (a .merge-firsts .now) (a .merge-lasts .now) (a .breaks .now)) (readyShifts (a .ready) (a .permille) (a .indexes .now) (a .merge-firsts .now) (a .merge-lasts .now) (a .breaks .now)) z,
+      (omega arith, omega (arith, t .count-axis .ensures .1 .1, few), t .count-axis .ensures .1 .2),
+    )
 
 returns-2 : tie.Need-returns-2
 returns-2 c =
-    ?
+    let t = c .before in
+    let a = t .before .before .before .before .before .before .before .before .before .before .args in
+    let q = t .before .before .before .before .before .before .before .before .before .before .pre in
+    let e = counted t in
+    let few = slots-mid (a .ready .from) (a .ready .to) (a .indexes .now) (a .sizes .now) (omega (arith, q .inside, q .slots .even)) (q .slots) .small .few in
+    let z : ¬ (length (readyRuns (a .ready) (a .permille) (a .indexes .now) (a .sizes .now) (a .merge-firsts .now) (a .merge-lasts .now) (a .breaks .now)) ≡ 0) = λ w. eqb-false _ _ (c .if1 .left) (ap (λ (x : Tally). x .runs) e ∙ w) in (
+      ap (λ (x : Tally). cutAs (x .runs) (eqb (x .runs) 0) (x .expansions) (x .shifts)) e ∙ cut-some (readyRuns (a .ready) (a .permille) (a .indexes .now) (a .sizes .now) (a .merge-firsts .now) (a .merge-lasts .now) (a .breaks .now)) (readyShifts (a .ready) (a .permille) (a .indexes .now) (a .merge-firsts .now) (a .merge-lasts .now) (a .breaks .now)) z,
+      (omega (arith, t .count-axis .ensures .1 .0, few), omega (arith, t .count-axis .ensures .1 .1, few), t .count-axis .ensures .1 .2),
+    )
 
 pub count-cut-spec : {M : Type 1} → statement M
 count-cut-spec =
