@@ -1,30 +1,31 @@
 -- Demand 3 from the promise of the plan call: every pair on one page, the fewest runs, the largest permille. Assumes nothing.
 use mathlib.Core.Path.{_≡_, refl, sym, ap, _∙_, subst}
 use mathlib.Core.Bool.{Bool, true, false, _&&_}
-use mathlib.Core.List.{List, map}
+use mathlib.Core.List.{List}
 use Prim.Native.Nat.{ℕ, zero, suc, _*_, _≤_, _<_, _^_}
 use native.Mathlib.Omega.{arith}
 use lib.Dec.{leb}
 use lib.IntN.{ℤ}
 use lib.Signed.{mag}
-use lib.ListN.{length, getD, take, drop, length-append, length-drop, length-map}
-use lib.Seq.{getD-take, length-take-le, take-at}
-use borrow.Author.Tests.{le-leb, leb-true, eq-eqb, eqb-true}
+use lib.ListN.{length, getD, take, length-map}
+use lib.Seq.{getD-take, length-take-le}
+use borrow.Author.Tests.{le-leb, leb-true, eq-eqb}
 use Rattle.geometry.specs.Outcome.{Outcome, given, refused, andThen}
 use Rattle.planner.specs.declared.pages.Page.{Page}
 use Rattle.planner.specs.declared.pages.Plan.{Plan}
 use Rattle.planner.specs.declared.plan.Settings.{Settings}
 use Rattle.planner.specs.declared.plan.Planning.{Planning}
-use Rattle.planner.specs.Slots.{written}
-use Rattle.planner.specs.Questions.{ask, equallyLong, allOrdered, risingWithin, allSmall}
+use Rattle.planner.specs.Questions.{ask, equallyLong, risingWithin, allSmall}
 use Rattle.planner.specs.Runs.{Run}
 use Rattle.planner.specs.Lent.{firsts, lasts, sizes}
 use Rattle.planner.specs.Pages.{RunLists, evenLists, pageAt, inOrder, pagesOf, numbered, pageNumbered}
-use Rattle.planner.specs.Plan.{AxisInput, Sides, Layout, RunsLent, Planned, contentSides, chosenScale, pageRuns, planOf, layout, formed, inGrid, roomFor, planned, bodyOf, spaceOn}
+use Rattle.planner.specs.Plan.{AxisInput, Sides, Layout, RunsLent, Planned, contentSides, chosenScale, pageRuns, planOf, layout, layoutAt, formed, inGrid, roomFor, planned, bodyOf, spaceOn}
 use Rattle.planner.specs.Division.{Rising, LiesIn, InOneRun}
 use Rattle.planner.specs.Fitting.{Chosen}
 use Rattle.planner.specs.Demand.{Finished, OnPage, OnOnePage, CoversPairs, Bare, FewestPlan, Exceeds, EachReaches, LargestPlan}
 use Rattle.planner.proofs.QuestionLaws.{both, rising-of}
+use Rattle.planner.proofs.Lent.{front-written, long-written}
+use Rattle.planner.proofs.PlanLaws.{formed-of, even-of}
 use Rattle.planner.proofs.Division.{split}
 use Rattle.planner.proofs.PageLaws.{verticalOf, horizontalOf, beforeOf, numbered-zero, numbered-take, numbered-take-past, page-after, vertical-below, horizontal-below, before-of-place, before-below, vertical-is, horizontal-is}
 use Rattle.planner.proofs.BodyLaws.{body-even, page-runs-cover, bare-title, bare-total, page-runs-fewest}
@@ -53,9 +54,6 @@ same-sides e f = cc
 
 -- ---- the lists of an axis after the call
 
-length-written : (xs old : List ℕ) → length xs ≤ length old → length (written xs old) ≡ length old
-length-written xs old h = simp (length-append, length-drop) (omega arith)
-
 -- the runs rs, n of them, are what stands first in the lists
 pub record Shows (a : AxisInput) (rs : List Run) (n : ℕ) (l : RunLists) : Type 0 where
   pub even : length (a .indexes) ≡ length (a .sizes)
@@ -69,36 +67,26 @@ pub record Shows (a : AxisInput) (rs : List Run) (n : ℕ) (l : RunLists) : Type
 
 module _ (a : AxisInput) (rs : List Run) (before after : RunLists) (l : Layout) (lent : RunsLent (given l) rs before after) where
   shows : formed a (evenLists before) ≡ true → risingWithin (a .limit) (a .indexes) ≡ true → length rs ≤ length (before .firsts) → Shows a rs (length rs) after
-  unfolding formed
   shows form rise room =
-      let slots = equallyLong (a .indexes) (a .sizes) in
-      let merges = equallyLong (a .merge-firsts) (a .merge-lasts) in
-      let upto = both (slots && merges && evenLists before && leb (a .first) (a .last)) (allOrdered (a .merge-firsts) (a .merge-lasts)) form .0 in
-      let three = both (slots && merges && evenLists before) (leb (a .first) (a .last)) upto .0 in
-      let two = both (slots && merges) (evenLists before) three in
-      let lists = both (equallyLong (before .firsts) (before .lasts) && equallyLong (before .firsts) (before .sizes)) (equallyLong (before .firsts) (before .marks)) (two .1) in
-      let some = both (equallyLong (before .firsts) (before .lasts)) (equallyLong (before .firsts) (before .sizes)) (lists .0) in
-      let el = eqb-true (length (before .firsts)) (length (before .lasts)) (some .0) in
-      let es = eqb-true (length (before .firsts)) (length (before .sizes)) (some .1) in
-      let em = eqb-true (length (before .firsts)) (length (before .marks)) (lists .1) in
-      let long : (g : Run → ℕ) (old new : List ℕ) → length (before .firsts) ≡ length old → new ≡ written (map g rs) old → length new ≡ length (before .firsts) =
-      λ g old new e w. ap length w ∙ length-written (map g rs) old (omega (arith, length-map rs g)) ∙ sym e in
-      let front : (g : Run → ℕ) (old new : List ℕ) → new ≡ written (map g rs) old → take (length rs) new ≡ map g rs =
-      λ g old new w. rw w (take-at (map g rs) (drop (length (map g rs)) old) (length rs) (length-map rs g)) in
-      let lf = long (λ (r : Run). r .first) (before .firsts) (after .firsts) refl (lent .firsts-are) in
-      let ll = long (λ (r : Run). r .last) (before .lasts) (after .lasts) el (lent .lasts-are) in
-      let lz = long (λ (r : Run). r .size) (before .sizes) (after .sizes) es (lent .sizes-are) in
-      let lm = long (λ (r : Run). r .manual) (before .marks) (after .marks) em (lent .marks-are) in
+      let f = formed-of a (evenLists before) form in
+      let e = even-of (before .firsts) (before .lasts) (before .sizes) (before .marks) (f .lent-even) in
+      let el = e .lasts-even in
+      let es = e .sizes-even in
+      let em = e .marks-even in
+      let lf = long-written (λ (r : Run). r .first) rs (before .firsts) (after .firsts) room (lent .firsts-are) in
+      let ll = long-written (λ (r : Run). r .last) rs (before .lasts) (after .lasts) (omega (arith, el)) (lent .lasts-are) ∙ sym el in
+      let lz = long-written (λ (r : Run). r .size) rs (before .sizes) (after .sizes) (omega (arith, es)) (lent .sizes-are) ∙ sym es in
+      let lm = long-written (λ (r : Run). r .manual) rs (before .marks) (after .marks) (omega (arith, em)) (lent .marks-are) ∙ sym em in
       record {
-        even = eqb-true (length (a .indexes)) (length (a .sizes)) (both slots merges (two .0) .0);
+        even = f .slots-even;
         rising = rising-of (a .limit) (a .indexes) rise;
         count = refl;
         lists-even =
             rw (eq-eqb (length (after .firsts)) (length (after .lasts)) (lf ∙ sym ll), eq-eqb (length (after .firsts)) (length (after .sizes)) (lf ∙ sym lz), eq-eqb (length (after .firsts)) (length (after .marks)) (lf ∙ sym lm));
         room = omega arith;
-        firsts-are = front (λ (r : Run). r .first) (before .firsts) (after .firsts) (lent .firsts-are);
-        lasts-are = front (λ (r : Run). r .last) (before .lasts) (after .lasts) (lent .lasts-are);
-        sizes-are = front (λ (r : Run). r .size) (before .sizes) (after .sizes) (lent .sizes-are);
+        firsts-are = front-written (λ (r : Run). r .first) rs (before .firsts) (after .firsts) (lent .firsts-are);
+        lasts-are = front-written (λ (r : Run). r .last) rs (before .lasts) (after .lasts) (lent .lasts-are);
+        sizes-are = front-written (λ (r : Run). r .size) rs (before .sizes) (after .sizes) (lent .sizes-are);
       }
 
 -- ---- a finished plan
@@ -114,7 +102,7 @@ pub record Done (s : Settings) (a b : AxisInput) (plan : Plan) (rows columns : R
 module _ (s : Settings) (a b : AxisInput) (rows₀ columns₀ rows columns : RunLists) (r : Planning)
     (p : Planned (planned s a b rows₀ columns₀) r rows₀ columns₀ rows columns) where
   laid : (l : Layout) → planned s a b rows₀ columns₀ ≡ given l → Done s a b (l .plan) rows columns
-  unfolding planned roomFor layout planOf
+  unfolding planned roomFor layout layoutAt planOf
   laid l e =
       let form = formed a (evenLists rows₀) && formed b (evenLists columns₀) in
       let rise = risingWithin (a .limit) (a .indexes) && risingWithin (b .limit) (b .indexes) in

@@ -37,7 +37,7 @@ module _ (s : Space) (title : Title) (empty : Bool) (first size : ℕ) where
 module _ (s : Space) (t : Title) (p : ℕ) (empty : Bool) (k : ℕ) (fs zs : List ℕ) where
   overflow-next : k < length fs → k < length zs
       → overflowing s t p empty (drop k fs) (drop k zs)
-          ≡ cond (fitsSide s p (printed s t empty (getD fs k 0) (getD zs k 0))) 0 1 + overflowing s t p empty (drop (k + 1) fs) (drop (k + 1) zs)
+      ≡ cond (fitsSide s p (printed s t empty (getD fs k 0) (getD zs k 0))) 0 1 + overflowing s t p empty (drop (k + 1) fs) (drop (k + 1) zs)
   unfolding overflowing
   overflow-next h g = rw (add-one, drop-cons fs k 0, drop-cons zs k 0)
 

@@ -1,13 +1,13 @@
 -- Laws of `specs/Plan.antt`'s definitions. Assumes nothing.
-use mathlib.Core.Path.{_≡_, refl, sym, ap, _∙_}
-use mathlib.Core.Bool.{Bool, true, false, cond, _&&_}
-use mathlib.Core.List.{List, [], _∷_}
+use mathlib.Core.Path.{_≡_, refl, sym, ap, ap₂, subst, _∙_}
+use mathlib.Core.Bool.{Bool, true, false, cond, true≢false, _&&_}
+use mathlib.Core.List.{List, [], _∷_, map}
 use Prim.Native.Nat.{ℕ, zero, suc, _+_, _-_, _*_, _^_, _≤_, _<_, max}
 use native.Mathlib.Omega.{arith}
-use native.Mathlib.Nat.{mul-le-mul}
+use native.Mathlib.Nat.{mul-le-mul-left, mul-le-mul-right, le-trans}
 use lib.Dec.{leb, eqb}
 use lib.IntN.{ℤ}
-use lib.ListN.{length, take}
+use lib.ListN.{length, getD, take, drop, length-map}
 use lib.Seq.{take-all}
 use borrow.Author.Tests.{le-leb, lt-leb, leb-true, eqb-true, ne-eqb}
 use Rattle.geometry.specs.Outcome.{Outcome, given, refused, andThen}
@@ -22,19 +22,22 @@ use Rattle.planner.specs.declared.plan.Ready.{Ready}
 use Rattle.planner.specs.declared.plan.FinalCut.{FinalCut}
 use Rattle.planner.specs.declared.plan.Planning.{Planning}
 use Rattle.planner.specs.declared.plan.Planning.the-variants.{Value, Refused}
-use Rattle.planner.specs.Slots.{Slots, below, mid}
+use Rattle.planner.specs.Slots.{Slots, sum, below}
 use Rattle.planner.specs.Questions.{ask, equallyLong, allOrdered, allWithin, risingWithin, allSmall}
 use Rattle.planner.specs.Titles.{widened, bodyStart}
 use Rattle.planner.specs.Runs.{Run, axisRuns, shifts, expansions}
 use Rattle.planner.specs.Lent.{firsts, lasts, sizes, marks, Room, Written}
 use Rattle.planner.specs.Partition.{lentEven, noOr, Even}
-use Rattle.planner.specs.Scale.{Space, Body, Low, spaceOf, bodyFor, frameFor, axisPasses, fitPasses, Fitted}
-use Rattle.planner.specs.Pages.{RunLists, runLists, evenLists, none, orEmpty, overflowing}
-use Rattle.planner.specs.Plan.{AxisInput, Sides, titleOf, startOf, bodyPart, bodyOf, spaceOn, lookedAt, contentSides, cutRuns, cutShifts, pageRuns, overflows, Layout, layoutAt, layout, roomFor, planned, formed, inGrid, firstNo, Planned, axisFor, Fine, ReadyFor, within, readyFrame, readyRuns, readyShifts, cutOf, Cuttable}
+use Rattle.planner.specs.Scale.{Scale, Space, spaceOf, bodyFor, frameFor, fitsSide, axisPasses, fitPasses}
+use Rattle.planner.specs.Pages.{RunLists, runLists, evenLists, none, orEmpty, printed, overflowing, Moderate}
+use Rattle.planner.specs.Plan.{AxisInput, Sides, titleOf, startOf, bodyPart, bodyOf, spaceOn, lookedAt, contentSides, cutRuns, cutShifts, pageRuns, overflows, Layout, planOf, layoutAt, layout, RunsLent, roomFor, planned, formed, inGrid, firstNo, Planned, axisFor, Fine, ReadyFor, within, readyFrame, readyRuns, readyShifts, cutOf, Cuttable}
 use Rattle.planner.proofs.QuestionLaws.{both, slots-of}
-use Rattle.planner.proofs.Laws.{slots-mid}
+use Rattle.planner.proofs.Laws.{either}
 use Rattle.planner.proofs.EndLaws.{below-le}
-use Rattle.planner.proofs.TitleLaws.{widened-pair, body-start-le, title-total-le}
+use Rattle.planner.specs.Division.{pieces}
+use Rattle.planner.proofs.TitleLaws.{widened-pair, body-start-le, small-sum}
+use Rattle.planner.proofs.Lent.{front-written, long-written}
+use Rattle.planner.proofs.Whole.{axis-tells}
 
 -- ---- the first no
 
@@ -226,3 +229,220 @@ cut-none (r ∷ rs) k e = absurd (omega arith)
 pub cut-some : (rs : List Run) (k : ℕ) → ¬ (length rs ≡ 0) → cutAs (length rs) (eqb (length rs) 0) (expansions rs) k ≡ cutOf rs k
 cut-some [] k e = absurd (e refl)
 cut-some (r ∷ rs) k e = rw (ne-eqb (length (r ∷ rs)) 0 (λ z. omega arith))
+
+-- a final cut is of the body's runs
+pub cut-of : (r : Ready) (side : ℤ) (a : AxisInput) → ReadyFor r side a → (p : ℕ) (c : FinalCut)
+    → c ≡ cutOf (readyRuns r p (a .indexes) (a .sizes) (a .merge-firsts) (a .merge-lasts) (a .breaks)) (readyShifts r p (a .indexes) (a .merge-firsts) (a .merge-lasts) (a .breaks))
+    → c ≡ cutOf (cutRuns side a p) (cutShifts side a p)
+cut-of r side a y p c e = e ∙ ap₂ cutOf (runs-of r side a y p) (shifts-of r side a y p)
+
+pub written-of : (r : Ready) (side : ℤ) (a : AxisInput) → ReadyFor r side a → (p n : ℕ) (f₀ l₀ z₀ m₀ f l z m : List ℕ)
+    → Written (orEmpty (a .first) (readyRuns r p (a .indexes) (a .sizes) (a .merge-firsts) (a .merge-lasts) (a .breaks))) n f₀ l₀ z₀ m₀ f l z m
+    → Written (pageRuns side a p) n f₀ l₀ z₀ m₀ f l z m
+unfolding pageRuns
+written-of r side a y p n f₀ l₀ z₀ m₀ f l z m w =
+    subst (λ (rs : List Run). Written (orEmpty (a .first) rs) n f₀ l₀ z₀ m₀ f l z m) (runs-of r side a y p) w
+
+-- the overflowing runs of a ready axis
+abbrev pub readyOverflows : Ready → ℕ → ℕ → List Run → ℕ
+readyOverflows r first p rs =
+    overflowing (spaceOf (r .fit .page)) (r .fit .stretch .title) p (none rs) (firsts (orEmpty first rs)) (sizes (orEmpty first rs))
+
+pub overflows-of : (r : Ready) (side : ℤ) (a : AxisInput) → ReadyFor r side a → (p : ℕ)
+    → readyOverflows r (a .first) p (readyRuns r p (a .indexes) (a .sizes) (a .merge-firsts) (a .merge-lasts) (a .breaks)) ≡ overflows side a p
+unfolding pageRuns
+overflows-of r side a y p =
+    ap (λ (rs : List Run). readyOverflows r (a .first) p rs) (runs-of r side a y p)
+    ∙ ap₂ (λ (s : Space) (t : Title). overflowing s t p (none (cutRuns side a p)) (firsts (orEmpty (a .first) (cutRuns side a p))) (sizes (orEmpty (a .first) (cutRuns side a p)))) (y .space-is) (y .title-is)
+
+pub overflowing-le : (s : Space) (t : Title) (p : ℕ) (empty : Bool) (fs zs : List ℕ) → overflowing s t p empty fs zs ≤ length fs
+unfolding overflowing
+overflowing-le s t p empty [] zs = omega arith
+overflowing-le s t p empty (f ∷ fs) [] = omega arith
+overflowing-le s t p empty (f ∷ fs) (z ∷ zs) =
+    either (λ (n : ℕ). n + overflowing s t p empty fs zs ≤ suc (length fs)) (fitsSide s p (printed s t empty f z)) (omega (arith, overflowing-le s t p empty fs zs)) (omega (arith, overflowing-le s t p empty fs zs))
+
+-- ---- the answer and the lent lists
+
+pub refuses-plan : (o : Outcome Layout) (n : ℕ) (rows columns : RunLists) → o ≡ refused n → Planned o (Refused n) rows columns rows columns
+refuses-plan o n rows columns e =
+    rw e (record {
+      answer = refl;
+      rows-are = record { firsts-are = refl; lasts-are = refl; sizes-are = refl; marks-are = refl };
+      columns-are = record { firsts-are = refl; lasts-are = refl; sizes-are = refl; marks-are = refl };
+    })
+
+lent-of : (l : Layout) (rs : List Run) (n : ℕ) (f₀ l₀ z₀ m₀ f g z m : List ℕ) → Written rs n f₀ l₀ z₀ m₀ f g z m → RunsLent (given l) rs (runLists f₀ l₀ z₀ m₀) (runLists f g z m)
+lent-of l rs n f₀ l₀ z₀ m₀ f g z m w = record { firsts-are = w .firsts-are; lasts-are = w .lasts-are; sizes-are = w .sizes-are; marks-are = w .marks-are }
+
+module _ (o : Outcome Layout) (l : Layout) (p : Plan) (e : o ≡ given l) (q : p ≡ l .plan) where
+  pub answers-plan : (m n : ℕ) (f₀ l₀ z₀ m₀ f g z k f₁ l₁ z₁ m₁ f₂ g₂ z₂ k₂ : List ℕ) → Written (l .rows) m f₀ l₀ z₀ m₀ f g z k → Written (l .columns) n f₁ l₁ z₁ m₁ f₂ g₂ z₂ k₂
+      → Planned o (Value p) (runLists f₀ l₀ z₀ m₀) (runLists f₁ l₁ z₁ m₁) (runLists f g z k) (runLists f₂ g₂ z₂ k₂)
+  answers-plan m n f₀ l₀ z₀ m₀ f g z k f₁ l₁ z₁ m₁ f₂ g₂ z₂ k₂ v w =
+      rw e (record {
+        answer = ap (λ (x : Plan). given x) q;
+        rows-are = lent-of l (l .rows) m f₀ l₀ z₀ m₀ f g z k v;
+        columns-are = lent-of l (l .columns) n f₁ l₁ z₁ m₁ f₂ g₂ z₂ k₂ w;
+      })
+
+-- 11 and 12, way by way
+module _ (l : Layout) (row-room column-room limit : ℕ) where
+  pub no-row-room : row-room < length (l .rows) → roomFor l row-room column-room limit ≡ refused 11
+  unfolding roomFor
+  no-row-room h = rw (lt-leb (length (l .rows)) row-room h)
+
+  module _ (rows-fit : length (l .rows) ≤ row-room) where
+    pub no-column-room : column-room < length (l .columns) → roomFor l row-room column-room limit ≡ refused 11
+    unfolding roomFor
+    no-column-room h = rw (le-leb (length (l .rows)) row-room rows-fit, lt-leb (length (l .columns)) column-room h)
+
+    module _ (columns-fit : length (l .columns) ≤ column-room) where
+      pub too-many : limit < l .plan .pages → roomFor l row-room column-room limit ≡ refused 12
+      unfolding roomFor
+      too-many h = rw (le-leb (length (l .rows)) row-room rows-fit, le-leb (length (l .columns)) column-room columns-fit, lt-leb (l .plan .pages) limit h)
+
+      pub room-enough : l .plan .pages ≤ limit → roomFor l row-room column-room limit ≡ given l
+      unfolding roomFor
+      room-enough h = rw (le-leb (length (l .rows)) row-room rows-fit, le-leb (length (l .columns)) column-room columns-fit, le-leb (l .plan .pages) limit h)
+
+-- ---- the value of a plan
+
+-- the numbers of a plan from the two final cuts, and sums of notes
+abbrev pub valueOf : Settings → Sides → Scale → FinalCut → FinalCut → ℕ → ℕ → ℕ → Plan
+valueOf s c scale rc cc ignored expanded overflowing = record {
+  permille = scale .permille;
+  «row_runs» = rc .runs;
+  «column_runs» = cc .runs;
+  «rows_empty» = rc .empty;
+  «columns_empty» = cc .empty;
+  pages = rc .runs * cc .runs;
+  order = s .order;
+  notes = record {
+    «unknown_paper» = c .unknown;
+    «invalid_margins» = c .invalid;
+    «scale_clamped» = scale .clamp;
+    «fit_unreachable» = scale .unreachable;
+    «titles_ignored» = ignored;
+    «titles_expanded» = expanded;
+    «merge_expansions» = rc .expansions + cc .expansions;
+    «break_shifts» = rc .shifts + cc .shifts;
+    «overflowing_runs» = overflowing;
+  };
+}
+
+module _ (s : Settings) (c : Sides) (a b : AxisInput) (scale : Scale) where
+  abbrev p : ℕ
+  p = scale .permille
+
+  cut-runs : (side : ℤ) (x : AxisInput) (k : FinalCut) → k ≡ cutOf (cutRuns side x p) (cutShifts side x p) → length (pageRuns side x p) ≡ k .runs
+  unfolding pageRuns
+  cut-runs side x k e = as-many (x .first) (cutRuns side x p) ∙ sym (ap (λ (y : FinalCut). y .runs) e)
+
+  module _ (rc cc : FinalCut) (er : rc ≡ cutOf (cutRuns (c .height) a p) (cutShifts (c .height) a p)) (ec : cc ≡ cutOf (cutRuns (c .width) b p) (cutShifts (c .width) b p)) where
+    pub row-count : length (layoutAt s c a b scale .rows) ≡ rc .runs
+    unfolding layoutAt
+    row-count = cut-runs (c .height) a rc er
+
+    pub column-count : length (layoutAt s c a b scale .columns) ≡ cc .runs
+    unfolding layoutAt
+    column-count = cut-runs (c .width) b cc ec
+
+    pub page-count : layoutAt s c a b scale .plan .pages ≡ rc .runs * cc .runs
+    unfolding layoutAt planOf
+    page-count = ap₂ (λ (m n : ℕ). m * n) (cut-runs (c .height) a rc er) (cut-runs (c .width) b cc ec)
+
+    pub value-is : valueOf s c scale rc cc (titleOf a .ignored + titleOf b .ignored) (titleOf a .expanded + titleOf b .expanded) (overflows (c .height) a p + overflows (c .width) b p)
+        ≡ layoutAt s c a b scale .plan
+    unfolding layoutAt planOf
+    value-is = rw (cut-runs (c .height) a rc er, cut-runs (c .width) b cc ec, er, ec)
+
+-- ---- the runs that are written
+
+pub none-is : (rs : List Run) → none rs ≡ true → rs ≡ []
+none-is [] e = refl
+none-is (r ∷ rs) e = absurd (true≢false (sym e))
+
+pub some-is : (first : ℕ) (rs : List Run) → none rs ≡ false → orEmpty first rs ≡ rs
+some-is first [] e = absurd (true≢false e)
+some-is first (r ∷ rs) e = refl
+
+module _ (first : ℕ) (rs : List Run) (f₀ l₀ z₀ m₀ f l z m : List ℕ) where
+  pub empty-room : none rs ≡ true → Room (orEmpty first rs) f₀ l₀ z₀ m₀ → Room (orEmpty first []) f₀ l₀ z₀ m₀
+  empty-room e w = subst (λ (x : List Run). Room (orEmpty first x) f₀ l₀ z₀ m₀) (none-is rs e) w
+
+  pub empty-written : none rs ≡ true → Written (orEmpty first []) 1 f₀ l₀ z₀ m₀ f l z m → Written (orEmpty first rs) (length (orEmpty first rs)) f₀ l₀ z₀ m₀ f l z m
+  empty-written e w = subst (λ (x : List Run). Written (orEmpty first x) (length (orEmpty first x)) f₀ l₀ z₀ m₀ f l z m) (sym (none-is rs e)) w
+
+  pub some-room : none rs ≡ false → Room (orEmpty first rs) f₀ l₀ z₀ m₀ → Room rs f₀ l₀ z₀ m₀
+  some-room e w = subst (λ (x : List Run). Room x f₀ l₀ z₀ m₀) (some-is first rs e) w
+
+  pub some-written : (n : ℕ) → none rs ≡ false → Written rs n f₀ l₀ z₀ m₀ f l z m → Written (orEmpty first rs) (length (orEmpty first rs)) f₀ l₀ z₀ m₀ f l z m
+  some-written n e w =
+      subst (λ (x : List Run). Written x (length x) f₀ l₀ z₀ m₀ f l z m) (sym (some-is first rs e))
+      (record { count = refl; firsts-are = w .firsts-are; lasts-are = w .lasts-are; sizes-are = w .sizes-are; marks-are = w .marks-are })
+
+-- ---- what was written, read again
+
+-- n runs stand first in the lists of firsts and of sizes
+pub record Front (rs : List Run) (n : ℕ) (f z : List ℕ) : Type 0 where
+  pub firsts-long : n ≤ length f
+  pub sizes-long : n ≤ length z
+  pub firsts-are : take n f ≡ firsts rs
+  pub sizes-are : take n z ≡ sizes rs
+
+pub front-of : (rs : List Run) (n k : ℕ) (f₀ l₀ z₀ m₀ f l z m : List ℕ) → n ≡ length rs → Room rs f₀ l₀ z₀ m₀ → Written rs k f₀ l₀ z₀ m₀ f l z m → Front rs n f z
+front-of rs n k f₀ l₀ z₀ m₀ f l z m e r w =
+    let lf = long-written (λ (r : Run). r .first) rs f₀ f (r .room) (w .firsts-are) in
+    let lz = long-written (λ (r : Run). r .size) rs z₀ z (omega (arith, r .room, r .sizes-even)) (w .sizes-are) in
+    record {
+      firsts-long = omega (arith, e, lf, r .room);
+      sizes-long = omega (arith, e, lz, r .room, r .sizes-even);
+      firsts-are = rw e (front-written (λ (r : Run). r .first) rs f₀ f (w .firsts-are));
+      sizes-are = rw e (front-written (λ (r : Run). r .size) rs z₀ z (w .sizes-are));
+    }
+
+-- the count of runs may be told by another number
+pub recount : (rs : List Run) (n k : ℕ) (f₀ l₀ z₀ m₀ f l z m : List ℕ) → n ≡ length rs → Written rs k f₀ l₀ z₀ m₀ f l z m → Written rs n f₀ l₀ z₀ m₀ f l z m
+recount rs n k f₀ l₀ z₀ m₀ f l z m e w =
+    record { count = e; firsts-are = w .firsts-are; lasts-are = w .lasts-are; sizes-are = w .sizes-are; marks-are = w .marks-are }
+
+pub overflow-front : (s : Space) (t : Title) (p : ℕ) (empty : Bool) (first : ℕ) (rs : List Run) (n : ℕ) (f z : List ℕ) → empty ≡ none rs → Front (orEmpty first rs) n f z
+    → overflowing s t p empty (take n f) (take n z) ≡ overflowing s t p (none rs) (firsts (orEmpty first rs)) (sizes (orEmpty first rs))
+overflow-front s t p empty first rs n f z e y = rw (e, y .firsts-are, y .sizes-are)
+
+-- ---- sizes of runs
+
+sum-take-le : (n : ℕ) (xs : List ℕ) → sum (take n xs) ≤ sum xs
+unfolding sum
+sum-take-le zero xs = omega arith
+sum-take-le (suc n) [] = omega arith
+sum-take-le (suc n) (x ∷ xs) = omega (arith, sum-take-le n xs)
+
+sum-drop-le : (n : ℕ) (xs : List ℕ) → sum (drop n xs) ≤ sum xs
+unfolding sum
+sum-drop-le zero xs = omega arith
+sum-drop-le (suc n) [] = omega arith
+sum-drop-le (suc n) (x ∷ xs) = omega (arith, sum-drop-le n xs)
+
+pieces-le : (ns xs : List ℕ) (k : ℕ) → getD (map sum (pieces ns xs)) k 0 ≤ sum xs
+unfolding pieces
+pieces-le [] xs k = omega arith
+pieces-le (n ∷ ns) xs zero = sum-take-le n xs
+pieces-le (n ∷ ns) xs (suc k) = omega (arith, pieces-le ns (drop n xs) k, sum-drop-le n xs)
+
+empty-moderate : (first : ℕ) (rs : List Run) → Moderate (sizes rs) → Moderate (sizes (orEmpty first rs))
+empty-moderate first [] h zero = omega arith
+empty-moderate first [] h (suc k) = omega arith
+empty-moderate first (r ∷ rs) h k = h k
+
+-- no run is larger than all slots together
+pub runs-moderate : (first : ℕ) (k : Frame) (fs ls is ss bs : List ℕ) → Slots is ss → Moderate (sizes (orEmpty first (axisRuns k fs ls is ss 0 bs)))
+runs-moderate first k fs ls is ss bs y =
+    empty-moderate first (axisRuns k fs ls is ss 0 bs)
+    (rw (axis-tells k fs ls is ss bs (y .even) .totals-are) (λ j. le-trans (pieces-le _ ss j) (small-sum ss (y .small))))
+
+pub taken-moderate : (rs : List Run) (n : ℕ) (f z : List ℕ) → Front rs n f z → Moderate (sizes rs) → Moderate (take n z)
+taken-moderate rs n f z y h = rw (y .sizes-are) h
+
+pub taken-even : (rs : List Run) (n : ℕ) (f z : List ℕ) → Front rs n f z → length (take n f) ≡ length (take n z)
+taken-even rs n f z y = rw (y .firsts-are, y .sizes-are) (length-map rs (λ (r : Run). r .first) ∙ sym (length-map rs (λ (r : Run). r .size)))

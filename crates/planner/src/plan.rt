@@ -36,6 +36,8 @@ ghost use Prim.Native.Nat.{_+_, _≤_, _^_, max};
 ghost use lib.Dec.{leb};
 ghost use lib.ListN.{length};
 ghost use Rattle.planner.specs.Questions.{equallyLong, allOrdered, allWithin};
+ghost use Rattle.planner.specs.Slots.{Slots};
+ghost use Rattle.planner.specs.Runs.{axisRuns};
 ghost use Rattle.planner.specs.Lent.{Room, Written};
 ghost use Rattle.planner.specs.Lent as lists;
 ghost use Rattle.planner.specs.Partition.{Even, noOr};
@@ -249,6 +251,45 @@ fn write_empty(
     run_marks[0] = 0;
 }
 
+// Writes the runs that the pages of an axis are made of.
+fn write_page_runs(
+    frame: Frame,
+    empty: bool,
+    first: u32,
+    merge_firsts: &[u32],
+    merge_lasts: &[u32],
+    breaks: &[u32],
+    indexes: &[u32],
+    sizes: &[u64],
+    run_firsts: &mut [u32],
+    run_lasts: &mut [u32],
+    run_sizes: &mut [u64],
+    run_marks: &mut [u8],
+)
+    requires { ⌜ length (now «merge_firsts») ≡ length (now «merge_lasts») ⌝ }
+    requires { ⌜ Slots (now indexes) (now sizes) ⌝ }
+    requires { ⌜ empty ≡ none (axisRuns frame (now «merge_firsts») (now «merge_lasts») (now indexes) (now sizes) 0 (now breaks)) ⌝ }
+    requires { ⌜ Room (orEmpty first (axisRuns frame (now «merge_firsts») (now «merge_lasts») (now indexes) (now sizes) 0 (now breaks))) (now «run_firsts») (now «run_lasts») (now «run_sizes») (now «run_marks») ⌝ }
+    ensures { λ _. ⌜ Written (orEmpty first (axisRuns frame (now («merge_firsts» .entry)) (now («merge_lasts» .entry)) (now (indexes .entry)) (now (sizes .entry)) 0 (now (breaks .entry)))) (length (orEmpty first (axisRuns frame (now («merge_firsts» .entry)) (now («merge_lasts» .entry)) (now (indexes .entry)) (now (sizes .entry)) 0 (now (breaks .entry))))) (now («run_firsts» .entry)) (now («run_lasts» .entry)) (now («run_sizes» .entry)) (now («run_marks» .entry)) (now («run_firsts» .exit)) (now («run_lasts» .exit)) (now («run_sizes» .exit)) (now («run_marks» .exit)) ⌝ }
+{
+    if empty {
+        write_empty(first, run_firsts, run_lasts, run_sizes, run_marks);
+        return;
+    }
+    write_axis(
+        frame,
+        merge_firsts,
+        merge_lasts,
+        breaks,
+        indexes,
+        sizes,
+        run_firsts,
+        run_lasts,
+        run_sizes,
+        run_marks,
+    );
+}
+
 // Writes the final cut of an axis, and answers how many of its runs overflow.
 fn write_cut(
     ready: Ready,
@@ -275,25 +316,24 @@ fn write_cut(
     let page = fit.page;
     let stretch = fit.stretch;
     let title = stretch.title;
+    let from = ready.from;
+    let to = ready.to;
     let runs = cut.runs;
-    if cut.empty {
-        write_empty(first, run_firsts, run_lasts, run_sizes, run_marks);
-    } else {
-        let from = ready.from;
-        let to = ready.to;
-        write_axis(
-            frame_at(fit, permille),
-            merge_firsts,
-            merge_lasts,
-            breaks,
-            &indexes[from..to],
-            &sizes[from..to],
-            run_firsts,
-            run_lasts,
-            run_sizes,
-            run_marks,
-        );
-    }
+    let frame = frame_at(fit, permille);
+    write_page_runs(
+        frame,
+        cut.empty,
+        first,
+        merge_firsts,
+        merge_lasts,
+        breaks,
+        &indexes[from..to],
+        &sizes[from..to],
+        run_firsts,
+        run_lasts,
+        run_sizes,
+        run_marks,
+    );
     overflowing_runs(
         page,
         title,

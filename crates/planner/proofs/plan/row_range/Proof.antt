@@ -1,28 +1,20 @@
-use native.Mathlib.Omega.{arith}
+-- `planner::plan::row_range` meets its contract. Assumes nothing.
 use borrow.Author.Needs.{needs}
 use Rattle.planner.proofs.plan.row_range.Statement.{statement}
 use Rattle.planner.proofs.plan.row_range.Tie as tie
-use Rattle.planner.proofs.plan.row_range.Reads as reads
-use Rattle.planner.proofs.plan.row_range.Lts as lts
-use Rattle.planner.proofs.plan.headings_of.Reads as headings-of-reads
-use Rattle.planner.proofs.scale.or_else.Reads as or-else-reads
-use Rattle.planner.proofs.titles.Axis.limit.Reads as limit-reads
 
--- src/plan.rt:595:16
 limit-requires : tie.Need-limit-requires
 limit-requires c κs = search needs
 
--- src/plan.rt:599:19
 headings-of-requires : tie.Need-headings-of-requires
 headings-of-requires c κs = search needs
 
--- src/plan.rt:600:17
 or-else-requires : tie.Need-or-else-requires
 or-else-requires c κs = search needs
 
--- src/plan.rt:590:1
 returns : tie.Need-returns
-returns c = search needs
+returns c =
+    λ is ss fs ls bs. rw (c .before .before .limit .ensures, c .before .headings-of .ensures, c .or-else .ensures)
 
 pub row-range-spec : {M : Type 1} → statement M
 row-range-spec = tie.close (tie.spec limit-requires headings-of-requires or-else-requires returns)

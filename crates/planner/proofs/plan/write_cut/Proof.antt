@@ -1,113 +1,145 @@
+-- `planner::plan::write_cut` meets its contract. Assumes nothing.
+use mathlib.Core.Path.{_≡_, sym, ap, subst, _∙_}
+use Prim.Native.Nat.{ℕ}
+use lib.ListN.{length}
+use lib.Seq.{length-take-le}
+use Rattle.planner.specs.declared.runs.Frame.{Frame}
+use Rattle.planner.specs.declared.plan.FinalCut.{FinalCut}
+use Rattle.planner.specs.Runs.{axisRuns}
+use Rattle.planner.specs.Lent.{Written}
+use Rattle.planner.specs.Scale.{spaceOf}
+use Rattle.planner.specs.Pages.{orEmpty}
+use Rattle.planner.specs.Plan.{readyRuns, readyFrame, within}
+use Rattle.planner.proofs.Laws.{slots-mid}
+use Rattle.planner.proofs.PlanLaws.{as-many, Front, front-of, recount, overflow-front, runs-moderate, taken-moderate, taken-even}
 use native.Mathlib.Omega.{arith}
 use borrow.Author.Needs.{needs}
 use Rattle.planner.proofs.plan.write_cut.Statement.{statement}
 use Rattle.planner.proofs.plan.write_cut.Tie as tie
-use Rattle.planner.proofs.plan.write_cut.Reads as reads
-use Rattle.planner.proofs.plan.write_cut.Lts as lts
-use Rattle.planner.proofs.pages.overflowing_runs.Reads as overflowing-runs-reads
-use Rattle.planner.proofs.plan.frame_at.Reads as frame-at-reads
-use Rattle.planner.proofs.plan.write_empty.Reads as write-empty-reads
-use Rattle.planner.proofs.runs.write_axis.Reads as write-axis-reads
 
--- src/plan.rt:280:9
-write-empty-requires : tie.Need-write-empty-requires
-write-empty-requires c κs = search needs
+-- the runs stand in the lists
+runs-are : (w : tie.After-write-page-runs) → let a = w .before .before .before .before .before .before .before .before .before .before .before .before .before .before .before .before .before .before .before .before .args in a .cut .runs ≡ length (orEmpty (a .first) (readyRuns (a .ready) (a .permille) (a .indexes .now) (a .sizes .now) (a .merge-firsts .now) (a .merge-lasts .now) (a .breaks .now)))
+runs-are w = let a = w .before .before .before .before .before .before .before .before .before .before .before .before .before .before .before .before .before .before .before .before .args in ap (λ (x : FinalCut). x .runs) (w .before .before .before .before .before .before .before .before .before .before .before .before .before .before .before .before .before .before .before .before .pre .1 .0) ∙ sym (as-many (a .first) (readyRuns (a .ready) (a .permille) (a .indexes .now) (a .sizes .now) (a .merge-firsts .now) (a .merge-lasts .now) (a .breaks .now)))
 
--- src/plan.rt:285:13
+wrote : (w : tie.After-write-page-runs) → let a = w .before .before .before .before .before .before .before .before .before .before .before .before .before .before .before .before .before .before .before .before .args in
+    Written (orEmpty (a .first) (readyRuns (a .ready) (a .permille) (a .indexes .now) (a .sizes .now) (a .merge-firsts .now) (a .merge-lasts .now) (a .breaks .now))) (a .cut .runs) (a .run-firsts .now) (a .run-lasts .now) (a .run-sizes .now) (a .run-marks .now) (w .write-page-runs .last .1 .1 .1 .1 .1 .1 .1 .1 .0) (w .write-page-runs .last .1 .1 .1 .1 .1 .1 .1 .1 .1 .0) (w .write-page-runs .last .1 .1 .1 .1 .1 .1 .1 .1 .1 .1 .0) (w .write-page-runs .last .1 .1 .1 .1 .1 .1 .1 .1 .1 .1 .1 .0)
+wrote w =
+    let a = w .before .before .before .before .before .before .before .before .before .before .before .before .before .before .before .before .before .before .before .before .args in
+    let written = subst (λ (k : Frame). let rs = axisRuns k (a .merge-firsts .now) (a .merge-lasts .now) (within (a .ready) (a .indexes .now)) (within (a .ready) (a .sizes .now)) 0 (a .breaks .now) in Written (orEmpty (a .first) rs) (length (orEmpty (a .first) rs)) (a .run-firsts .now) (a .run-lasts .now) (a .run-sizes .now) (a .run-marks .now) (w .write-page-runs .last .1 .1 .1 .1 .1 .1 .1 .1 .0) (w .write-page-runs .last .1 .1 .1 .1 .1 .1 .1 .1 .1 .0) (w .write-page-runs .last .1 .1 .1 .1 .1 .1 .1 .1 .1 .1 .0) (w .write-page-runs .last .1 .1 .1 .1 .1 .1 .1 .1 .1 .1 .1 .0)) (w .before .before .before .before .before .before .before .frame-at .ensures) (w .write-page-runs .ensures) in
+    recount (orEmpty (a .first) (readyRuns (a .ready) (a .permille) (a .indexes .now) (a .sizes .now) (a .merge-firsts .now) (a .merge-lasts .now) (a .breaks .now))) (a .cut .runs) _ (a .run-firsts .now) (a .run-lasts .now) (a .run-sizes .now) (a .run-marks .now) _ _ _ _ (runs-are w) written
+
+front : (w : tie.After-write-page-runs) → let a = w .before .before .before .before .before .before .before .before .before .before .before .before .before .before .before .before .before .before .before .before .args in
+    Front (orEmpty (a .first) (readyRuns (a .ready) (a .permille) (a .indexes .now) (a .sizes .now) (a .merge-firsts .now) (a .merge-lasts .now) (a .breaks .now))) (a .cut .runs) (w .write-page-runs .last .1 .1 .1 .1 .1 .1 .1 .1 .0) (w .write-page-runs .last .1 .1 .1 .1 .1 .1 .1 .1 .1 .1 .0)
+front w =
+    let a = w .before .before .before .before .before .before .before .before .before .before .before .before .before .before .before .before .before .before .before .before .args in
+    front-of (orEmpty (a .first) (readyRuns (a .ready) (a .permille) (a .indexes .now) (a .sizes .now) (a .merge-firsts .now) (a .merge-lasts .now) (a .breaks .now))) (a .cut .runs) _ (a .run-firsts .now) (a .run-lasts .now) (a .run-sizes .now) (a .run-marks .now) _ _ _ _ (runs-are w) (w .before .before .before .before .before .before .before .before .before .before .before .before .before .before .before .before .before .before .before .before .pre .1 .1) (wrote w)
+
 frame-at-requires : tie.Need-frame-at-requires
-frame-at-requires c κs = search needs
+frame-at-requires c κs =
+    c .before .before .before .before .before .before .before .before .before .before .before .before .pre .0 .low
 
--- src/plan.rt:289:13
-mul-write-axis : tie.Need-mul-write-axis
-mul-write-axis c = search needs
+mul-write-page-runs : tie.Need-mul-write-page-runs
+mul-write-page-runs c = search needs
 
--- src/plan.rt:289:13
-sub-write-axis : tie.Need-sub-write-axis
-sub-write-axis c = search needs
+sub-write-page-runs : tie.Need-sub-write-page-runs
+sub-write-page-runs c = search needs
 
--- src/plan.rt:289:13
-part-write-axis-start : tie.Need-part-write-axis-start
-part-write-axis-start c = search needs
+part-write-page-runs-start : tie.Need-part-write-page-runs-start
+part-write-page-runs-start c = search needs
 
--- src/plan.rt:289:13
-part-write-axis-end : tie.Need-part-write-axis-end
-part-write-axis-end c = search needs
+part-write-page-runs-end : tie.Need-part-write-page-runs-end
+part-write-page-runs-end c = search needs
 
--- src/plan.rt:290:13
-mul-write-axis-2 : tie.Need-mul-write-axis-2
-mul-write-axis-2 c = search needs
+mul-write-page-runs-2 : tie.Need-mul-write-page-runs-2
+mul-write-page-runs-2 c = search needs
 
--- src/plan.rt:290:13
-sub-write-axis-2 : tie.Need-sub-write-axis-2
-sub-write-axis-2 c = search needs
+sub-write-page-runs-2 : tie.Need-sub-write-page-runs-2
+sub-write-page-runs-2 c = search needs
 
--- src/plan.rt:290:13
-part-write-axis-start-2 : tie.Need-part-write-axis-start-2
-part-write-axis-start-2 c = search needs
+part-write-page-runs-start-2 : tie.Need-part-write-page-runs-start-2
+part-write-page-runs-start-2 c = search needs
 
--- src/plan.rt:290:13
-part-write-axis-end-2 : tie.Need-part-write-axis-end-2
-part-write-axis-end-2 c = search needs
+part-write-page-runs-end-2 : tie.Need-part-write-page-runs-end-2
+part-write-page-runs-end-2 c = search needs
 
--- src/plan.rt:284:9
-write-axis-requires : tie.Need-write-axis-requires
-write-axis-requires c κs = search needs
+write-page-runs-requires : tie.Need-write-page-runs-requires
+write-page-runs-requires c κs =
+    let s = c .before .before .before .before .before .before .before .before .before .before .before .before .before .before .before .before .before .before .before in
+    let a = s .args in
+    let q = s .pre .0 in
+    rw (c .before .before .before .before .before .before .frame-at .ensures)
+    (q .merges, (slots-mid (a .ready .from) (a .ready .to) (a .indexes .now) (a .sizes .now) (omega (arith, q .inside, q .slots .even)) (q .slots), (ap (λ (x : FinalCut). x .empty) (s .pre .1 .0), s .pre .1 .1)))
 
--- src/plan.rt:302:9
 slice-reshare-prefix-overflowing-runs : tie.Need-slice-reshare-prefix-overflowing-runs
-slice-reshare-prefix-overflowing-runs c = search needs
+slice-reshare-prefix-overflowing-runs c =
+    let w = c .before .before .before .before .before .before .before .before in
+    let a = w .before .before .before .before .before .before .before .before .before .before .before .before .before .before .before .before .before .before .before .before .args in
+    let y = front w in
+    y .firsts-long
 
--- src/plan.rt:302:9
 slice-aggregate-overflowing-runs : tie.Need-slice-aggregate-overflowing-runs
-slice-aggregate-overflowing-runs c = search needs
+slice-aggregate-overflowing-runs c =
+    let w = c .before .before .before .before .before .before .before .before .before in
+    let a = w .before .before .before .before .before .before .before .before .before .before .before .before .before .before .before .before .before .before .before .before .args in
+    let y = front w in
+    sym (length-take-le (a .cut .runs) _ (y .firsts-long))
 
--- src/plan.rt:303:9
 slice-reshare-prefix-overflowing-runs-2 : tie.Need-slice-reshare-prefix-overflowing-runs-2
-slice-reshare-prefix-overflowing-runs-2 c = search needs
+slice-reshare-prefix-overflowing-runs-2 c =
+    let w = c .before .before .before .before .before .before .before .before .before in
+    let a = w .before .before .before .before .before .before .before .before .before .before .before .before .before .before .before .before .before .before .before .before .args in
+    let y = front w in
+    y .sizes-long
 
--- src/plan.rt:303:9
 slice-aggregate-overflowing-runs-2 : tie.Need-slice-aggregate-overflowing-runs-2
-slice-aggregate-overflowing-runs-2 c = search needs
+slice-aggregate-overflowing-runs-2 c =
+    let w = c .before .before .before .before .before .before .before .before .before .before in
+    let a = w .before .before .before .before .before .before .before .before .before .before .before .before .before .before .before .before .before .before .before .before .args in
+    let y = front w in
+    sym (length-take-le (a .cut .runs) _ (y .sizes-long))
 
--- src/plan.rt:297:5
 overflowing-runs-requires : tie.Need-overflowing-runs-requires
-overflowing-runs-requires c κs = search needs
+overflowing-runs-requires c κs =
+    let w = c .before .before .before .before .before .before .before .before .before .before in
+    let a = w .before .before .before .before .before .before .before .before .before .before .before .before .before .before .before .before .before .before .before .before .args in
+    let y = front w in
+    let q = w .before .before .before .before .before .before .before .before .before .before .before .before .before .before .before .before .before .before .before .before .pre .0 in
+    let slots = slots-mid (a .ready .from) (a .ready .to) (a .indexes .now) (a .sizes .now) (omega (arith, q .inside, q .slots .even)) (q .slots) in
+    (q .low, (taken-even _ _ _ _ y, taken-moderate _ _ _ _ y (runs-moderate (a .first) (readyFrame (a .ready .fit) (a .permille)) (a .merge-firsts .now) (a .merge-lasts .now) (within (a .ready) (a .indexes .now)) (within (a .ready) (a .sizes .now)) (a .breaks .now) slots)))
 
--- src/plan.rt:253:1
 same-length : tie.Need-same-length
 same-length c = search needs
 
--- src/plan.rt:253:1
 same-length-2 : tie.Need-same-length-2
 same-length-2 c = search needs
 
--- src/plan.rt:253:1
 same-length-3 : tie.Need-same-length-3
 same-length-3 c = search needs
 
--- src/plan.rt:253:1
 same-length-4 : tie.Need-same-length-4
 same-length-4 c = search needs
 
--- src/plan.rt:253:1
 returns : tie.Need-returns
-returns c = search needs
+returns c =
+    let w = c .before .before .before .before .before .before .before .before .before .before .before in
+    let a = w .before .before .before .before .before .before .before .before .before .before .before .before .before .before .before .before .before .before .before .before .args in
+    let y = front w in
+    (wrote w, c .overflowing-runs .ensures ∙ overflow-front (spaceOf (a .ready .fit .page)) (a .ready .fit .stretch .title) (a .permille) (a .cut .empty) (a .first) (readyRuns (a .ready) (a .permille) (a .indexes .now) (a .sizes .now) (a .merge-firsts .now) (a .merge-lasts .now) (a .breaks .now)) (a .cut .runs) _ _ (ap (λ (x : FinalCut). x .empty) (w .before .before .before .before .before .before .before .before .before .before .before .before .before .before .before .before .before .before .before .before .pre .1 .0)) y)
 
 pub write-cut-spec : {M : Type 1} → statement M
 write-cut-spec =
     tie.close
     (tie.spec
-    write-empty-requires
     frame-at-requires
-    mul-write-axis
-    sub-write-axis
-    part-write-axis-start
-    part-write-axis-end
-    mul-write-axis-2
-    sub-write-axis-2
-    part-write-axis-start-2
-    part-write-axis-end-2
-    write-axis-requires
+    mul-write-page-runs
+    sub-write-page-runs
+    part-write-page-runs-start
+    part-write-page-runs-end
+    mul-write-page-runs-2
+    sub-write-page-runs-2
+    part-write-page-runs-start-2
+    part-write-page-runs-end-2
+    write-page-runs-requires
     slice-reshare-prefix-overflowing-runs
     slice-aggregate-overflowing-runs
     slice-reshare-prefix-overflowing-runs-2
