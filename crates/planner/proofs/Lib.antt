@@ -9,6 +9,7 @@ pub mod AxisLaws
 pub mod PartitionLaws
 pub mod ScaleLaws
 pub mod PagesCode
+pub mod PageLaws
 pub mod Division
 pub mod Cuts
 pub mod Whole
