@@ -8,8 +8,8 @@ pub mod EndLaws
 pub mod AxisLaws
 pub mod PartitionLaws
 pub mod ScaleLaws
-pub mod PagesCode
 pub mod PageLaws
+pub mod PagesCode
 pub mod Division
 pub mod Cuts
 pub mod Whole
