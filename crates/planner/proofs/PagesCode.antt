@@ -1,8 +1,8 @@
 -- Laws of `specs/Pages.antt`'s definitions, for the functions of `src/pages.rt`. Assumes nothing.
 use mathlib.Core.Path.{_≡_, refl, sym, ap, _∙_}
 use mathlib.Core.Bool.{Bool, true, false, cond, _&&_}
-use mathlib.Core.List.{List, [], _∷_}
-use Prim.Native.Nat.{ℕ, zero, suc, _+_, _-_, _*_, _/_, _≤_, _<_, min}
+use mathlib.Core.List.{List}
+use Prim.Native.Nat.{ℕ, _+_, _-_, _*_, _/_, _≤_, _<_, min}
 use native.Mathlib.Nat.{div-lt-iff-lt-mul}
 use native.Mathlib.Numerals.{add-one}
 use native.Mathlib.Omega.{arith}
@@ -21,7 +21,7 @@ use Rattle.planner.specs.declared.pages.Place.{Place}
 use Rattle.planner.specs.declared.pages.Plan.{Plan}
 use Rattle.planner.specs.Questions.{ask, equallyLong}
 use Rattle.planner.specs.Titles.{pastTitle}
-use Rattle.planner.specs.Partition.{lentEven, Even, noOr}
+use Rattle.planner.specs.Partition.{Even, noOr}
 use Rattle.planner.specs.Scale.{Space, fitsSide}
 use Rattle.planner.specs.Pages.{printed, overflowing, RunLists, runAt, pageAt, inOrder, pagesOf, evenLists, numbered, pageNumbered, placeOf, pageAfter, hasPage, firstNo}
 use Rattle.planner.proofs.QuestionLaws.{both}
@@ -113,19 +113,18 @@ module _ (p : Plan) (n : ℕ) where
   unfolding hasPage
   no-zero e = let m : n < 1 = omega arith in rw (lt-leb 1 n m)
 
-  pub no-count : 1 ≤ n → p .pages < n → false ≡ hasPage p n
+  not-upto : 1 ≤ n → min (p .pages) places < n → false ≡ hasPage p n
   unfolding hasPage
-  no-count a h = let m : min (p .pages) places < n = omega arith in rw (le-leb 1 n a, lt-leb n (min (p .pages) places) m)
+  not-upto a h = rw (le-leb 1 n a, lt-leb n (min (p .pages) places) h)
 
-  no-place : 1 ≤ n → places < n → false ≡ hasPage p n
-  unfolding hasPage
-  no-place a h = let m : min (p .pages) places < n = omega arith in rw (le-leb 1 n a, lt-leb n (min (p .pages) places) m)
+  pub no-count : 1 ≤ n → p .pages < n → false ≡ hasPage p n
+  no-count a h = not-upto a (omega arith)
 
   pub no-rows : 1 ≤ n → p .«row_runs» ≡ 0 → false ≡ hasPage p n
   no-rows a e =
       let z : 0 * p .«column_runs» ≡ 0 = omega arith in
       let y : places ≡ 0 = ap (λ (r : ℕ). r * p .«column_runs») e ∙ z in
-      no-place a (omega arith)
+      not-upto a (omega arith)
 
   -- by division: the number of the page's column of pages in the order down, then over
   pub by-division : 1 ≤ n → n ≤ p .pages → 0 < p .«row_runs» → ltb ((n - 1) / p .«row_runs») (p .«column_runs») ≡ hasPage p n
@@ -135,12 +134,12 @@ module _ (p : Plan) (n : ℕ) where
       (λ g. let l : n - 1 < p .«column_runs» * p .«row_runs» = omega arith in lt-ltb q (p .«column_runs») (div-lt-iff-lt-mul k .1 l) ∙ sym (is-page a h g))
       (λ g.
       le-ltb q (p .«column_runs») (split (p .«column_runs») q (λ l. l) (λ l. absurd (omega (arith, div-lt-iff-lt-mul k .0 l))))
-      ∙ no-place a g)
+      ∙ not-upto a (omega arith))
 
-  pub record Counted : Type 0 where
-    pub from-one : 1 ≤ n
-    pub to-count : n ≤ p .pages
-    pub to-last : n ≤ places
+  record Counted : Type 0 where
+    from-one : 1 ≤ n
+    to-count : n ≤ p .pages
+    to-last : n ≤ places
 
   counted : hasPage p n ≡ true → Counted
   unfolding hasPage

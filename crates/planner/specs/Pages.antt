@@ -119,7 +119,7 @@ pageOutcome (Refused n) = refused n
 abbrev pub Moderate : List ℕ → Type 0
 Moderate zs = (k : ℕ) → getD zs k 0 ≤ 2 ^ 50
 
--- where the page stands that has so many pages before it, of so many runs of rows and of columns
+-- where the page stands that has so many pages before it, of so many runs of rows and of columns: "down, then over", or the other order
 abbrev pub placeOf : PageOrder → ℕ → ℕ → ℕ → Place
 placeOf DownThenOver rows columns before = record { vertical = before % rows; horizontal = before / rows }
 placeOf OverThenDown rows columns before = record { vertical = before / columns; horizontal = before % columns }
@@ -130,11 +130,12 @@ pageAfter p rows columns before =
     let place = placeOf (p .order) (p .«row_runs») (p .«column_runs») before in
     pageAt rows columns p (place .vertical) (place .horizontal)
 
--- 14 by the counts
+-- 14: "Page number from 1 to the count?", where no count goes past the places that the runs make
 unfoldable pub hasPage : Plan → ℕ → Bool
 hasPage p n = leb 1 n && leb n (min (p .pages) (p .«row_runs» * p .«column_runs»))
 
--- the first question whose answer is no, or 0, where lists are equally long or not and so long
+-- the first of the questions 6, 11 and 14 whose answer is no, or 0; of the lists, whether they are equally long and how long those of rows and
+-- of columns are
 unfoldable pub firstNo : Plan → ℕ → Bool → ℕ → ℕ → ℕ
 unfolding hasPage
 firstNo p n even rows columns = noOr 6 even (noOr 11 (leb (p .«row_runs») rows && leb (p .«column_runs») columns) (noOr 14 (hasPage p n) 0))
