@@ -2,7 +2,7 @@
 use mathlib.Core.Path.{_≡_}
 use mathlib.Core.Bool.{Bool, true, false, cond, _&&_, _||_}
 use mathlib.Core.List.{List, [], _∷_, _++_, map}
-use Prim.Native.Nat.{ℕ, zero, suc, _+_, _-_, _*_, _^_, _≤_}
+use Prim.Native.Nat.{ℕ, zero, suc, _+_, _*_, _/_, _%_, _^_, _≤_, min}
 use lib.Dec.{leb, ltb}
 use lib.ListN.{length, getD, take}
 use Rattle.geometry.specs.Outcome.{Outcome, given, refused}
@@ -11,13 +11,14 @@ use Rattle.planner.specs.declared.pages.PageOrder.{PageOrder}
 use Rattle.planner.specs.declared.pages.PageOrder.the-variants.{DownThenOver, OverThenDown}
 use Rattle.planner.specs.declared.pages.PageRun.{PageRun}
 use Rattle.planner.specs.declared.pages.Page.{Page}
+use Rattle.planner.specs.declared.pages.Place.{Place}
 use Rattle.planner.specs.declared.pages.Plan.{Plan}
 use Rattle.planner.specs.declared.pages.PageAnswer.{PageAnswer}
 use Rattle.planner.specs.declared.pages.PageAnswer.the-variants.{Value, Refused}
 use Rattle.planner.specs.Questions.{ask}
 use Rattle.planner.specs.Titles.{pastTitle}
 use Rattle.planner.specs.Runs.{Run}
-use Rattle.planner.specs.Partition.{lentEven}
+use Rattle.planner.specs.Partition.{lentEven, noOr}
 use Rattle.planner.specs.Scale.{Space, fitsSide}
 
 -- ---- the runs that pages are made of
@@ -117,3 +118,24 @@ pageOutcome (Refused n) = refused n
 -- sizes of runs
 abbrev pub Moderate : List ℕ → Type 0
 Moderate zs = (k : ℕ) → getD zs k 0 ≤ 2 ^ 50
+
+-- where the page stands that has so many pages before it, of so many runs of rows and of columns: "down, then over", or the other order
+abbrev pub placeOf : PageOrder → ℕ → ℕ → ℕ → Place
+placeOf DownThenOver rows columns before = record { vertical = before % rows; horizontal = before / rows }
+placeOf OverThenDown rows columns before = record { vertical = before / columns; horizontal = before % columns }
+
+-- the page there
+unfoldable pub pageAfter : Plan → RunLists → RunLists → ℕ → Page
+pageAfter p rows columns before =
+    let place = placeOf (p .order) (p .«row_runs») (p .«column_runs») before in
+    pageAt rows columns p (place .vertical) (place .horizontal)
+
+-- 14: "Page number from 1 to the count?", where no count goes past the places that the runs make
+unfoldable pub hasPage : Plan → ℕ → Bool
+hasPage p n = leb 1 n && leb n (min (p .pages) (p .«row_runs» * p .«column_runs»))
+
+-- the first of the questions 6, 11 and 14 whose answer is no, or 0; of the lists, whether they are equally long and how long those of rows and
+-- of columns are
+unfoldable pub firstNo : Plan → ℕ → Bool → ℕ → ℕ → ℕ
+unfolding hasPage
+firstNo p n even rows columns = noOr 6 even (noOr 11 (leb (p .«row_runs») rows && leb (p .«column_runs») columns) (noOr 14 (hasPage p n) 0))

@@ -3,7 +3,7 @@ use crate::scale::PageSide;
 use crate::scale::fits_side;
 use crate::titles::Title;
 ghost use mathlib.Core.Path.{_≡_};
-ghost use Prim.Native.Nat.{_≤_, _<_, _^_};
+ghost use Prim.Native.Nat.{_*_, _≤_, _<_, _^_};
 ghost use lib.ListN.{length};
 ghost use Rattle.planner.specs.Partition.{Even};
 ghost use Rattle.planner.specs.Scale.{spaceOf, Low};
@@ -108,13 +108,17 @@ pub(crate) fn overflowing_runs(
 }
 
 // Where a page stands: the numbers of its two runs, from 0.
-pub struct Place {
+pub(crate) struct Place {
     pub vertical: usize,
     pub horizontal: usize,
 }
 
 // The place of the page that has so many pages before it.
-fn place_of(order: PageOrder, row_runs: usize, column_runs: usize, before: usize) -> Place {
+fn place_of(order: PageOrder, row_runs: usize, column_runs: usize, before: usize) -> Place
+    requires { ⌜ 0 < «row_runs» ⌝ }
+    requires { ⌜ 0 < «column_runs» ⌝ }
+    ensures { λ r. ⌜ r ≡ section.placeOf order «row_runs» «column_runs» before ⌝ }
+{
     match order {
         PageOrder::DownThenOver => Place {
             vertical: before % row_runs,
@@ -148,6 +152,87 @@ fn run_at(
     }
 }
 
+// The page that has so many pages before it.
+fn page_after(
+    plan: Plan,
+    before: usize,
+    rfirsts: &[u32],
+    rlasts: &[u32],
+    rsizes: &[u64],
+    rmarks: &[u8],
+    cfirsts: &[u32],
+    clasts: &[u32],
+    csizes: &[u64],
+    cmarks: &[u8],
+) -> Page
+    requires { ⌜ Even (now rfirsts) (now rlasts) (now rsizes) (now rmarks) ⌝ }
+    requires { ⌜ Even (now cfirsts) (now clasts) (now csizes) (now cmarks) ⌝ }
+    requires { ⌜ plan .«row_runs» ≤ length (now rfirsts) ⌝ }
+    requires { ⌜ plan .«column_runs» ≤ length (now cfirsts) ⌝ }
+    requires { ⌜ before < plan .«row_runs» * plan .«column_runs» ⌝ }
+    ensures { λ r. ⌜ r ≡ section.pageAfter plan (section.runLists (now (rfirsts .entry)) (now (rlasts .entry)) (now (rsizes .entry)) (now (rmarks .entry))) (section.runLists (now (cfirsts .entry)) (now (clasts .entry)) (now (csizes .entry)) (now (cmarks .entry))) before ⌝ }
+{
+    let order = plan.order;
+    let place = place_of(order, plan.row_runs, plan.column_runs, before);
+    let vertical = place.vertical;
+    let horizontal = place.horizontal;
+    let rows = run_at(vertical, plan.rows_empty, rfirsts, rlasts, rsizes, rmarks);
+    let columns = run_at(
+        horizontal,
+        plan.columns_empty,
+        cfirsts,
+        clasts,
+        csizes,
+        cmarks,
+    );
+    Page {
+        vertical,
+        horizontal,
+        rows,
+        columns,
+    }
+}
+
+// 6, of the run lists of an axis.
+fn even_lists(firsts: &[u32], lasts: &[u32], sizes: &[u64], marks: &[u8]) -> bool
+    ensures { λ r. ⌜ r ≡ section.evenLists (section.runLists (now (firsts .entry)) (now (lasts .entry)) (now (sizes .entry)) (now (marks .entry))) ⌝ }
+{
+    (firsts.len() == lasts.len()) & (firsts.len() == sizes.len()) & (firsts.len() == marks.len())
+}
+
+// 14: by division, for the product of the run counts may be too large for a number.
+fn has_page(plan: Plan, number: u64) -> bool
+    ensures { λ r. ⌜ r ≡ section.hasPage plan number ⌝ }
+{
+    if number == 0 {
+        return false;
+    }
+    let before = number - 1;
+    if before >= plan.pages {
+        return false;
+    }
+    if plan.row_runs == 0 {
+        return false;
+    }
+    before as usize / plan.row_runs < plan.column_runs
+}
+
+// The first of the questions 6, 11 and 14 whose answer is no, or 0.
+fn first_no(plan: Plan, number: u64, even: bool, row_room: usize, column_room: usize) -> u8
+    ensures { λ r. ⌜ r ≡ section.firstNo plan number even «row_room» «column_room» ⌝ }
+{
+    if !even {
+        return 6;
+    }
+    if plan.row_runs > row_room {
+        return 11;
+    }
+    if plan.column_runs > column_room {
+        return 11;
+    }
+    if has_page(plan, number) { 0 } else { 14 }
+}
+
 // The page of a plan with a number from 1 to its count, over the run lists that were lent to the plan.
 pub fn page_numbered(
     plan: Plan,
@@ -163,68 +248,22 @@ pub fn page_numbered(
 ) -> PageAnswer
     ensures { λ r. ⌜ section.pageOutcome r ≡ section.pageNumbered plan (section.runLists (now («row_firsts» .entry)) (now («row_lasts» .entry)) (now («row_sizes» .entry)) (now («row_marks» .entry))) (section.runLists (now («column_firsts» .entry)) (now («column_lasts» .entry)) (now («column_sizes» .entry)) (now («column_marks» .entry))) number ⌝ }
 {
-    let rows_even = (row_firsts.len() == row_lasts.len())
-        & (row_firsts.len() == row_sizes.len())
-        & (row_firsts.len() == row_marks.len());
-    let columns_even = (column_firsts.len() == column_lasts.len())
-        & (column_firsts.len() == column_sizes.len())
-        & (column_firsts.len() == column_marks.len());
-    if !(rows_even & columns_even) {
-        return PageAnswer::Refused(6);
+    let even = even_lists(row_firsts, row_lasts, row_sizes, row_marks)
+        & even_lists(column_firsts, column_lasts, column_sizes, column_marks);
+    let refusal = first_no(plan, number, even, row_firsts.len(), column_firsts.len());
+    if refusal > 0 {
+        return PageAnswer::Refused(refusal);
     }
-    if plan.row_runs > row_firsts.len() {
-        return PageAnswer::Refused(11);
-    }
-    if plan.column_runs > column_firsts.len() {
-        return PageAnswer::Refused(11);
-    }
-    if number == 0 {
-        return PageAnswer::Refused(14);
-    }
-    if number > plan.pages {
-        return PageAnswer::Refused(14);
-    }
-    if plan.row_runs == 0 {
-        return PageAnswer::Refused(14);
-    }
-    if plan.column_runs == 0 {
-        return PageAnswer::Refused(14);
-    }
-    let order = plan.order;
-    let place = place_of(
-        order,
-        plan.row_runs,
-        plan.column_runs,
+    PageAnswer::Value(page_after(
+        plan,
         (number - 1) as usize,
-    );
-    let vertical = place.vertical;
-    let horizontal = place.horizontal;
-    if vertical >= plan.row_runs {
-        return PageAnswer::Refused(14);
-    }
-    if horizontal >= plan.column_runs {
-        return PageAnswer::Refused(14);
-    }
-    let rows = run_at(
-        vertical,
-        plan.rows_empty,
         row_firsts,
         row_lasts,
         row_sizes,
         row_marks,
-    );
-    let columns = run_at(
-        horizontal,
-        plan.columns_empty,
         column_firsts,
         column_lasts,
         column_sizes,
         column_marks,
-    );
-    PageAnswer::Value(Page {
-        vertical,
-        horizontal,
-        rows,
-        columns,
-    })
+    ))
 }
