@@ -30,6 +30,7 @@ use Rattle.planner.proofs.Division.{split}
 use Rattle.planner.proofs.PageLaws.{verticalOf, horizontalOf, beforeOf, numbered-zero, numbered-take, numbered-take-past, page-after, vertical-below, horizontal-below, before-of-place, before-below, vertical-is, horizontal-is}
 use Rattle.planner.proofs.BodyLaws.{body-even, page-runs-cover, bare-title, bare-total, page-runs-fewest}
 use Rattle.planner.proofs.Largest.{Plain, scale-chosen}
+use Rattle.planner.proofs.NoTen.{sides-given}
 
 -- ---- what a plan that was given says of the questions
 
@@ -283,3 +284,9 @@ module _ (s : Settings) (content : (c : Sides) × (contentSides s ≡ given c) �
         (scale-is s c a b height width fit (plain (c .height) a height (none .rows-bare) x (rw low at height-low) (d .on-rows .even))
         (plain (c .width) b width (none .columns-bare) y (rw low at width-low) (d .on-columns .even)));
   }
+
+-- ---- the clauses of the call, in their order
+pub clauses : (s : Settings) (a b : AxisInput) (rows₀ columns₀ rows columns : RunLists) (r : Planning) → Planned (planned s a b rows₀ columns₀) r rows₀ columns₀ rows columns
+    → Planned (planned s a b rows₀ columns₀) r rows₀ columns₀ rows columns × (CoversPairs r a b rows columns × (FewestPlan r s a b rows columns × LargestPlan r s a b))
+clauses s a b rows₀ columns₀ rows columns r p =
+    (p, (covers s a b rows₀ columns₀ rows columns r p, (fewest-plan s a b rows₀ columns₀ rows columns r p, largest-plan s (sides-given s) a b rows₀ columns₀ rows columns r p)))

@@ -4,7 +4,7 @@ use mathlib.Core.Bool.{Bool, true, false, cond, true≢false, _&&_}
 use mathlib.Core.List.{List, [], _∷_, map}
 use Prim.Native.Nat.{ℕ, zero, suc, _+_, _-_, _*_, _^_, _≤_, _<_, max}
 use native.Mathlib.Omega.{arith}
-use native.Mathlib.Nat.{mul-le-mul-left, mul-le-mul-right, le-trans}
+use native.Mathlib.Nat.{mul-le-mul-left, le-trans}
 use lib.Dec.{leb, eqb}
 use lib.IntN.{ℤ}
 use lib.ListN.{length, getD, take, drop, length-map}
@@ -17,6 +17,7 @@ use Rattle.planner.specs.declared.scale.PageSide.{PageSide}
 use Rattle.planner.specs.declared.runs.Frame.{Frame}
 use Rattle.planner.specs.declared.pages.Plan.{Plan}
 use Rattle.planner.specs.declared.plan.Settings.{Settings}
+use Rattle.planner.specs.declared.plan.PrintRange.{PrintRange}
 use Rattle.planner.specs.declared.plan.AxisRange.{AxisRange}
 use Rattle.planner.specs.declared.plan.Ready.{Ready}
 use Rattle.planner.specs.declared.plan.FinalCut.{FinalCut}
@@ -24,13 +25,13 @@ use Rattle.planner.specs.declared.plan.Planning.{Planning}
 use Rattle.planner.specs.declared.plan.Planning.the-variants.{Value, Refused}
 use Rattle.planner.specs.Slots.{Slots, sum, below}
 use Rattle.planner.specs.Questions.{ask, equallyLong, allOrdered, allWithin, risingWithin, allSmall}
-use Rattle.planner.specs.Titles.{widened, bodyStart}
+use Rattle.planner.specs.Titles.{limitOf, widened, bodyStart}
 use Rattle.planner.specs.Runs.{Run, axisRuns, shifts, expansions}
 use Rattle.planner.specs.Lent.{firsts, lasts, sizes, marks, Room, Written}
 use Rattle.planner.specs.Partition.{lentEven, noOr, Even}
-use Rattle.planner.specs.Scale.{Scale, Space, spaceOf, bodyFor, frameFor, fitsSide, axisPasses, fitPasses}
+use Rattle.planner.specs.Scale.{Scale, Space, spaceOf, bodyFor, frameFor, fitsSide, axisPasses, fitPasses, fitScale, fixedScale}
 use Rattle.planner.specs.Pages.{RunLists, runLists, evenLists, none, orEmpty, printed, overflowing, Moderate}
-use Rattle.planner.specs.Plan.{AxisInput, Sides, titleOf, startOf, bodyPart, bodyOf, spaceOn, lookedAt, contentSides, cutRuns, cutShifts, pageRuns, overflows, Layout, planOf, layoutAt, layout, RunsLent, roomFor, planned, formed, inGrid, firstNo, Planned, axisFor, Fine, ReadyFor, within, readyFrame, readyRuns, readyShifts, cutOf, Cuttable}
+use Rattle.planner.specs.Plan.{AxisInput, rowsOf, columnsOf, AreRows, AreColumns, Sides, titleOf, startOf, bodyPart, bodyOf, spaceOn, lookedAt, contentSides, chosenScale, cutRuns, cutShifts, pageRuns, overflows, Layout, planOf, layoutAt, layout, RunsLent, roomFor, planned, formed, inGrid, firstNo, Planned, axisFor, Fine, ReadyFor, within, readyFrame, readyRuns, readyShifts, cutOf, Cuttable}
 use Rattle.planner.proofs.QuestionLaws.{both, slots-of}
 use Rattle.planner.proofs.Laws.{either}
 use Rattle.planner.proofs.EndLaws.{below-le}
@@ -446,3 +447,91 @@ taken-moderate rs n f z y h = rw (y .sizes-are) h
 
 pub taken-even : (rs : List Run) (n : ℕ) (f z : List ℕ) → Front rs n f z → length (take n f) ≡ length (take n z)
 taken-even rs n f z y = rw (y .firsts-are, y .sizes-are) (length-map rs (λ (r : Run). r .first) ∙ sym (length-map rs (λ (r : Run). r .size)))
+
+-- ---- what the plan's last steps rely on
+
+pub room-of : (first : ℕ) (rs : List Run) (k : ℕ) (c : FinalCut) (f l z m : List ℕ) → c ≡ cutOf rs k → c .runs ≤ length f → Even f l z m → Room (orEmpty first rs) f l z m
+room-of first rs k c f l z m e h y =
+    record {
+      room = omega (arith, as-many first rs, ap (λ (x : FinalCut). x .runs) e);
+      lasts-even = y .lasts-even;
+      sizes-even = y .sizes-even;
+      marks-even = y .marks-even;
+    }
+
+pub few-pages : (m n : ℕ) → m ≤ 2 ^ 20 → n ≤ 2 ^ 20 → m * n ≤ 2 ^ 40
+few-pages m n h k = let a : m * n ≤ m * 2 ^ 20 = mul-le-mul-left m k in omega arith
+
+-- an overflow count is no more than the runs
+pub overflows-few : (s : Space) (t : Title) (p : ℕ) (empty : Bool) (first : ℕ) (rs : List Run) (n k : ℕ) (c : FinalCut) → c ≡ cutOf rs k
+    → n ≡ overflowing s t p empty (firsts (orEmpty first rs)) (sizes (orEmpty first rs)) → n ≤ c .runs
+overflows-few s t p empty first rs n k c e h =
+    omega (arith, h, overflowing-le s t p empty (firsts (orEmpty first rs)) (sizes (orEmpty first rs)), length-map (orEmpty first rs) (λ (r : Run). r .first), as-many first rs, ap (λ (x : FinalCut). x .runs) e)
+
+pub plan-value : (s : Settings) (c : Sides) (a b : AxisInput) (scale : Scale) (rows columns : Ready) → ReadyFor rows (c .height) a → ReadyFor columns (c .width) b
+    → (rc cc : FinalCut) → rc ≡ cutOf (cutRuns (c .height) a (scale .permille)) (cutShifts (c .height) a (scale .permille)) → cc ≡ cutOf (cutRuns (c .width) b (scale .permille)) (cutShifts (c .width) b (scale .permille))
+    → (m n : ℕ) → m ≡ overflows (c .height) a (scale .permille) → n ≡ overflows (c .width) b (scale .permille)
+    → valueOf s c scale rc cc (rows .ignored + columns .ignored) (rows .expanded + columns .expanded) (m + n) ≡ layoutAt s c a b scale .plan
+plan-value s c a b scale rows columns yr yc rc cc er ec m n em en =
+    rw (em, en, yr .ignored-is, yc .ignored-is, yr .expanded-is, yc .expanded-is) (value-is s c a b scale rc cc er ec)
+
+-- the scale that was chosen is the plan's
+pub scale-of : (s : Settings) (c : Sides) (a b : AxisInput) (rows columns : Ready) → ReadyFor rows (c .height) a → ReadyFor columns (c .width) b
+    → cond (s .fit) (fitScale (λ p. fitPasses (rows .fit) (a .merge-firsts) (a .merge-lasts) (within rows (a .indexes)) (within rows (a .sizes)) p
+    && fitPasses (columns .fit) (b .merge-firsts) (b .merge-lasts) (within columns (b .indexes)) (within columns (b .sizes)) p)) (fixedScale (s .percent)) ≡ chosenScale s c a b
+unfolding chosenScale
+scale-of s c a b rows columns yr yc =
+    ap (λ (t : ℕ → Bool). cond (s .fit) (fitScale t) (fixedScale (s .percent)))
+    (λ i. λ p. passes-of rows (c .height) a yr p i && passes-of columns (c .width) b yc p i)
+
+-- the breaks that are looked at
+pub looked : (fit : Bool) (bs : List ℕ) (n : ℕ) → n ≡ cond fit 0 (length bs) → take n bs ≡ lookedAt fit bs
+looked true bs n e = rw e
+looked false bs n e = rw e (take-all (length bs) bs (omega arith))
+
+pub looked-few : (fit : Bool) (m n : ℕ) → m ≡ cond fit 0 n → m ≤ n
+looked-few true m n e = omega arith
+looked-few false m n e = omega arith
+
+-- the questions look at no break
+pub no-breaks : (q k : AxisRange) (is ss fs ls bs js ts gs ms cs : List ℕ) (x y : Bool)
+    → firstNo (axisFor q is ss fs ls []) (axisFor k js ts gs ms []) x y ≡ firstNo (axisFor q is ss fs ls bs) (axisFor k js ts gs ms cs) x y
+unfolding firstNo formed inGrid
+no-breaks q k is ss fs ls bs js ts gs ms cs x y = refl
+
+-- ---- the call
+
+pub relay-scale : (s : Settings) (c : Sides) (a b : AxisInput) (z : Scale) (m n limit : ℕ) (r : Planning) (R C R′ C′ : RunLists) → z ≡ chosenScale s c a b
+    → Planned (roomFor (layoutAt s c a b z) m n limit) r R C R′ C′ → Planned (roomFor (layout s c a b) m n limit) r R C R′ C′
+unfolding layout
+relay-scale s c a b z m n limit r R C R′ C′ e p = subst (λ (z : Scale). Planned (roomFor (layoutAt s c a b z) m n limit) r R C R′ C′) e p
+
+module _ (s : Settings) (a b : AxisInput) (R C : RunLists) (n : ℕ) (e : n ≡ firstNo a b (evenLists R) (evenLists C)) (y : Asked s a b R C n e) where
+  pub ten-of : contentSides s ≡ refused 10 → planned s a b R C ≡ refused 10
+  ten-of t = y .goes-on ∙ rw t
+
+  pub sides-of : (c : Sides) → contentSides s ≡ given c → planned s a b R C ≡ roomFor (layout s c a b) (length (R .firsts)) (length (C .firsts)) (s .«page_limit»)
+  sides-of c t = y .goes-on ∙ rw t
+
+pub relay-call : (s : Settings) (c : Sides) (a b a′ b′ : AxisInput) (R C : RunLists) (r : Planning) (R′ C′ : RunLists) → a′ ≡ a → b′ ≡ b
+    → planned s a b R C ≡ roomFor (layout s c a b) (length (R .firsts)) (length (C .firsts)) (s .«page_limit»)
+    → Planned (roomFor (layout s c a′ b′) (length (R .firsts)) (length (C .firsts)) (s .«page_limit»)) r R C R′ C′ → Planned (planned s a b R C) r R C R′ C′
+relay-call s c a b a′ b′ R C r R′ C′ ea eb e p =
+    let o : roomFor (layout s c a′ b′) (length (R .firsts)) (length (C .firsts)) (s .«page_limit») ≡ planned s a b R C =
+    ap₂ (λ (x y : AxisInput). roomFor (layout s c x y) (length (R .firsts)) (length (C .firsts)) (s .«page_limit»)) ea eb ∙ sym e in
+    subst (λ (x : Outcome Layout). Planned x r R C R′ C′) o p
+
+-- an axis as the settings make it is within the grid, and its headings are low
+fine-as : (q : AxisRange) (is ss fs ls bs : List ℕ) (a : AxisInput) (even : Bool) → axisFor q is ss fs ls bs ≡ a → a .limit ≤ 1048575 → a .headings ≤ 2 ^ 50 → Yes a even → Fine q is ss fs ls
+fine-as q is ss fs ls bs a even e low h y =
+    fine-of q is ss fs ls bs even (rw (ap (λ (x : AxisInput). x .limit) e) low) (rw (ap (λ (x : AxisInput). x .headings) e) h) (subst (λ (x : AxisInput). Yes x even) (sym e) y)
+
+pub rows-fine : (q : AxisRange) (s : Settings) (g : PrintRange) (t : Title) (is ss fs ls bs : List ℕ) (even : Bool) → AreRows q s g t → Yes (rowsOf s g t is ss fs ls bs) even → Fine q is ss fs ls
+unfolding limitOf
+rows-fine q s g t is ss fs ls bs even e y =
+    fine-as q is ss fs ls (lookedAt (s .fit) bs) (rowsOf s g t is ss fs ls bs) even (e is ss fs ls bs) (omega arith) (either (λ (n : ℕ). n ≤ 2 ^ 50) (s .headings) (omega arith) (omega arith)) y
+
+pub columns-fine : (q : AxisRange) (s : Settings) (g : PrintRange) (t : Title) (is ss fs ls bs : List ℕ) (even : Bool) → AreColumns q s g t → Yes (columnsOf s g t is ss fs ls bs) even → Fine q is ss fs ls
+unfolding limitOf
+columns-fine q s g t is ss fs ls bs even e y =
+    fine-as q is ss fs ls (lookedAt (s .fit) bs) (columnsOf s g t is ss fs ls bs) even (e is ss fs ls bs) (omega arith) (either (λ (n : ℕ). n ≤ 2 ^ 50) (s .headings) (omega arith) (omega arith)) y

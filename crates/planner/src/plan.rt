@@ -41,10 +41,11 @@ ghost use Rattle.planner.specs.Runs.{axisRuns};
 ghost use Rattle.planner.specs.Lent.{Room, Written};
 ghost use Rattle.planner.specs.Lent as lists;
 ghost use Rattle.planner.specs.Partition.{Even, noOr};
-ghost use Rattle.planner.specs.Scale.{fixedScale, fitScale, spaceOf, scaleOf, fitPasses, Fitted, Low};
+ghost use Rattle.planner.specs.Scale.{fixedScale, fitScale, spaceOf, scaleOf, fitPasses, Low};
 ghost use Rattle.planner.specs.Pages.{emptyRun, none, orEmpty, overflowing};
 ghost use Rattle.planner.specs.Pages as pages;
 ghost use Rattle.planner.specs.Plan as call;
+ghost use Rattle.planner.specs.Demand.{CoversPairs, FewestPlan, LargestPlan};
 
 // How a range is printed. A target is the most pages in a direction, 0 for any number.
 pub struct Settings {
@@ -141,33 +142,39 @@ fn later(a: usize, b: usize) -> usize
 // The scale of a plan: by fitting, or by percent.
 fn choose_scale(
     settings: Settings,
-    rows: Fit,
-    columns: Fit,
-    rfirsts: &[u32],
-    rlasts: &[u32],
-    rindexes: &[u32],
-    rsizes: &[u64],
-    cfirsts: &[u32],
-    clasts: &[u32],
-    cindexes: &[u32],
-    csizes: &[u64],
+    rows: Ready,
+    columns: Ready,
+    row_indexes: &[u32],
+    row_sizes: &[u64],
+    column_indexes: &[u32],
+    column_sizes: &[u64],
+    merge_first_rows: &[u32],
+    merge_first_columns: &[u32],
+    merge_last_rows: &[u32],
+    merge_last_columns: &[u32],
 ) -> ChosenScale
-    requires { ⌜ Fitted rows (now rfirsts) (now rlasts) (now rindexes) (now rsizes) ⌝ }
-    requires { ⌜ Fitted columns (now cfirsts) (now clasts) (now cindexes) (now csizes) ⌝ }
-    ensures { λ r. ⌜ scaleOf r ≡ cond (settings .fit) (fitScale (λ p. fitPasses rows (now (rfirsts .entry)) (now (rlasts .entry)) (now (rindexes .entry)) (now (rsizes .entry)) p && fitPasses columns (now (cfirsts .entry)) (now (clasts .entry)) (now (cindexes .entry)) (now (csizes .entry)) p)) (fixedScale (settings .percent)) ⌝ }
+    requires { ⌜ call.Cuttable rows (now «row_indexes») (now «row_sizes») (now «merge_first_rows») (now «merge_last_rows») ⌝ }
+    requires { ⌜ call.Cuttable columns (now «column_indexes») (now «column_sizes») (now «merge_first_columns») (now «merge_last_columns») ⌝ }
+    ensures { λ r. ⌜ scaleOf r ≡ cond (settings .fit) (fitScale (λ p. fitPasses (rows .fit) (now («merge_first_rows» .entry)) (now («merge_last_rows» .entry)) (call.within rows (now («row_indexes» .entry))) (call.within rows (now («row_sizes» .entry))) p && fitPasses (columns .fit) (now («merge_first_columns» .entry)) (now («merge_last_columns» .entry)) (call.within columns (now («column_indexes» .entry))) (call.within columns (now («column_sizes» .entry))) p)) (fixedScale (settings .percent)) ⌝ }
 {
     if settings.fit {
+        let row_fit = rows.fit;
+        let column_fit = columns.fit;
+        let row_from = rows.from;
+        let row_to = rows.to;
+        let column_from = columns.from;
+        let column_to = columns.to;
         return fit_scale(
-            rows,
-            columns,
-            rfirsts,
-            rlasts,
-            rindexes,
-            rsizes,
-            cfirsts,
-            clasts,
-            cindexes,
-            csizes,
+            row_fit,
+            column_fit,
+            merge_first_rows,
+            merge_last_rows,
+            &row_indexes[row_from..row_to],
+            &row_sizes[row_from..row_to],
+            merge_first_columns,
+            merge_last_columns,
+            &column_indexes[column_from..column_to],
+            &column_sizes[column_from..column_to],
         );
     }
     let percent = settings.percent;
@@ -545,24 +552,18 @@ fn plan_axes(
         merge_first_columns,
         merge_last_columns,
     );
-    let row_from = rows.from;
-    let row_to = rows.to;
-    let column_from = columns.from;
-    let column_to = columns.to;
-    let row_fit = rows.fit;
-    let column_fit = columns.fit;
     let scale = choose_scale(
         settings,
-        row_fit,
-        column_fit,
+        rows,
+        columns,
+        row_indexes,
+        row_sizes,
+        column_indexes,
+        column_sizes,
         merge_first_rows,
-        merge_last_rows,
-        &row_indexes[row_from..row_to],
-        &row_sizes[row_from..row_to],
         merge_first_columns,
+        merge_last_rows,
         merge_last_columns,
-        &column_indexes[column_from..column_to],
-        &column_sizes[column_from..column_to],
     );
     plan_cut(
         settings,
@@ -778,7 +779,12 @@ pub fn plan_pages(
     column_run_lasts: &mut [u32],
     column_run_sizes: &mut [u64],
     column_run_marks: &mut [u8],
-) -> Planning {
+) -> Planning
+    ensures planned { λ r. ⌜ call.Planned (call.planned settings (call.rowsOf settings range «row_title» (now («row_indexes» .entry)) (now («row_sizes» .entry)) (now («merge_first_rows» .entry)) (now («merge_last_rows» .entry)) (now («row_breaks» .entry))) (call.columnsOf settings range «column_title» (now («column_indexes» .entry)) (now («column_sizes» .entry)) (now («merge_first_columns» .entry)) (now («merge_last_columns» .entry)) (now («column_breaks» .entry))) (pages.runLists (now («row_run_firsts» .entry)) (now («row_run_lasts» .entry)) (now («row_run_sizes» .entry)) (now («row_run_marks» .entry))) (pages.runLists (now («column_run_firsts» .entry)) (now («column_run_lasts» .entry)) (now («column_run_sizes» .entry)) (now («column_run_marks» .entry)))) r (pages.runLists (now («row_run_firsts» .entry)) (now («row_run_lasts» .entry)) (now («row_run_sizes» .entry)) (now («row_run_marks» .entry))) (pages.runLists (now («column_run_firsts» .entry)) (now («column_run_lasts» .entry)) (now («column_run_sizes» .entry)) (now («column_run_marks» .entry))) (pages.runLists (now («row_run_firsts» .exit)) (now («row_run_lasts» .exit)) (now («row_run_sizes» .exit)) (now («row_run_marks» .exit))) (pages.runLists (now («column_run_firsts» .exit)) (now («column_run_lasts» .exit)) (now («column_run_sizes» .exit)) (now («column_run_marks» .exit))) ⌝ }
+    ensures covered { λ r. ⌜ CoversPairs r (call.rowsOf settings range «row_title» (now («row_indexes» .entry)) (now («row_sizes» .entry)) (now («merge_first_rows» .entry)) (now («merge_last_rows» .entry)) (now («row_breaks» .entry))) (call.columnsOf settings range «column_title» (now («column_indexes» .entry)) (now («column_sizes» .entry)) (now («merge_first_columns» .entry)) (now («merge_last_columns» .entry)) (now («column_breaks» .entry))) (pages.runLists (now («row_run_firsts» .exit)) (now («row_run_lasts» .exit)) (now («row_run_sizes» .exit)) (now («row_run_marks» .exit))) (pages.runLists (now («column_run_firsts» .exit)) (now («column_run_lasts» .exit)) (now («column_run_sizes» .exit)) (now («column_run_marks» .exit))) ⌝ }
+    ensures fewest { λ r. ⌜ FewestPlan r settings (call.rowsOf settings range «row_title» (now («row_indexes» .entry)) (now («row_sizes» .entry)) (now («merge_first_rows» .entry)) (now («merge_last_rows» .entry)) (now («row_breaks» .entry))) (call.columnsOf settings range «column_title» (now («column_indexes» .entry)) (now («column_sizes» .entry)) (now («merge_first_columns» .entry)) (now («merge_last_columns» .entry)) (now («column_breaks» .entry))) (pages.runLists (now («row_run_firsts» .exit)) (now («row_run_lasts» .exit)) (now («row_run_sizes» .exit)) (now («row_run_marks» .exit))) (pages.runLists (now («column_run_firsts» .exit)) (now («column_run_lasts» .exit)) (now («column_run_sizes» .exit)) (now («column_run_marks» .exit))) ⌝ }
+    ensures largest { λ r. ⌜ LargestPlan r settings (call.rowsOf settings range «row_title» (now («row_indexes» .entry)) (now («row_sizes» .entry)) (now («merge_first_rows» .entry)) (now («merge_last_rows» .entry)) (now («row_breaks» .entry))) (call.columnsOf settings range «column_title» (now («column_indexes» .entry)) (now («column_sizes» .entry)) (now («merge_first_columns» .entry)) (now («merge_last_columns» .entry)) (now («column_breaks» .entry))) ⌝ }
+{
     let lent_rows_even = (row_run_firsts.len() == row_run_lasts.len())
         & (row_run_firsts.len() == row_run_sizes.len())
         & (row_run_firsts.len() == row_run_marks.len());

@@ -1,128 +1,67 @@
-use native.Mathlib.Omega.{arith}
+-- `planner::plan::plan_axes` meets its contract. Assumes nothing.
+use mathlib.Core.Path.{_∙_}
+use lib.ListN.{length}
+use Rattle.planner.specs.Pages.{runLists}
+use Rattle.planner.specs.Plan.{axisFor, sidesOf}
+use Rattle.planner.proofs.PlanLaws.{cuttable, scale-of, relay-scale}
 use borrow.Author.Needs.{needs}
 use Rattle.planner.proofs.plan.plan_axes.Statement.{statement}
 use Rattle.planner.proofs.plan.plan_axes.Tie as tie
-use Rattle.planner.proofs.plan.plan_axes.Reads as reads
-use Rattle.planner.proofs.plan.plan_axes.Lts as lts
-use Rattle.planner.proofs.plan.choose_scale.Reads as choose-scale-reads
-use Rattle.planner.proofs.plan.plan_cut.Reads as plan-cut-reads
-use Rattle.planner.proofs.plan.ready_axis.Reads as ready-axis-reads
 
--- src/plan.rt:492:9
 ready-axis-requires : tie.Need-ready-axis-requires
-ready-axis-requires c κs = search needs
+ready-axis-requires c κs =
+    c .before .before .before .before .before .before .before .before .before .before .before .before .before .before .before .before .before .before .before .before .pre .0
 
--- src/plan.rt:500:9
 ready-axis-requires-2 : tie.Need-ready-axis-requires-2
-ready-axis-requires-2 c κs = search needs
+ready-axis-requires-2 c κs =
+    c .before .before .before .before .before .before .before .before .before .before .before .before .before .before .before .before .before .before .before .before .before .pre .1 .0
 
--- src/plan.rt:520:9
-mul-choose-scale : tie.Need-mul-choose-scale
-mul-choose-scale c = search needs
-
--- src/plan.rt:520:9
-sub-choose-scale : tie.Need-sub-choose-scale
-sub-choose-scale c = search needs
-
--- src/plan.rt:520:9
-part-choose-scale-start : tie.Need-part-choose-scale-start
-part-choose-scale-start c = search needs
-
--- src/plan.rt:520:9
-part-choose-scale-end : tie.Need-part-choose-scale-end
-part-choose-scale-end c = search needs
-
--- src/plan.rt:521:9
-mul-choose-scale-2 : tie.Need-mul-choose-scale-2
-mul-choose-scale-2 c = search needs
-
--- src/plan.rt:521:9
-sub-choose-scale-2 : tie.Need-sub-choose-scale-2
-sub-choose-scale-2 c = search needs
-
--- src/plan.rt:521:9
-part-choose-scale-start-2 : tie.Need-part-choose-scale-start-2
-part-choose-scale-start-2 c = search needs
-
--- src/plan.rt:521:9
-part-choose-scale-end-2 : tie.Need-part-choose-scale-end-2
-part-choose-scale-end-2 c = search needs
-
--- src/plan.rt:524:9
-mul-choose-scale-3 : tie.Need-mul-choose-scale-3
-mul-choose-scale-3 c = search needs
-
--- src/plan.rt:524:9
-sub-choose-scale-3 : tie.Need-sub-choose-scale-3
-sub-choose-scale-3 c = search needs
-
--- src/plan.rt:524:9
-part-choose-scale-start-3 : tie.Need-part-choose-scale-start-3
-part-choose-scale-start-3 c = search needs
-
--- src/plan.rt:524:9
-part-choose-scale-end-3 : tie.Need-part-choose-scale-end-3
-part-choose-scale-end-3 c = search needs
-
--- src/plan.rt:525:9
-mul-choose-scale-4 : tie.Need-mul-choose-scale-4
-mul-choose-scale-4 c = search needs
-
--- src/plan.rt:525:9
-sub-choose-scale-4 : tie.Need-sub-choose-scale-4
-sub-choose-scale-4 c = search needs
-
--- src/plan.rt:525:9
-part-choose-scale-start-4 : tie.Need-part-choose-scale-start-4
-part-choose-scale-start-4 c = search needs
-
--- src/plan.rt:525:9
-part-choose-scale-end-4 : tie.Need-part-choose-scale-end-4
-part-choose-scale-end-4 c = search needs
-
--- src/plan.rt:514:9
 choose-scale-requires : tie.Need-choose-scale-requires
-choose-scale-requires c κs = search needs
+choose-scale-requires c κs =
+    let d = c in
+    let s = d .before .before .before .before .before .before .before .before .before .before .before .before .before .before .before .before .before .before .before .before .before .before in
+    let a = s .args in
+    (cuttable (a .row-axis) (a .row-indexes .now) (a .row-sizes .now) (a .merge-first-rows .now) (a .merge-last-rows .now) (a .row-breaks .now) (d .before .ready-axis .result) (a .sides .height .0) (s .pre .0) (d .before .ready-axis .ensures (a .row-breaks .now)), cuttable (a .column-axis) (a .column-indexes .now) (a .column-sizes .now) (a .merge-first-columns .now) (a .merge-last-columns .now) (a .column-breaks .now) (d .ready-axis2 .result) (a .sides .width .0) (s .pre .1 .0) (d .ready-axis2 .ensures (a .column-breaks .now)))
 
--- src/plan.rt:527:5
 plan-cut-requires : tie.Need-plan-cut-requires
-plan-cut-requires c κs = search needs
+plan-cut-requires c κs =
+    let d = c .before .before .before .before .before .before .before .before .before in
+    let s = d .before .before .before .before .before .before .before .before .before .before .before .before .before .before .before .before .before .before .before .before .before .before in
+    let a = s .args in
+    (s .pre .0, (s .pre .1 .0, (d .before .ready-axis .ensures (a .row-breaks .now), (d .ready-axis2 .ensures (a .column-breaks .now), (s .pre .1 .1 .0, s .pre .1 .1 .1)))))
 
--- src/plan.rt:460:1
 same-length : tie.Need-same-length
 same-length c = search needs
 
--- src/plan.rt:460:1
 same-length-2 : tie.Need-same-length-2
 same-length-2 c = search needs
 
--- src/plan.rt:460:1
 same-length-3 : tie.Need-same-length-3
 same-length-3 c = search needs
 
--- src/plan.rt:460:1
 same-length-4 : tie.Need-same-length-4
 same-length-4 c = search needs
 
--- src/plan.rt:460:1
 same-length-5 : tie.Need-same-length-5
 same-length-5 c = search needs
 
--- src/plan.rt:460:1
 same-length-6 : tie.Need-same-length-6
 same-length-6 c = search needs
 
--- src/plan.rt:460:1
 same-length-7 : tie.Need-same-length-7
 same-length-7 c = search needs
 
--- src/plan.rt:460:1
 same-length-8 : tie.Need-same-length-8
 same-length-8 c = search needs
 
--- src/plan.rt:460:1
 returns : tie.Need-returns
-returns c = search needs
+returns c =
+    let d = c .before .before .before .before .before .before .before .before .before .before .before .before .before .before .before .before .before .before .before .before .before .before .before .before .before .before in
+    let s = d .before .before .before .before .before .before .before .before .before .before .before .before .before .before .before .before .before .before .before .before .before .before in
+    let a = s .args in
+    relay-scale (a .settings) (sidesOf (a .sides)) (axisFor (a .row-axis) (a .row-indexes .now) (a .row-sizes .now) (a .merge-first-rows .now) (a .merge-last-rows .now) (a .row-breaks .now)) (axisFor (a .column-axis) (a .column-indexes .now) (a .column-sizes .now) (a .merge-first-columns .now) (a .merge-last-columns .now) (a .column-breaks .now)) _ (length (a .row-run-firsts .now)) (length (a .column-run-firsts .now)) (a .settings .«page_limit») _ (runLists (a .row-run-firsts .now) (a .row-run-lasts .now) (a .row-run-sizes .now) (a .row-run-marks .now)) (runLists (a .column-run-firsts .now) (a .column-run-lasts .now) (a .column-run-sizes .now) (a .column-run-marks .now)) _ _
+    (c .before .before .before .before .before .before .before .before .before .before .before .before .before .before .before .before .before .before .before .before .before .before .before .before .before .choose-scale .ensures ∙ scale-of (a .settings) (sidesOf (a .sides)) (axisFor (a .row-axis) (a .row-indexes .now) (a .row-sizes .now) (a .merge-first-rows .now) (a .merge-last-rows .now) (a .row-breaks .now)) (axisFor (a .column-axis) (a .column-indexes .now) (a .column-sizes .now) (a .merge-first-columns .now) (a .merge-last-columns .now) (a .column-breaks .now)) (d .before .ready-axis .result) (d .ready-axis2 .result) (d .before .ready-axis .ensures (a .row-breaks .now)) (d .ready-axis2 .ensures (a .column-breaks .now)))
+    (c .before .before .before .before .before .before .before .before .before .before .before .before .before .before .before .before .plan-cut .ensures)
 
 pub plan-axes-spec : {M : Type 1} → statement M
 plan-axes-spec =
@@ -130,22 +69,6 @@ plan-axes-spec =
     (tie.spec
     ready-axis-requires
     ready-axis-requires-2
-    mul-choose-scale
-    sub-choose-scale
-    part-choose-scale-start
-    part-choose-scale-end
-    mul-choose-scale-2
-    sub-choose-scale-2
-    part-choose-scale-start-2
-    part-choose-scale-end-2
-    mul-choose-scale-3
-    sub-choose-scale-3
-    part-choose-scale-start-3
-    part-choose-scale-end-3
-    mul-choose-scale-4
-    sub-choose-scale-4
-    part-choose-scale-start-4
-    part-choose-scale-end-4
     choose-scale-requires
     plan-cut-requires
     same-length

@@ -1,84 +1,156 @@
+-- `planner::plan::plan_cut` meets its contract. Assumes nothing.
+use mathlib.Core.Path.{_≡_, sym, ap, subst, _∙_}
+use Prim.Native.Nat.{ℕ, _+_, _*_, _≤_, _<_}
+use lib.ListN.{length}
+use Rattle.planner.specs.declared.pages.Plan.{Plan}
+use Rattle.planner.specs.declared.pages.Notes.{Notes}
+use Rattle.planner.specs.Scale.{scaleOf, spaceOf}
+use Rattle.planner.specs.Pages.{runLists, orEmpty}
+use Rattle.planner.specs.Plan.{AxisInput, Layout, titleOf, axisFor, sidesOf, cutRuns, cutShifts, layoutAt, roomFor, cutOf, readyRuns, readyShifts}
+use Rattle.planner.proofs.TitleLaws.{ignored-le, expanded-le}
+use Rattle.planner.proofs.PlanLaws.{cuttable, cut-of, row-count, column-count, page-count, refuses-plan, answers-plan, no-row-room, no-column-room, too-many, room-enough, room-of, few-pages, overflows-few, overflows-of, written-of, plan-value}
 use native.Mathlib.Omega.{arith}
 use borrow.Author.Needs.{needs}
 use Rattle.planner.proofs.plan.plan_cut.Statement.{statement}
 use Rattle.planner.proofs.plan.plan_cut.Tie as tie
-use Rattle.planner.proofs.plan.plan_cut.Reads as reads
-use Rattle.planner.proofs.plan.plan_cut.Lts as lts
-use Rattle.planner.proofs.plan.count_cut.Reads as count-cut-reads
-use Rattle.planner.proofs.plan.notes_of.Reads as notes-of-reads
-use Rattle.planner.proofs.plan.write_cut.Reads as write-cut-reads
 
--- src/plan.rt:379:9
+-- both axes, and what they are laid out to
+abbrev rows-of : tie.After-count-cut2 → AxisInput
+rows-of d = let a = d .before .before .before .before .before .before .before .before .before .before .before .before .before .before .before .before .before .before .before .before .args in axisFor (a .row-axis) (a .row-indexes .now) (a .row-sizes .now) (a .merge-first-rows .now) (a .merge-last-rows .now) (a .row-breaks .now)
+
+abbrev columns-of : tie.After-count-cut2 → AxisInput
+columns-of d = let a = d .before .before .before .before .before .before .before .before .before .before .before .before .before .before .before .before .before .before .before .before .args in axisFor (a .column-axis) (a .column-indexes .now) (a .column-sizes .now) (a .merge-first-columns .now) (a .merge-last-columns .now) (a .column-breaks .now)
+
+abbrev laid : tie.After-count-cut2 → Layout
+laid d = let a = d .before .before .before .before .before .before .before .before .before .before .before .before .before .before .before .before .before .before .before .before .args in layoutAt (a .settings) (sidesOf (a .sides)) (rows-of d) (columns-of d) (scaleOf (a .scale))
+
+row-cut : (d : tie.After-count-cut2) → let a = d .before .before .before .before .before .before .before .before .before .before .before .before .before .before .before .before .before .before .before .before .args in d .before .count-cut .result ≡ cutOf (cutRuns (a .sides .height .0) (rows-of d) (a .scale .permille)) (cutShifts (a .sides .height .0) (rows-of d) (a .scale .permille))
+row-cut d = let s = d .before .before .before .before .before .before .before .before .before .before .before .before .before .before .before .before .before .before .before .before in cut-of (s .args .rows) (s .args .sides .height .0) (rows-of d) (s .pre .1 .1 .0) (s .args .scale .permille) _ (d .before .count-cut .ensures .0)
+
+column-cut : (d : tie.After-count-cut2) → let a = d .before .before .before .before .before .before .before .before .before .before .before .before .before .before .before .before .before .before .before .before .args in d .count-cut2 .result ≡ cutOf (cutRuns (a .sides .width .0) (columns-of d) (a .scale .permille)) (cutShifts (a .sides .width .0) (columns-of d) (a .scale .permille))
+column-cut d = let s = d .before .before .before .before .before .before .before .before .before .before .before .before .before .before .before .before .before .before .before .before in cut-of (s .args .columns) (s .args .sides .width .0) (columns-of d) (s .pre .1 .1 .1 .0) (s .args .scale .permille) _ (d .count-cut2 .ensures .0)
+
+row-runs : (d : tie.After-count-cut2) → length (laid d .rows) ≡ d .before .count-cut .result .runs
+row-runs d = let a = d .before .before .before .before .before .before .before .before .before .before .before .before .before .before .before .before .before .before .before .before .args in row-count (a .settings) (sidesOf (a .sides)) (rows-of d) (columns-of d) (scaleOf (a .scale)) _ _ (row-cut d) (column-cut d)
+
+column-runs : (d : tie.After-count-cut2) → length (laid d .columns) ≡ d .count-cut2 .result .runs
+column-runs d = let a = d .before .before .before .before .before .before .before .before .before .before .before .before .before .before .before .before .before .before .before .before .args in column-count (a .settings) (sidesOf (a .sides)) (rows-of d) (columns-of d) (scaleOf (a .scale)) _ _ (row-cut d) (column-cut d)
+
+pages-are : (d : tie.After-count-cut2) → laid d .plan .pages ≡ d .before .count-cut .result .runs * d .count-cut2 .result .runs
+pages-are d = let a = d .before .before .before .before .before .before .before .before .before .before .before .before .before .before .before .before .before .before .before .before .args in page-count (a .settings) (sidesOf (a .sides)) (rows-of d) (columns-of d) (scaleOf (a .scale)) _ _ (row-cut d) (column-cut d)
+
 count-cut-requires : tie.Need-count-cut-requires
-count-cut-requires c κs = search needs
+count-cut-requires c κs =
+    let s = c .before .before .before .before .before .before .before .before .before .before .before .before .before .before .before .before .before .before in
+    let a = s .args in
+    cuttable (a .row-axis) (a .row-indexes .now) (a .row-sizes .now) (a .merge-first-rows .now) (a .merge-last-rows .now) (a .row-breaks .now) (a .rows) (a .sides .height .0) (s .pre .0) (s .pre .1 .1 .0)
 
--- src/plan.rt:388:9
 count-cut-requires-2 : tie.Need-count-cut-requires-2
-count-cut-requires-2 c κs = search needs
+count-cut-requires-2 c κs =
+    let s = c .before .before .before .before .before .before .before .before .before .before .before .before .before .before .before .before .before .before .before in
+    let a = s .args in
+    cuttable (a .column-axis) (a .column-indexes .now) (a .column-sizes .now) (a .merge-first-columns .now) (a .merge-last-columns .now) (a .column-breaks .now) (a .columns) (a .sides .width .0) (s .pre .1 .0) (s .pre .1 .1 .1 .0)
 
--- src/plan.rt:398:9
 returns : tie.Need-returns
-returns c = search needs
+returns c =
+    let d = c .before .before in
+    let s = d .before .before .before .before .before .before .before .before .before .before .before .before .before .before .before .before .before .before .before .before in
+    let a = s .args in
+    refuses-plan _ 11 (runLists (a .row-run-firsts .now) (a .row-run-lasts .now) (a .row-run-sizes .now) (a .row-run-marks .now)) (runLists (a .column-run-firsts .now) (a .column-run-lasts .now) (a .column-run-sizes .now) (a .column-run-marks .now)) (no-row-room (laid d) (length (a .row-run-firsts .now)) (length (a .column-run-firsts .now)) (a .settings .«page_limit») (omega (arith, c .if1 .taken, row-runs d)))
 
--- src/plan.rt:401:9
 returns-2 : tie.Need-returns-2
-returns-2 c = search needs
+returns-2 c =
+    let d = c .before .before .before .before in
+    let s = d .before .before .before .before .before .before .before .before .before .before .before .before .before .before .before .before .before .before .before .before in
+    let a = s .args in
+    refuses-plan _ 11 (runLists (a .row-run-firsts .now) (a .row-run-lasts .now) (a .row-run-sizes .now) (a .row-run-marks .now)) (runLists (a .column-run-firsts .now) (a .column-run-lasts .now) (a .column-run-sizes .now) (a .column-run-marks .now)) (no-column-room (laid d) (length (a .row-run-firsts .now)) (length (a .column-run-firsts .now)) (a .settings .«page_limit») (omega (arith, c .before .before .if1 .left, row-runs d)) (omega (arith, c .if2 .taken, column-runs d)))
 
--- src/plan.rt:403:17
 mul-pages : tie.Need-mul-pages
-mul-pages c = search needs
+mul-pages c =
+    let d = c .before .before .before .before in
+    let s = d .before .before .before .before .before .before .before .before .before .before .before .before .before .before .before .before .before .before .before .before in
+    let a = s .args in
+    let n = few-pages _ _ (d .before .count-cut .ensures .1 .0) (d .count-cut2 .ensures .1 .0) in
+    omega (arith, n)
 
--- src/plan.rt:405:9
 returns-3 : tie.Need-returns-3
-returns-3 c = search needs
+returns-3 c =
+    let d = c .before .before .before .before .before .before in
+    let s = d .before .before .before .before .before .before .before .before .before .before .before .before .before .before .before .before .before .before .before .before in
+    let a = s .args in
+    refuses-plan _ 12 (runLists (a .row-run-firsts .now) (a .row-run-lasts .now) (a .row-run-sizes .now) (a .row-run-marks .now)) (runLists (a .column-run-firsts .now) (a .column-run-lasts .now) (a .column-run-sizes .now) (a .column-run-marks .now)) (too-many (laid d) (length (a .row-run-firsts .now)) (length (a .column-run-firsts .now)) (a .settings .«page_limit») (omega (arith, c .before .before .before .before .if1 .left, row-runs d)) (omega (arith, c .before .before .if2 .left, column-runs d)) (subst (λ (n : ℕ). a .settings .«page_limit» < n) (sym (pages-are d)) (c .if3 .taken)))
 
--- src/plan.rt:407:9
 write-cut-requires : tie.Need-write-cut-requires
-write-cut-requires c κs = search needs
+write-cut-requires c κs =
+    let d = c .before .before .before .before .before .before .before .before .before .before in
+    let s = d .before .before .before .before .before .before .before .before .before .before .before .before .before .before .before .before .before .before .before .before in
+    let a = s .args in
+    (cuttable (a .row-axis) (a .row-indexes .now) (a .row-sizes .now) (a .merge-first-rows .now) (a .merge-last-rows .now) (a .row-breaks .now) (a .rows) (a .sides .height .0) (s .pre .0) (s .pre .1 .1 .0), (d .before .count-cut .ensures .0, room-of (a .row-axis .first) (readyRuns (a .rows) (a .scale .permille) (a .row-indexes .now) (a .row-sizes .now) (a .merge-first-rows .now) (a .merge-last-rows .now) (a .row-breaks .now)) _ (d .before .count-cut .result) (a .row-run-firsts .now) (a .row-run-lasts .now) (a .row-run-sizes .now) (a .row-run-marks .now) (d .before .count-cut .ensures .0) (c .before .before .before .before .before .before .before .before .if1 .left) (s .pre .1 .1 .1 .1 .0)))
 
--- src/plan.rt:422:9
 write-cut-requires-2 : tie.Need-write-cut-requires-2
-write-cut-requires-2 c κs = search needs
+write-cut-requires-2 c κs =
+    let d = c .before .before .before .before .before .before .before .before .before .before .before .before .before .before .before .before .before .before .before .before .before .before .before in
+    let s = d .before .before .before .before .before .before .before .before .before .before .before .before .before .before .before .before .before .before .before .before in
+    let a = s .args in
+    (cuttable (a .column-axis) (a .column-indexes .now) (a .column-sizes .now) (a .merge-first-columns .now) (a .merge-last-columns .now) (a .column-breaks .now) (a .columns) (a .sides .width .0) (s .pre .1 .0) (s .pre .1 .1 .1 .0), (d .count-cut2 .ensures .0, room-of (a .column-axis .first) (readyRuns (a .columns) (a .scale .permille) (a .column-indexes .now) (a .column-sizes .now) (a .merge-first-columns .now) (a .merge-last-columns .now) (a .column-breaks .now)) _ (d .count-cut2 .result) (a .column-run-firsts .now) (a .column-run-lasts .now) (a .column-run-sizes .now) (a .column-run-marks .now) (d .count-cut2 .ensures .0) (c .before .before .before .before .before .before .before .before .before .before .before .before .before .before .before .before .before .before .before .if2 .left) (s .pre .1 .1 .1 .1 .1)))
 
--- src/plan.rt:446:16
 notes-of-requires : tie.Need-notes-of-requires
-notes-of-requires c κs = search needs
+notes-of-requires c κs =
+    let d = c .before .before .before .before .before .before .before .before .before .before .before .before .before .before .before .before .before .before .before .before .before .before .before .before .before .before .before .before .before .before .before .before in
+    let s = d .before .before .before .before .before .before .before .before .before .before .before .before .before .before .before .before .before .before .before .before in
+    let a = s .args in
+    let yr = s .pre .1 .1 .0 in
+    let yc = s .pre .1 .1 .1 .0 in
+    record {
+      ignored = omega (arith, yr .ignored-is, yc .ignored-is, ignored-le (a .merge-first-rows .now) (a .merge-last-rows .now) (a .row-axis .limit) (a .row-axis .title), ignored-le (a .merge-first-columns .now) (a .merge-last-columns .now) (a .column-axis .limit) (a .column-axis .title));
+      expanded = omega (arith, s .good .1 .1 .1 .1 .1 .1 .1 .1 .1 .1 .1 .0, s .good .1 .1 .1 .1 .1 .1 .1 .1 .1 .1 .1 .1 .0, yr .expanded-is, yc .expanded-is, expanded-le (a .merge-first-rows .now) (a .merge-last-rows .now) (a .row-axis .limit) (a .row-axis .title), expanded-le (a .merge-first-columns .now) (a .merge-last-columns .now) (a .column-axis .limit) (a .column-axis .title));
+      expansions = omega (arith, d .before .count-cut .ensures .1 .1, d .count-cut2 .ensures .1 .1);
+      shifts = omega (arith, s .good .1 .1 .1 .1 .1 .1 .1 .1 .1 .1 .1 .1 .1 .1 .1 .0, s .good .1 .1 .1 .1 .1 .1 .1 .1 .1 .1 .1 .1 .1 .1 .1 .1 .0, d .before .count-cut .ensures .1 .2, d .count-cut2 .ensures .1 .2);
+      overflows = omega (arith, d .before .count-cut .ensures .1 .0, d .count-cut2 .ensures .1 .0, overflows-few _ _ _ _ (a .row-axis .first) (readyRuns (a .rows) (a .scale .permille) (a .row-indexes .now) (a .row-sizes .now) (a .merge-first-rows .now) (a .merge-last-rows .now) (a .row-breaks .now)) _ _ (d .before .count-cut .result) (d .before .count-cut .ensures .0) (c .before .before .before .before .before .before .before .before .before .before .before .before .before .before .before .before .before .before .before .before .before .write-cut .ensures .1), overflows-few _ _ _ _ (a .column-axis .first) (readyRuns (a .columns) (a .scale .permille) (a .column-indexes .now) (a .column-sizes .now) (a .merge-first-columns .now) (a .merge-last-columns .now) (a .column-breaks .now)) _ _ (d .count-cut2 .result) (d .count-cut2 .ensures .0) (c .before .before .before .before .before .before .before .before .write-cut2 .ensures .1));
+    }
 
--- src/plan.rt:343:1
 same-length : tie.Need-same-length
 same-length c = search needs
 
--- src/plan.rt:343:1
 same-length-2 : tie.Need-same-length-2
 same-length-2 c = search needs
 
--- src/plan.rt:343:1
 same-length-3 : tie.Need-same-length-3
 same-length-3 c = search needs
 
--- src/plan.rt:343:1
 same-length-4 : tie.Need-same-length-4
 same-length-4 c = search needs
 
--- src/plan.rt:343:1
 same-length-5 : tie.Need-same-length-5
 same-length-5 c = search needs
 
--- src/plan.rt:343:1
 same-length-6 : tie.Need-same-length-6
 same-length-6 c = search needs
 
--- src/plan.rt:343:1
 same-length-7 : tie.Need-same-length-7
 same-length-7 c = search needs
 
--- src/plan.rt:343:1
 same-length-8 : tie.Need-same-length-8
 same-length-8 c = search needs
 
--- src/plan.rt:343:1
 returns-4 : tie.Need-returns-4
-returns-4 c = search needs
+unfolding layoutAt
+returns-4 c =
+    let d = c .before .before .before .before .before .before .before .before .before .before .before .before .before .before .before .before .before .before .before .before .before .before .before .before .before .before .before .before .before .before .before .before .before in
+    let s = d .before .before .before .before .before .before .before .before .before .before .before .before .before .before .before .before .before .before .before .before in
+    let a = s .args in
+    let yr = s .pre .1 .1 .0 in
+    let yc = s .pre .1 .1 .1 .0 in
+    let rc = d .before .count-cut .result in
+    let cc = d .count-cut2 .result in
+    let q : _ ≡ laid d .plan =
+    ap (λ (n : Notes). record { permille = a .scale .permille; «row_runs» = rc .runs; «column_runs» = cc .runs; «rows_empty» = rc .empty; «columns_empty» = cc .empty; pages = rc .runs * cc .runs; order = a .settings .order; notes = n }) (c .notes-of .ensures)
+    ∙ plan-value (a .settings) (sidesOf (a .sides)) (rows-of d) (columns-of d) (scaleOf (a .scale)) (a .rows) (a .columns) yr yc rc cc (row-cut d) (column-cut d) _ _
+    (c .before .before .before .before .before .before .before .before .before .before .before .before .before .before .before .before .before .before .before .before .before .before .write-cut .ensures .1 ∙ overflows-of (a .rows) (a .sides .height .0) (rows-of d) yr (a .scale .permille))
+    (c .before .before .before .before .before .before .before .before .before .write-cut2 .ensures .1 ∙ overflows-of (a .columns) (a .sides .width .0) (columns-of d) yc (a .scale .permille)) in
+    answers-plan _ (laid d) _ (room-enough (laid d) (length (a .row-run-firsts .now)) (length (a .column-run-firsts .now)) (a .settings .«page_limit») (omega (arith, c .before .before .before .before .before .before .before .before .before .before .before .before .before .before .before .before .before .before .before .before .before .before .before .before .before .before .before .before .before .before .before .if1 .left, row-runs d)) (omega (arith, c .before .before .before .before .before .before .before .before .before .before .before .before .before .before .before .before .before .before .before .before .before .before .before .before .before .before .before .before .before .if2 .left, column-runs d)) (subst (λ (n : ℕ). n ≤ a .settings .«page_limit») (sym (pages-are d)) (c .before .before .before .before .before .before .before .before .before .before .before .before .before .before .before .before .before .before .before .before .before .before .before .before .before .before .before .if3 .left))) q _ _ (a .row-run-firsts .now) (a .row-run-lasts .now) (a .row-run-sizes .now) (a .row-run-marks .now) _ _ _ _ (a .column-run-firsts .now) (a .column-run-lasts .now) (a .column-run-sizes .now) (a .column-run-marks .now) _ _ _ _
+    (written-of (a .rows) (a .sides .height .0) (rows-of d) yr (a .scale .permille) _ (a .row-run-firsts .now) (a .row-run-lasts .now) (a .row-run-sizes .now) (a .row-run-marks .now) _ _ _ _ (c .before .before .before .before .before .before .before .before .before .before .before .before .before .before .before .before .before .before .before .before .before .before .write-cut .ensures .0))
+    (written-of (a .columns) (a .sides .width .0) (columns-of d) yc (a .scale .permille) _ (a .column-run-firsts .now) (a .column-run-lasts .now) (a .column-run-sizes .now) (a .column-run-marks .now) _ _ _ _ (c .before .before .before .before .before .before .before .before .before .write-cut2 .ensures .0))
 
 pub plan-cut-spec : {M : Type 1} → statement M
 plan-cut-spec =

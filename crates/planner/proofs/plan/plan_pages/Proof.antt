@@ -1,103 +1,116 @@
-use native.Mathlib.Omega.{arith}
+-- `planner::plan::plan_pages` meets its contract: a no refuses, and else both axes are planned; from that, demand 3. Assumes nothing.
+use mathlib.Core.Path.{_≡_, sym, ap, ap₂, _∙_}
+use mathlib.Core.List.{List}
+use Prim.Native.Nat.{ℕ}
+use lib.ListN.{length, take}
+use lib.Seq.{length-take-le}
+use Rattle.geometry.specs.Outcome.{Outcome, given, refused}
+use Rattle.planner.specs.declared.plan.SidesFound.{SidesFound}
+use Rattle.planner.specs.Pages.{runLists, evenLists}
+use Rattle.planner.specs.Plan.{AxisInput, Sides, rowsOf, columnsOf, lookedAt, axisFor, sidesOf, sidesOutcome, contentSides, firstNo}
+use Rattle.planner.proofs.Demand.{clauses}
+use Rattle.planner.proofs.PlanLaws.{even-of, formed-of, is-refused, is-asked, refuses-plan, no-breaks, looked, looked-few, ten-of, sides-of, relay-call, rows-fine, columns-fine}
 use borrow.Author.Needs.{needs}
 use Rattle.planner.proofs.plan.plan_pages.Statement.{statement}
 use Rattle.planner.proofs.plan.plan_pages.Tie as tie
-use Rattle.planner.proofs.plan.plan_pages.Reads as reads
-use Rattle.planner.proofs.plan.plan_pages.Lts as lts
-use Rattle.planner.proofs.plan.column_range.Reads as column-range-reads
-use Rattle.planner.proofs.plan.content_sides.Reads as content-sides-reads
-use Rattle.planner.proofs.plan.first_no.Reads as first-no-reads
-use Rattle.planner.proofs.plan.looked_at.Reads as looked-at-reads
-use Rattle.planner.proofs.plan.plan_axes.Reads as plan-axes-reads
-use Rattle.planner.proofs.plan.row_range.Reads as row-range-reads
 
--- src/plan.rt:748:9
+-- the first no, of both axes as the settings make them
+asked : (d : tie.After-first-no) → let a = d .before .before .before .before .before .before .before .before .before .before .before .before .before .before .before .before .before .before .before .before .before .args in d .first-no .result ≡ firstNo (rowsOf (a .settings) (a .range) (a .row-title) (a .row-indexes .now) (a .row-sizes .now) (a .merge-first-rows .now) (a .merge-last-rows .now) (a .row-breaks .now)) (columnsOf (a .settings) (a .range) (a .column-title) (a .column-indexes .now) (a .column-sizes .now) (a .merge-first-columns .now) (a .merge-last-columns .now) (a .column-breaks .now)) (evenLists (runLists (a .row-run-firsts .now) (a .row-run-lasts .now) (a .row-run-sizes .now) (a .row-run-marks .now))) (evenLists (runLists (a .column-run-firsts .now) (a .column-run-lasts .now) (a .column-run-sizes .now) (a .column-run-marks .now)))
+asked d =
+    let a = d .before .before .before .before .before .before .before .before .before .before .before .before .before .before .before .before .before .before .before .before .before .args in
+    d .first-no .ensures
+    ∙ no-breaks (d .before .before .row-range .result) (d .before .column-range .result) (a .row-indexes .now) (a .row-sizes .now) (a .merge-first-rows .now) (a .merge-last-rows .now) (lookedAt (a .settings .fit) (a .row-breaks .now)) (a .column-indexes .now) (a .column-sizes .now) (a .merge-first-columns .now) (a .merge-last-columns .now) (lookedAt (a .settings .fit) (a .column-breaks .now)) (evenLists (runLists (a .row-run-firsts .now) (a .row-run-lasts .now) (a .row-run-sizes .now) (a .row-run-marks .now))) (evenLists (runLists (a .column-run-firsts .now) (a .column-run-lasts .now) (a .column-run-sizes .now) (a .column-run-marks .now)))
+    ∙ ap₂ (λ (x y : AxisInput). firstNo x y (evenLists (runLists (a .row-run-firsts .now) (a .row-run-lasts .now) (a .row-run-sizes .now) (a .row-run-marks .now))) (evenLists (runLists (a .column-run-firsts .now) (a .column-run-lasts .now) (a .column-run-sizes .now) (a .column-run-marks .now)))) (d .before .before .row-range .ensures (a .row-indexes .now) (a .row-sizes .now) (a .merge-first-rows .now) (a .merge-last-rows .now) (a .row-breaks .now)) (d .before .column-range .ensures (a .column-indexes .now) (a .column-sizes .now) (a .merge-first-columns .now) (a .merge-last-columns .now) (a .column-breaks .now))
+
 row-range-requires : tie.Need-row-range-requires
 row-range-requires c κs = search needs
 
--- src/plan.rt:749:9
 column-range-requires : tie.Need-column-range-requires
 column-range-requires c κs = search needs
 
--- src/plan.rt:750:9
 first-no-requires : tie.Need-first-no-requires
 first-no-requires c κs = search needs
 
--- src/plan.rt:765:9
 returns : tie.Need-returns
-returns c = search needs
+returns c =
+    let d = c .before in
+    let a = d .before .before .before .before .before .before .before .before .before .before .before .before .before .before .before .before .before .before .before .before .before .args in
+    clauses (a .settings) (rowsOf (a .settings) (a .range) (a .row-title) (a .row-indexes .now) (a .row-sizes .now) (a .merge-first-rows .now) (a .merge-last-rows .now) (a .row-breaks .now)) (columnsOf (a .settings) (a .range) (a .column-title) (a .column-indexes .now) (a .column-sizes .now) (a .merge-first-columns .now) (a .merge-last-columns .now) (a .column-breaks .now)) (runLists (a .row-run-firsts .now) (a .row-run-lasts .now) (a .row-run-sizes .now) (a .row-run-marks .now)) (runLists (a .column-run-firsts .now) (a .column-run-lasts .now) (a .column-run-sizes .now) (a .column-run-marks .now)) _ _ _ (refuses-plan _ (d .first-no .result) (runLists (a .row-run-firsts .now) (a .row-run-lasts .now) (a .row-run-sizes .now) (a .row-run-marks .now)) (runLists (a .column-run-firsts .now) (a .column-run-lasts .now) (a .column-run-sizes .now) (a .column-run-marks .now)) (is-refused (a .settings) (rowsOf (a .settings) (a .range) (a .row-title) (a .row-indexes .now) (a .row-sizes .now) (a .merge-first-rows .now) (a .merge-last-rows .now) (a .row-breaks .now)) (columnsOf (a .settings) (a .range) (a .column-title) (a .column-indexes .now) (a .column-sizes .now) (a .merge-first-columns .now) (a .merge-last-columns .now) (a .column-breaks .now)) (runLists (a .row-run-firsts .now) (a .row-run-lasts .now) (a .row-run-sizes .now) (a .row-run-marks .now)) (runLists (a .column-run-firsts .now) (a .column-run-lasts .now) (a .column-run-sizes .now) (a .column-run-marks .now)) (d .first-no .result) (asked d) (c .if1 .taken)))
 
--- src/plan.rt:767:36
 content-sides-requires : tie.Need-content-sides-requires
 content-sides-requires c κs = search needs
 
--- src/plan.rt:767:27
 enum-known-sides : tie.Need-enum-known-sides
 enum-known-sides c = search needs
 
--- src/plan.rt:768:9
 enum-told : tie.Need-enum-told
 enum-told c = search needs
 
--- src/plan.rt:768:9
 returns-2 : tie.Need-returns-2
-returns-2 c = search needs
+returns-2 c =
+    let d = c .before .before .before .before in
+    let a = d .before .before .before .before .before .before .before .before .before .before .before .before .before .before .before .before .before .before .before .before .before .args in
+    let t : contentSides (a .settings) ≡ refused 10 = sym (c .before .before .content-sides .ensures) ∙ ap sidesOutcome (c .enum-told .given .1) in
+    clauses (a .settings) (rowsOf (a .settings) (a .range) (a .row-title) (a .row-indexes .now) (a .row-sizes .now) (a .merge-first-rows .now) (a .merge-last-rows .now) (a .row-breaks .now)) (columnsOf (a .settings) (a .range) (a .column-title) (a .column-indexes .now) (a .column-sizes .now) (a .merge-first-columns .now) (a .merge-last-columns .now) (a .column-breaks .now)) (runLists (a .row-run-firsts .now) (a .row-run-lasts .now) (a .row-run-sizes .now) (a .row-run-marks .now)) (runLists (a .column-run-firsts .now) (a .column-run-lasts .now) (a .column-run-sizes .now) (a .column-run-marks .now)) _ _ _ (refuses-plan _ 10 (runLists (a .row-run-firsts .now) (a .row-run-lasts .now) (a .row-run-sizes .now) (a .row-run-marks .now)) (runLists (a .column-run-firsts .now) (a .column-run-lasts .now) (a .column-run-sizes .now) (a .column-run-marks .now)) (ten-of (a .settings) (rowsOf (a .settings) (a .range) (a .row-title) (a .row-indexes .now) (a .row-sizes .now) (a .merge-first-rows .now) (a .merge-last-rows .now) (a .row-breaks .now)) (columnsOf (a .settings) (a .range) (a .column-title) (a .column-indexes .now) (a .column-sizes .now) (a .merge-first-columns .now) (a .merge-last-columns .now) (a .column-breaks .now)) (runLists (a .row-run-firsts .now) (a .row-run-lasts .now) (a .row-run-sizes .now) (a .row-run-marks .now)) (runLists (a .column-run-firsts .now) (a .column-run-lasts .now) (a .column-run-sizes .now) (a .column-run-marks .now)) (d .first-no .result) (asked d) (is-asked (a .settings) (rowsOf (a .settings) (a .range) (a .row-title) (a .row-indexes .now) (a .row-sizes .now) (a .merge-first-rows .now) (a .merge-last-rows .now) (a .row-breaks .now)) (columnsOf (a .settings) (a .range) (a .column-title) (a .column-indexes .now) (a .column-sizes .now) (a .merge-first-columns .now) (a .merge-last-columns .now) (a .column-breaks .now)) (runLists (a .row-run-firsts .now) (a .row-run-lasts .now) (a .row-run-sizes .now) (a .row-run-marks .now)) (runLists (a .column-run-firsts .now) (a .column-run-lasts .now) (a .column-run-sizes .now) (a .column-run-marks .now)) (d .first-no .result) (asked d) (c .before .before .before .if1 .left)) t))
 
--- src/plan.rt:770:9
 looked-at-requires : tie.Need-looked-at-requires
 looked-at-requires c κs = search needs
 
--- src/plan.rt:771:9
 looked-at-requires-2 : tie.Need-looked-at-requires-2
 looked-at-requires-2 c κs = search needs
 
--- src/plan.rt:785:9
 slice-aggregate-plan-axes : tie.Need-slice-aggregate-plan-axes
-slice-aggregate-plan-axes c = search needs
+slice-aggregate-plan-axes c =
+    let d = c .before .before .before .before .before .before .before .before in
+    let a = d .before .before .before .before .before .before .before .before .before .before .before .before .before .before .before .before .before .before .before .before .before .args in
+    sym (length-take-le _ (a .row-breaks .now) (looked-few (a .settings .fit) _ (length (a .row-breaks .now)) (c .before .before .looked-at .ensures)))
 
--- src/plan.rt:786:9
 slice-aggregate-plan-axes-2 : tie.Need-slice-aggregate-plan-axes-2
-slice-aggregate-plan-axes-2 c = search needs
+slice-aggregate-plan-axes-2 c =
+    let d = c .before .before .before .before .before .before .before .before .before in
+    let a = d .before .before .before .before .before .before .before .before .before .before .before .before .before .before .before .before .before .before .before .before .before .args in
+    sym (length-take-le _ (a .column-breaks .now) (looked-few (a .settings .fit) _ (length (a .column-breaks .now)) (c .before .before .looked-at2 .ensures)))
 
--- src/plan.rt:772:5
 plan-axes-requires : tie.Need-plan-axes-requires
-plan-axes-requires c κs = search needs
+plan-axes-requires c κs =
+    let d = c .before .before .before .before .before .before .before .before .before .before .before .before .before .before .before .before .before in
+    let a = d .before .before .before .before .before .before .before .before .before .before .before .before .before .before .before .before .before .before .before .before .before .args in
+    let y = is-asked (a .settings) (rowsOf (a .settings) (a .range) (a .row-title) (a .row-indexes .now) (a .row-sizes .now) (a .merge-first-rows .now) (a .merge-last-rows .now) (a .row-breaks .now)) (columnsOf (a .settings) (a .range) (a .column-title) (a .column-indexes .now) (a .column-sizes .now) (a .merge-first-columns .now) (a .merge-last-columns .now) (a .column-breaks .now)) (runLists (a .row-run-firsts .now) (a .row-run-lasts .now) (a .row-run-sizes .now) (a .row-run-marks .now)) (runLists (a .column-run-firsts .now) (a .column-run-lasts .now) (a .column-run-sizes .now) (a .column-run-marks .now)) (d .first-no .result) (asked d) (c .before .before .before .before .before .before .before .before .before .before .before .before .before .before .before .before .if1 .left) in
+    (rows-fine (d .before .before .row-range .result) (a .settings) (a .range) (a .row-title) (a .row-indexes .now) (a .row-sizes .now) (a .merge-first-rows .now) (a .merge-last-rows .now) (a .row-breaks .now) _ (d .before .before .row-range .ensures) (y .rows-yes), (columns-fine (d .before .column-range .result) (a .settings) (a .range) (a .column-title) (a .column-indexes .now) (a .column-sizes .now) (a .merge-first-columns .now) (a .merge-last-columns .now) (a .column-breaks .now) _ (d .before .column-range .ensures) (y .columns-yes), (even-of (a .row-run-firsts .now) (a .row-run-lasts .now) (a .row-run-sizes .now) (a .row-run-marks .now) (formed-of _ _ (y .rows-yes .is-formed) .lent-even), even-of (a .column-run-firsts .now) (a .column-run-lasts .now) (a .column-run-sizes .now) (a .column-run-marks .now) (formed-of _ _ (y .columns-yes .is-formed) .lent-even))))
 
--- src/plan.rt:718:1
 same-length : tie.Need-same-length
 same-length c = search needs
 
--- src/plan.rt:718:1
 same-length-2 : tie.Need-same-length-2
 same-length-2 c = search needs
 
--- src/plan.rt:718:1
 same-length-3 : tie.Need-same-length-3
 same-length-3 c = search needs
 
--- src/plan.rt:718:1
 same-length-4 : tie.Need-same-length-4
 same-length-4 c = search needs
 
--- src/plan.rt:718:1
 same-length-5 : tie.Need-same-length-5
 same-length-5 c = search needs
 
--- src/plan.rt:718:1
 same-length-6 : tie.Need-same-length-6
 same-length-6 c = search needs
 
--- src/plan.rt:718:1
 same-length-7 : tie.Need-same-length-7
 same-length-7 c = search needs
 
--- src/plan.rt:718:1
 same-length-8 : tie.Need-same-length-8
 same-length-8 c = search needs
 
--- src/plan.rt:718:1
 returns-3 : tie.Need-returns-3
-returns-3 c = search needs
+returns-3 c =
+    let d = c .before .before .before .before .before .before .before .before .before .before .before .before .before .before .before .before .before .before .before .before .before .before .before .before .before .before .before .before .before .before .before .before .before .before in
+    let a = d .before .before .before .before .before .before .before .before .before .before .before .before .before .before .before .before .before .before .before .before .before .args in
+    let y = is-asked (a .settings) (rowsOf (a .settings) (a .range) (a .row-title) (a .row-indexes .now) (a .row-sizes .now) (a .merge-first-rows .now) (a .merge-last-rows .now) (a .row-breaks .now)) (columnsOf (a .settings) (a .range) (a .column-title) (a .column-indexes .now) (a .column-sizes .now) (a .merge-first-columns .now) (a .merge-last-columns .now) (a .column-breaks .now)) (runLists (a .row-run-firsts .now) (a .row-run-lasts .now) (a .row-run-sizes .now) (a .row-run-marks .now)) (runLists (a .column-run-firsts .now) (a .column-run-lasts .now) (a .column-run-sizes .now) (a .column-run-marks .now)) (d .first-no .result) (asked d) (c .before .before .before .before .before .before .before .before .before .before .before .before .before .before .before .before .before .before .before .before .before .before .before .before .before .before .before .before .before .before .before .before .before .if1 .left) in
+    let t : contentSides (a .settings) ≡ given _ = sym (c .before .before .before .before .before .before .before .before .before .before .before .before .before .before .before .before .before .before .before .before .before .before .before .before .before .before .before .before .before .before .before .before .content-sides .ensures) ∙ ap sidesOutcome (c .before .before .before .before .before .before .before .before .before .before .before .before .before .before .before .before .before .before .before .before .before .before .before .before .before .before .before .before .before .before .sides .given .1) in
+    let ea = ap (λ (bs : List ℕ). axisFor (d .before .before .row-range .result) (a .row-indexes .now) (a .row-sizes .now) (a .merge-first-rows .now) (a .merge-last-rows .now) bs) (looked (a .settings .fit) (a .row-breaks .now) _ (c .before .before .before .before .before .before .before .before .before .before .before .before .before .before .before .before .before .before .before .before .before .before .before .before .before .before .before .before .looked-at .ensures)) ∙ d .before .before .row-range .ensures (a .row-indexes .now) (a .row-sizes .now) (a .merge-first-rows .now) (a .merge-last-rows .now) (a .row-breaks .now) in
+    let eb = ap (λ (bs : List ℕ). axisFor (d .before .column-range .result) (a .column-indexes .now) (a .column-sizes .now) (a .merge-first-columns .now) (a .merge-last-columns .now) bs) (looked (a .settings .fit) (a .column-breaks .now) _ (c .before .before .before .before .before .before .before .before .before .before .before .before .before .before .before .before .before .before .before .before .before .before .before .before .before .before .before .looked-at2 .ensures)) ∙ d .before .column-range .ensures (a .column-indexes .now) (a .column-sizes .now) (a .merge-first-columns .now) (a .merge-last-columns .now) (a .column-breaks .now) in
+    clauses (a .settings) (rowsOf (a .settings) (a .range) (a .row-title) (a .row-indexes .now) (a .row-sizes .now) (a .merge-first-rows .now) (a .merge-last-rows .now) (a .row-breaks .now)) (columnsOf (a .settings) (a .range) (a .column-title) (a .column-indexes .now) (a .column-sizes .now) (a .merge-first-columns .now) (a .merge-last-columns .now) (a .column-breaks .now)) (runLists (a .row-run-firsts .now) (a .row-run-lasts .now) (a .row-run-sizes .now) (a .row-run-marks .now)) (runLists (a .column-run-firsts .now) (a .column-run-lasts .now) (a .column-run-sizes .now) (a .column-run-marks .now)) _ _ _ (relay-call (a .settings) _ (rowsOf (a .settings) (a .range) (a .row-title) (a .row-indexes .now) (a .row-sizes .now) (a .merge-first-rows .now) (a .merge-last-rows .now) (a .row-breaks .now)) (columnsOf (a .settings) (a .range) (a .column-title) (a .column-indexes .now) (a .column-sizes .now) (a .merge-first-columns .now) (a .merge-last-columns .now) (a .column-breaks .now)) _ _ (runLists (a .row-run-firsts .now) (a .row-run-lasts .now) (a .row-run-sizes .now) (a .row-run-marks .now)) (runLists (a .column-run-firsts .now) (a .column-run-lasts .now) (a .column-run-sizes .now) (a .column-run-marks .now)) _ _ _ ea eb (sides-of (a .settings) (rowsOf (a .settings) (a .range) (a .row-title) (a .row-indexes .now) (a .row-sizes .now) (a .merge-first-rows .now) (a .merge-last-rows .now) (a .row-breaks .now)) (columnsOf (a .settings) (a .range) (a .column-title) (a .column-indexes .now) (a .column-sizes .now) (a .merge-first-columns .now) (a .merge-last-columns .now) (a .column-breaks .now)) (runLists (a .row-run-firsts .now) (a .row-run-lasts .now) (a .row-run-sizes .now) (a .row-run-marks .now)) (runLists (a .column-run-firsts .now) (a .column-run-lasts .now) (a .column-run-sizes .now) (a .column-run-marks .now)) (d .first-no .result) (asked d) y _ t) (c .before .before .before .before .before .before .before .before .before .before .before .before .before .before .before .before .plan-axes .ensures))
 
 pub plan-pages-spec : {M : Type 1} → statement M
 plan-pages-spec =
