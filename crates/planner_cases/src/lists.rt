@@ -96,3 +96,16 @@ pub fn marks_from(first: u8) -> [u8; MOST]
     }
     out
 }
+
+// Marks that start again from 0 after so many, or stay 0.
+pub fn marks_by(step: u64) -> [u8; MOST] {
+    let mut out = [0u8; MOST];
+    let mut mark = 0;
+    let mut i = 0;
+    while i < MOST {
+        out[i] = mark as u8;
+        mark = if mark + 1 < step { mark + 1 } else { 0 };
+        i += 1;
+    }
+    out
+}
