@@ -146,10 +146,10 @@ impl Lent {
         }
     }
 
-    /// The lists with marks that start again from 0 after so many, or stay 0.
-    fn marked_by(mut self, step: u64) -> Self {
+    /// The lists with marks that rise from 0 to the highest, and start again.
+    fn marked_to(mut self, highest: u64) -> Self {
         for (at, mark) in self.marks.iter_mut().enumerate() {
-            *mark = (at as u64 % step.max(1)) as u8;
+            *mark = (at as u64 % (highest + 1)) as u8;
         }
         self
     }

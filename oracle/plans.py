@@ -216,31 +216,45 @@ def lent_drawn(r, count):
     return (below(r, most + 1) if chance(r, 0.12) else most,) * 4
 
 
-def axis_drawn(r, p, columns):
+def body_slots(a):
+    """How many slots the body has, where no merge widens the title."""
+    first, last = a.range
+    if a.title and a.title[0] <= first <= a.title[1]:
+        first = a.title[1] + 1
+    return sum(first <= index <= last for index in a.indexes)
+
+
+def places_drawn(r, columns):
+    """An axis without sizes: slots, range, title, merges and breaks."""
     limit = LIMITS[columns]
-    room = room_at(r, p, sides(p)[columns])
-    if p.headings and chance(r, 0.7):
-        room = max(room - HEADINGS[columns], 1)
     indexes = axes.slots_drawn(r, limit)
     ends = axes.range_drawn(r, indexes, limit)
     places = axes.points(r, indexes, ends, limit)
     title = plan_title(r, indexes, ends, places, limit)
-    merges = axes.merges_drawn(r, places, limit)
+    merges = axes.merges_drawn(r, places, limit) if chance(r, 0.6) else []
     if chance(r, 0.15):
         merges = axes.merges_at(r, title[1] + 1 if title else ends[0], limit)
-    if chance(r, 0.4):
-        merges = []
     return Axis(
         columns=columns,
         title=title,
         range=ends,
         indexes=indexes,
-        sizes=sizes_drawn(r, p, len(indexes), room, p.width if columns else p.height),
         firsts=[first for first, _ in merges],
         lasts=[last for _, last in merges],
         breaks=axes.breaks_drawn(r, indexes, places),
         lent=lent_drawn(r, len(indexes)),
     )
+
+
+def axis_drawn(r, p, columns):
+    """Most have two slots or more in the body."""
+    a = places_drawn(r, columns)
+    while body_slots(a) < 2 and chance(r, 0.8):
+        a = places_drawn(r, columns)
+    room = room_at(r, p, sides(p)[columns])
+    if p.headings and chance(r, 0.7):
+        room = max(room - HEADINGS[columns], 1)
+    return replace(a, sizes=sizes_drawn(r, p, len(a.indexes), room, p.width if columns else p.height))
 
 
 def merges_paired(p):
@@ -539,7 +553,7 @@ def plan_limits():
 class Numbered:
     order: int = 0
     empty: tuple = (0, 0)
-    steps: tuple = (2, 3)  # of the marks
+    highest: tuple = (1, 2)  # of the marks
     rows: tuple = (3, 3, 3, 3)  # lengths of lists
     columns: tuple = (4, 4, 4, 4)
     runs: tuple = (2, 3)
@@ -548,7 +562,7 @@ class Numbered:
 
 
 def page_line(n):
-    shorts = (n.order, *n.empty, *n.steps, *n.rows, *n.columns)
+    shorts = (n.order, *n.empty, *n.highest, *n.rows, *n.columns)
     return "n" + spelt(" %02x", shorts) + spelt(" %016x", (*n.runs, n.pages, n.number)) + "\n"
 
 
@@ -562,7 +576,7 @@ def page_limits():
         for pages, number in itertools.product(about(count)[::2] + [count], about(count)):
             yield page_line(Numbered(order=order, runs=runs, pages=pages, number=number))
     for number in range(8):
-        yield page_line(Numbered(empty=(number % 2, number // 2 % 2), steps=(0, 1), number=number))
+        yield page_line(Numbered(empty=(number % 2, number // 2 % 2), highest=(0, 0), number=number))
     for runs in ((3, 4), (4, 4), (3, 5), (4, 5), (U64, 1), (1, U64), (2**32, 2**32), (U64, U64)):
         yield page_line(Numbered(runs=runs, pages=U64, number=12))
     for at, by in itertools.product(range(8), (-1, 1)):
@@ -600,7 +614,7 @@ def pages_drawn(r):
         n = Numbered(
             order=below(r, 2),
             empty=(below(r, 2), below(r, 2)),
-            steps=(below(r, 5), below(r, 5)),
+            highest=(below(r, 4), below(r, 4)),
             rows=lengths_drawn(r, runs[0]),
             columns=lengths_drawn(r, runs[1]),
             runs=runs,

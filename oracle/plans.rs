@@ -21,7 +21,7 @@
 //
 //     n   pages by their number, of plans that are not as they were answered
 //     2   three flags, 0 or 1: over then down, rows empty, columns empty
-//     2   the marks' steps of row runs and of column runs: marks start again from 0 after so many
+//     2   the highest marks of row runs and of column runs: marks rise from 0 to it, and start again
 //     2   eight lengths: row runs' firsts, lasts, sizes and marks, and column runs'
 //     16  row runs, column runs, pages, and the number of the page
 //
@@ -539,13 +539,13 @@ fn pages_in(over_then_down: bool, runs: [usize; 2], empties: [bool; 2], lists: [
 fn page(line: &str) -> String {
     let mut fields = Fields(&line[1..]);
     let [over_then_down, rows_empty, columns_empty] = [fields.flag(), fields.flag(), fields.flag()];
-    let steps = [fields.next(2), fields.next(2)];
+    let highest = [fields.next(2), fields.next(2)];
     let lengths: Vec<usize> = (0..8).map(|_| fields.next(2) as usize).collect();
     let (row_runs, column_runs) = (fields.next(16) as usize, fields.next(16) as usize);
     let (pages, number) = (fields.next(16), fields.next(16));
     assert_eq!(fields.0, "", "more than the fields in {line:?}");
-    let rows = Lent::new(&lengths[..4], ROW_STARTS).marked_by(steps[0]);
-    let columns = Lent::new(&lengths[4..], COLUMN_STARTS).marked_by(steps[1]);
+    let rows = Lent::new(&lengths[..4], ROW_STARTS).marked_to(highest[0]);
+    let columns = Lent::new(&lengths[4..], COLUMN_STARTS).marked_to(highest[1]);
     if !(rows.even() && columns.even()) {
         return "no 6".to_string();
     }

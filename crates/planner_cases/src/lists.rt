@@ -97,14 +97,19 @@ pub fn marks_from(first: u8) -> [u8; MOST]
     out
 }
 
-// Marks that start again from 0 after so many, or stay 0.
-pub fn marks_by(step: u64) -> [u8; MOST] {
+// The mark after another, of marks that rise from 0 to the highest and start again.
+fn next_mark(mark: u8, highest: u8) -> u8 {
+    if mark < highest { mark + 1 } else { 0 }
+}
+
+// Marks that rise from 0 to the highest, and start again.
+pub fn marks_to(highest: u8) -> [u8; MOST] {
     let mut out = [0u8; MOST];
     let mut mark = 0;
     let mut i = 0;
     while i < MOST {
-        out[i] = mark as u8;
-        mark = if mark + 1 < step { mark + 1 } else { 0 };
+        out[i] = mark;
+        mark = next_mark(mark, highest);
         i += 1;
     }
     out

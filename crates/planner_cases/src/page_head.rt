@@ -1,7 +1,7 @@
 // The head of a page by its number: fields, each a space and so many hexadecimal digits. The lists are made, not read.
 //
 //     2   three flags, 0 or 1: over then down, rows empty, columns empty
-//     2   the marks' steps of row runs and of column runs
+//     2   the highest marks of row runs and of column runs
 //     2   eight lengths: row runs' firsts, lasts, sizes and marks, and column runs'
 //     16  row runs, column runs, pages, and the number of the page
 use crate::lists::MOST;
@@ -34,11 +34,11 @@ fn long(head: &[u8; HEAD], k: usize) -> u64
     bits(&text[start..end])
 }
 
-// The step of the marks of an axis, 0 rows or 1 columns.
-pub fn step(head: &[u8; HEAD], k: usize) -> u64
+// The highest mark of an axis, 0 rows or 1 columns.
+pub fn highest(head: &[u8; HEAD], k: usize) -> u8
     requires { ⌜ k < 2 ⌝ }
 {
-    short(head, k + 3)
+    (short(head, k + 3) % 256) as u8
 }
 
 // The length of the list with the number k, never more than a list can hold.

@@ -104,7 +104,14 @@ fn asked_at(pages: u64, k: u64) -> u64 {
     if k < 9 {
         return pages / 2 + (k - 7);
     }
-    pages - 5 + (k - 9)
+    if k < 15 {
+        return pages - (14 - k);
+    }
+    after(pages)
+}
+
+fn after(pages: u64) -> u64 {
+    if pages < u64::MAX { pages + 1 } else { 0 }
 }
 
 fn each_page(

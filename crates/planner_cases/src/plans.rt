@@ -43,48 +43,40 @@ fn read_settings(line: &[u8; HEAD]) -> Settings {
 fn held(
     line: &[u8; HEAD],
     planning: Planning,
-    row_firsts: &[u32; MOST],
-    row_lasts: &[u32; MOST],
-    row_sizes: &[u64; MOST],
-    row_marks: &[u8; MOST],
+    row_firsts: &[u32],
+    row_lasts: &[u32],
+    row_sizes: &[u64],
+    row_marks: &[u8],
     column_firsts: &[u32; MOST],
     column_lasts: &[u32; MOST],
     column_sizes: &[u64; MOST],
     column_marks: &[u8; MOST],
     out: &mut [u8; LINE],
 ) -> usize {
-    let rf = &row_firsts[..];
-    let rl = &row_lasts[..];
-    let rs = &row_sizes[..];
-    let rm = &row_marks[..];
-    let cf = &column_firsts[..];
-    let cl = &column_lasts[..];
-    let cs = &column_sizes[..];
-    let cm = &column_marks[..];
-    let a = length(line, 10);
-    let b = length(line, 11);
-    let c = length(line, 12);
-    let d = length(line, 13);
-    let e = length(line, 14);
-    let f = length(line, 15);
-    let g = length(line, 16);
-    let h = length(line, 17);
+    let f = &column_firsts[..];
+    let l = &column_lasts[..];
+    let s = &column_sizes[..];
+    let m = &column_marks[..];
+    let a = length(line, 14);
+    let b = length(line, 15);
+    let c = length(line, 16);
+    let d = length(line, 17);
     pages::answered(
         out,
         planning,
-        &rf[0..a],
-        &rl[0..b],
-        &rs[0..c],
-        &rm[0..d],
-        &cf[0..e],
-        &cl[0..f],
-        &cs[0..g],
-        &cm[0..h],
+        row_firsts,
+        row_lasts,
+        row_sizes,
+        row_marks,
+        &f[0..a],
+        &l[0..b],
+        &s[0..c],
+        &m[0..d],
     )
 }
 
-// Plans into lent lists.
-fn plan(
+// Lends lists for the columns, and plans.
+fn lend_columns(
     line: &[u8; HEAD],
     settings: Settings,
     row_indexes: &[u32],
@@ -97,24 +89,20 @@ fn plan(
     merge_last_columns: &[u32],
     row_breaks: &[u32],
     column_breaks: &[u32],
+    row_firsts: &mut [u32],
+    row_lasts: &mut [u32],
+    row_totals: &mut [u64],
+    row_marks: &mut [u8],
     out: &mut [u8; LINE],
 ) -> usize {
-    let mut rf = numbers_from(2000000);
-    let mut rl = numbers_from(3000000);
-    let mut rs = sizes_from(4000000);
-    let mut rm = marks_from(200);
-    let mut cf = numbers_from(2500000);
-    let mut cl = numbers_from(3500000);
-    let mut cs = sizes_from(1500000);
-    let mut cm = marks_from(100);
-    let a = length(line, 10);
-    let b = length(line, 11);
-    let c = length(line, 12);
-    let d = length(line, 13);
-    let e = length(line, 14);
-    let f = length(line, 15);
-    let g = length(line, 16);
-    let h = length(line, 17);
+    let mut firsts = numbers_from(2500000);
+    let mut lasts = numbers_from(3500000);
+    let mut totals = sizes_from(1500000);
+    let mut marks = marks_from(100);
+    let a = length(line, 14);
+    let b = length(line, 15);
+    let c = length(line, 16);
+    let d = length(line, 17);
     let planning = planner::plan_pages(
         settings,
         head::range(line),
@@ -130,19 +118,155 @@ fn plan(
         merge_last_columns,
         row_breaks,
         column_breaks,
-        &mut rf[0..a],
-        &mut rl[0..b],
-        &mut rs[0..c],
-        &mut rm[0..d],
-        &mut cf[0..e],
-        &mut cl[0..f],
-        &mut cs[0..g],
-        &mut cm[0..h],
+        row_firsts,
+        row_lasts,
+        row_totals,
+        row_marks,
+        &mut firsts[0..a],
+        &mut lasts[0..b],
+        &mut totals[0..c],
+        &mut marks[0..d],
     );
-    held(line, planning, &rf, &rl, &rs, &rm, &cf, &cl, &cs, &cm, out)
+    held(
+        line,
+        planning,
+        row_firsts,
+        row_lasts,
+        row_totals,
+        row_marks,
+        &firsts,
+        &lasts,
+        &totals,
+        &marks,
+        out,
+    )
 }
 
-fn cut_to_length(
+// Lends lists for the rows.
+fn lend_rows(
+    line: &[u8; HEAD],
+    settings: Settings,
+    row_indexes: &[u32],
+    row_sizes: &[u64],
+    column_indexes: &[u32],
+    column_sizes: &[u64],
+    merge_first_rows: &[u32],
+    merge_first_columns: &[u32],
+    merge_last_rows: &[u32],
+    merge_last_columns: &[u32],
+    row_breaks: &[u32],
+    column_breaks: &[u32],
+    out: &mut [u8; LINE],
+) -> usize {
+    let mut firsts = numbers_from(2000000);
+    let mut lasts = numbers_from(3000000);
+    let mut totals = sizes_from(4000000);
+    let mut marks = marks_from(200);
+    let a = length(line, 10);
+    let b = length(line, 11);
+    let c = length(line, 12);
+    let d = length(line, 13);
+    lend_columns(
+        line,
+        settings,
+        row_indexes,
+        row_sizes,
+        column_indexes,
+        column_sizes,
+        merge_first_rows,
+        merge_first_columns,
+        merge_last_rows,
+        merge_last_columns,
+        row_breaks,
+        column_breaks,
+        &mut firsts[0..a],
+        &mut lasts[0..b],
+        &mut totals[0..c],
+        &mut marks[0..d],
+        out,
+    )
+}
+
+// Cuts the breaks to their lengths.
+fn with_breaks(
+    line: &[u8; HEAD],
+    settings: Settings,
+    row_indexes: &[u32],
+    row_sizes: &[u64],
+    column_indexes: &[u32],
+    column_sizes: &[u64],
+    merge_first_rows: &[u32],
+    merge_first_columns: &[u32],
+    merge_last_rows: &[u32],
+    merge_last_columns: &[u32],
+    row_breaks: &[u32; MOST],
+    column_breaks: &[u32; MOST],
+    out: &mut [u8; LINE],
+) -> usize {
+    let r = &row_breaks[..];
+    let c = &column_breaks[..];
+    let a = length(line, 8);
+    let b = length(line, 9);
+    lend_rows(
+        line,
+        settings,
+        row_indexes,
+        row_sizes,
+        column_indexes,
+        column_sizes,
+        merge_first_rows,
+        merge_first_columns,
+        merge_last_rows,
+        merge_last_columns,
+        &r[0..a],
+        &c[0..b],
+        out,
+    )
+}
+
+// Cuts the merges to their lengths.
+fn with_merges(
+    line: &[u8; HEAD],
+    settings: Settings,
+    row_indexes: &[u32],
+    row_sizes: &[u64],
+    column_indexes: &[u32],
+    column_sizes: &[u64],
+    merge_first_rows: &[u32; MOST],
+    merge_first_columns: &[u32; MOST],
+    merge_last_rows: &[u32; MOST],
+    merge_last_columns: &[u32; MOST],
+    row_breaks: &[u32; MOST],
+    column_breaks: &[u32; MOST],
+    out: &mut [u8; LINE],
+) -> usize {
+    let fr = &merge_first_rows[..];
+    let fc = &merge_first_columns[..];
+    let lr = &merge_last_rows[..];
+    let lc = &merge_last_columns[..];
+    let a = length(line, 4);
+    let b = length(line, 5);
+    let c = length(line, 6);
+    let d = length(line, 7);
+    with_breaks(
+        line,
+        settings,
+        row_indexes,
+        row_sizes,
+        column_indexes,
+        column_sizes,
+        &fr[0..a],
+        &fc[0..b],
+        &lr[0..c],
+        &lc[0..d],
+        row_breaks,
+        column_breaks,
+        out,
+    )
+}
+
+// Cuts the slots to their lengths.
+fn with_slots(
     line: &[u8; HEAD],
     settings: Settings,
     row_indexes: &[u32; MOST],
@@ -161,35 +285,23 @@ fn cut_to_length(
     let rs = &row_sizes[..];
     let ci = &column_indexes[..];
     let cs = &column_sizes[..];
-    let fr = &merge_first_rows[..];
-    let fc = &merge_first_columns[..];
-    let lr = &merge_last_rows[..];
-    let lc = &merge_last_columns[..];
-    let rb = &row_breaks[..];
-    let cb = &column_breaks[..];
     let a = length(line, 0);
     let b = length(line, 1);
     let c = length(line, 2);
     let d = length(line, 3);
-    let e = length(line, 4);
-    let f = length(line, 5);
-    let g = length(line, 6);
-    let h = length(line, 7);
-    let i = length(line, 8);
-    let j = length(line, 9);
-    plan(
+    with_merges(
         line,
         settings,
         &ri[0..a],
         &rs[0..b],
         &ci[0..c],
         &cs[0..d],
-        &fr[0..e],
-        &fc[0..f],
-        &lr[0..g],
-        &lc[0..h],
-        &rb[0..i],
-        &cb[0..j],
+        merge_first_rows,
+        merge_first_columns,
+        merge_last_rows,
+        merge_last_columns,
+        row_breaks,
+        column_breaks,
         out,
     )
 }
@@ -216,7 +328,7 @@ fn read_lists(line: &[u8; HEAD], settings: Settings, out: &mut [u8; LINE]) -> us
     read_numbers(length(line, 7), &mut lc);
     read_numbers(length(line, 8), &mut rb);
     read_numbers(length(line, 9), &mut cb);
-    cut_to_length(
+    with_slots(
         line,
         settings,
         &ri,
