@@ -17,12 +17,3 @@ pub fn wider(x: u8) -> u64 {
 pub fn lower(x: u32) -> u16 {
     (x % 0x1_0000) as u16
 }
-
-// The float that 64 bits stand for; any NaN pattern gives a NaN.
-pub fn float(bits: u64) -> f64 {
-    if bits % 0x8000_0000_0000_0000 > 0x7ff0_0000_0000_0000 {
-        0.0 / 0.0
-    } else {
-        f64::from_bits(bits)
-    }
-}

@@ -7,7 +7,6 @@ use crate::lists::numbers_from;
 use crate::lists::read_numbers;
 use crate::lists::read_sizes;
 use crate::lists::sizes_from;
-use crate::numbers::float;
 use crate::pages;
 use crate::plan_head as head;
 use crate::plan_head::HEAD;
@@ -15,6 +14,7 @@ use crate::plan_head::length;
 use geometry::MarginSetting;
 use geometry::Margins;
 use libc::STDIN_FILENO;
+use lines::float;
 use planner::Planning;
 use planner::Settings;
 
