@@ -7,8 +7,8 @@ import itertools
 from dataclasses import dataclass, field, replace
 
 import axes
-from axes import COLUMNS, LARGEST, LIMITS, MOST, ROWS, U32, U64, Axis, below, chance, clamped, pair, pick
-from margins import BAD_MARGINS, INFINITY, NAN, PAPER_SIZES, UNITS, bits, margins_drawn, stepped
+from axes import COLUMNS, LARGEST, LIMITS, MOST, ROWS, U32, U64, Axis, below, chance, clamped, pick
+from margins import INFINITY, NAN, PAPER_SIZES, UNITS, bits, margins_drawn, stepped
 
 DEFAULTS = (0.7, 0.7, 0.75, 0.75, 0.3, 0.3)
 LETTER = PAPER_SIZES[1]
@@ -49,7 +49,8 @@ def spelt(form, numbers):
 
 def line(p):
     rows, columns = p.rows, p.columns
-    given = [setting is not None for setting in (p.paper, p.percent, p.width, p.height, rows.title, columns.title, p.margins)]
+    settings = (p.paper, p.percent, p.width, p.height, rows.title, columns.title, p.margins)
+    given = [setting is not None for setting in settings]
     flags = (given[0], p.landscape, given[1], p.fit, *given[2:4], p.order, p.headings, *given[4:])
     lists = (
         (rows.indexes, rows.sizes, columns.indexes, columns.sizes)
@@ -75,7 +76,7 @@ def sides(p):
     page = PAPER_SIZES.get(p.paper, LETTER)
     if p.landscape:
         page = page[::-1]
-    left, right, top, bottom, header, footer = margins_held(p.margins, page)
+    left, right, top, bottom = margins_held(p.margins, page)[:4]
     return page[1] - round((top + bottom) * UNITS), page[0] - round((left + right) * UNITS)
 
 
@@ -327,7 +328,10 @@ def merge_reversed(r, p):
 
 
 def merge_outside(r, p):
-    return merge_fault(r, p, lambda limit: pick(r, ((0, limit + 1), (limit + 1, limit + 1), (limit, U32), (5, 65536 + limit))))
+    def bad(limit):
+        return pick(r, ((0, limit + 1), (limit + 1, limit + 1), (limit, U32), (5, 65536 + limit)))
+
+    return merge_fault(r, p, bad)
 
 
 FAULTS = (
@@ -367,7 +371,8 @@ def slots(columns, sizes, first=0):
     """An axis of slots that follow each other, with its range, and places enough."""
     last = first + len(sizes) - 1
     indexes = list(range(first, last + 1))
-    return Axis(columns=columns, range=(first, max(last, first)), indexes=indexes, sizes=sizes, lent=(len(sizes) + 1,) * 4)
+    lent = (len(sizes) + 1,) * 4
+    return Axis(columns=columns, range=(first, last), indexes=indexes, sizes=sizes, lent=lent)
 
 
 WORKED = Plan(rows=slots(ROWS, [400000] * 3), columns=slots(COLUMNS, [400000] * 2))
@@ -404,7 +409,8 @@ def margins():
     for at, value in itertools.product(range(6), (NAN, INFINITY, -1.0, -0.0, 1e300, 11.0, stepped(11.0, -1))):
         yield replace(WORKED, margins=tuple(value if k == at else 0.5 for k in range(6)))
     # sides of no units, and of less
-    for left, right in ((0.5, 0.5), (1.5, 834082.5), (0.5, 835582.5), (3.5, 835579.5), (0.25, 835583.25), (417792.5, 417791.0)):
+    edges = ((0.5, 0.5), (1.5, 834082.5), (0.5, 835582.5), (3.5, 835579.5), (0.25, 835583.25), (417792.5, 417791.0))
+    for left, right in edges:
         across = replace(WORKED, margins=(left / UNITS, right / UNITS, 0.5, 0.5, 0.3, 0.3))
         yield across
         yield replace(across, fit=1)
@@ -413,14 +419,14 @@ def margins():
 
 def titles_in_five():
     """Every title over five rows, with fit and without it."""
-    for pair_ in (None, *itertools.combinations_with_replacement(range(5), 2), (0, 5), (3, 2), (0, U32)):
-        titled = replace(FIVE, rows=replace(FIVE.rows, title=pair_))
+    for title in (None, *itertools.combinations_with_replacement(range(5), 2), (0, 5), (3, 2), (0, U32)):
+        titled = replace(FIVE, rows=replace(FIVE.rows, title=title))
         yield titled
         yield replace(titled, rows=replace(titled.rows, breaks=[4, 2]))
         for height in (None, 2, 0):
             yield replace(titled, fit=1, height=height)
         yield replace(titled, fit=1, width=0, rows=replace(titled.rows, sizes=[80, 150, 10, 30, 80]))
-        yield replace(titled, columns=replace(slots(COLUMNS, [80] * 5), title=pair_ and (pair_[0], min(pair_[1], 65535))))
+        yield replace(titled, columns=replace(slots(COLUMNS, [80] * 5), title=title))
 
 
 def merged(p, merges):
@@ -475,7 +481,8 @@ def rooms():
 def many_pages():
     """Counts about twelve, and many, in both orders."""
     for high, wide, order in itertools.product((1, 3, 4, 11, 12, 13, 23), (1, 3, 4, 23), (0, 1)):
-        yield Plan(order=order, margins=SMALL, rows=slots(ROWS, [150] * high, 2), columns=slots(COLUMNS, [150] * wide, 9))
+        rows, columns = slots(ROWS, [150] * high, 2), slots(COLUMNS, [150] * wide, 9)
+        yield Plan(order=order, margins=SMALL, rows=rows, columns=columns)
 
 
 def grid_ends():
@@ -610,7 +617,9 @@ def pages_drawn(r):
         runs = (runs_drawn(r), runs_drawn(r))
         count = runs[0] * runs[1] % 2**64
         pages = count if chance(r, 0.6) else pick(r, (below(r, count + 2), below(r, count + 2), count + 1, 0, U64))
-        number = 1 + below(r, min(pages, 600)) if chance(r, 0.7) else pick(r, (0, pages, pages + 1, count, count + 1, U64))
+        number = 1 + below(r, min(pages, 600))
+        if chance(r, 0.3):
+            number = pick(r, (0, pages, pages + 1, count, count + 1, U64))
         n = Numbered(
             order=below(r, 2),
             empty=(below(r, 2), below(r, 2)),
