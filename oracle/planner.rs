@@ -1,6 +1,7 @@
-// Answers lines of input by the Rust's own functions: titles and runs.
+// Answers lines of input by the Rust's own functions: titles, runs, plans and pages.
 //
-// A line of input is a letter and fields, each a space and so many hexadecimal digits:
+// A line of input is a letter and fields, each a space and so many hexadecimal digits; those of
+// plans and pages stand in plans.rs, those of titles and runs are:
 //
 //     2   axis, 0 rows or 1 columns; title, 0 absent or 1 given
 //     2   nine lengths: indexes, sizes, merges' firsts, merges' lasts, breaks, and the lent lists of
@@ -26,6 +27,7 @@
 
 
 include!("shim.rs");
+include!("plans.rs");
 
 const LARGEST_SIZE: u64 = 1_073_741_823;
 
@@ -129,14 +131,31 @@ struct Lent {
     marks: Vec<u8>,
 }
 
+/// The numbers that lent lists start with.
+type Starts = (u32, u32, u64, u8);
+
+const ROW_STARTS: Starts = (2_000_000, 3_000_000, 4_000_000, 200);
+
 impl Lent {
-    fn new(lengths: &[usize]) -> Self {
+    fn new(lengths: &[usize], starts: Starts) -> Self {
         Self {
-            firsts: (2_000_000..).take(lengths[0]).collect(),
-            lasts: (3_000_000..).take(lengths[1]).collect(),
-            sizes: (4_000_000..).take(lengths[2]).collect(),
-            marks: (200..).take(lengths[3]).collect(),
+            firsts: (starts.0..).take(lengths[0]).collect(),
+            lasts: (starts.1..).take(lengths[1]).collect(),
+            sizes: (starts.2..).take(lengths[2]).collect(),
+            marks: (starts.3..).take(lengths[3]).collect(),
         }
+    }
+
+    /// The lists with marks that rise from 0 to the highest, and start again.
+    fn marked_to(mut self, highest: u64) -> Self {
+        for (at, mark) in self.marks.iter_mut().enumerate() {
+            *mark = (at as u64 % (highest + 1)) as u8;
+        }
+        self
+    }
+
+    fn even(&self) -> bool {
+        [self.lasts.len(), self.sizes.len(), self.marks.len()] == [self.firsts.len(); 3]
     }
 
     fn text(&self) -> String {
@@ -200,7 +219,7 @@ fn input(line: &str) -> Input {
         merge_firsts: fields.numbers(lengths[2]),
         merge_lasts: fields.numbers(lengths[3]),
         breaks: fields.numbers(lengths[4]),
-        lent: Lent::new(&lengths[5..]),
+        lent: Lent::new(&lengths[5..], ROW_STARTS),
     };
     assert_eq!(fields.0, "", "more than the fields in {line:?}");
     input
@@ -227,9 +246,7 @@ impl Input {
     }
 
     fn lists_even(&self) -> bool {
-        let lent = &self.lent;
-        let lengths = [lent.lasts.len(), lent.sizes.len(), lent.marks.len()];
-        self.indexes.len() == self.sizes.len() && lengths == [lent.firsts.len(); 3]
+        self.indexes.len() == self.sizes.len() && self.lent.even()
     }
 
     fn indexes_rise_inside(&self) -> bool {
@@ -293,14 +310,18 @@ fn capacity(value: u64) -> Fixed {
     Fixed::from_raw(i64::try_from(value).unwrap_or(i64::MAX))
 }
 
+fn measured<I: Index>(indexes: &[u32], sizes: &[u64]) -> Vec<MeasuredAxisSlot<I>> {
+    let slot = |(&index, &size)| MeasuredAxisSlot {
+        index: I::of(index),
+        size: Fixed::from_raw(size as i64),
+    };
+    indexes.iter().zip(sizes).map(slot).collect()
+}
+
 /// The slots and the merges of the body, as prepare_print_area makes them.
 fn body<I: Index>(input: &Input, repeat: Option<(I, I)>) -> (Vec<MeasuredAxisSlot<I>>, Vec<(I, I)>) {
     let sheet = I::sheet(&input.merge_firsts, &input.merge_lasts);
-    let slots = input.indexes.iter().zip(&input.sizes).map(|(&index, &size)| MeasuredAxisSlot {
-        index: I::of(index),
-        size: Fixed::from_raw(size as i64),
-    });
-    let measured: Vec<MeasuredAxisSlot<I>> = slots.collect();
+    let measured = measured(&input.indexes, &input.sizes);
     let (range_first, range_last) = (I::of(input.first), I::of(input.last));
     let mut body_first = Some(range_first);
     if let Some((first, last)) = repeat {
@@ -322,6 +343,11 @@ fn cut<I: Index>(input: &Input) -> Cut {
     let (untitled, titled) = (capacity(input.untitled), capacity(input.titled));
     let (segments, expansions, shifts) =
         partition_axis_with_breaks(&slots, untitled, titled, &merges, &breaks, repeat).expect("sums within i64");
+    (plain(segments), expansions, shifts)
+}
+
+/// The runs with their indexes as u32.
+fn plain<I: Index>(segments: Vec<AxisSegment<I>>) -> Vec<AxisSegment<u32>> {
     let runs = segments.into_iter().map(|run| AxisSegment {
         first: run.first.number(),
         last: run.last.number(),
@@ -329,7 +355,7 @@ fn cut<I: Index>(input: &Input) -> Cut {
         body_is_empty: run.body_is_empty,
         manual_break_before: run.manual_break_before,
     });
-    (runs.collect(), expansions, shifts)
+    runs.collect()
 }
 
 fn write(runs: &[AxisSegment<u32>], lent: &mut Lent) {
@@ -358,10 +384,11 @@ fn runs(mut input: Input) -> String {
 }
 
 fn answer(line: &str) -> String {
-    let input = input(line);
     match &line[..1] {
-        "t" => title(&input),
-        "r" => runs(input),
+        "t" => title(&input(line)),
+        "r" => runs(input(line)),
+        "p" => plan(job(line)),
+        "n" => page(line),
         other => panic!("an unknown letter: {other:?}"),
     }
 }

@@ -19,6 +19,14 @@ impl Sheet {
 }
 
 #[derive(Debug, Clone, Copy, PartialEq, Eq)]
+struct RenderRange {
+    first_row: u32,
+    first_col: u16,
+    last_row: u32,
+    last_col: u16,
+}
+
+#[derive(Debug, Clone, Copy, PartialEq, Eq)]
 struct MeasuredAxisSlot<I> {
     index: I,
     size: Fixed,

@@ -4,7 +4,7 @@
     take.py SRC           write taken.rs
     take.py --check SRC   say whether taken.rs is what would be written
 
-SRC is the folder that holds render/src/print.rs.
+SRC is the folder that holds render/src/print.rs and src/model/print.rs.
 """
 
 import pathlib
@@ -24,15 +24,23 @@ ITEMS = [
     ("render/src/scene.rs", "impl fmt::Debug for Fixed"),
     ("render/src/scene.rs", "fn format_fixed"),
     ("render/src/scene.rs", "struct Rect"),
+    ("src/model/print.rs", "enum PrintPageOrder"),
+    ("src/model/print.rs", "struct PageSetup"),
+    ("render/src/print.rs", "const ROW_HEADING_WIDTH"),
+    ("render/src/print.rs", "const COLUMN_HEADING_HEIGHT"),
     ("render/src/print.rs", "const DEFAULT_LEFT_RIGHT_INCHES"),
     ("render/src/print.rs", "const DEFAULT_TOP_BOTTOM_INCHES"),
     ("render/src/print.rs", "const DEFAULT_HEADER_FOOTER_INCHES"),
+    ("render/src/print.rs", "const MIN_PRINT_SCALE_PERMILLE"),
+    ("render/src/print.rs", "const MAX_PRINT_SCALE_PERMILLE"),
+    ("render/src/print.rs", "const MAX_FIT_SCALE_PERMILLE"),
     ("render/src/print.rs", "enum PrintWarningCode"),
     ("render/src/print.rs", "struct PrintWarning"),
     ("render/src/print.rs", "struct PaperGeometry"),
     ("render/src/print.rs", "struct PrintWarnings"),
     ("render/src/print.rs", "impl PrintWarnings"),
     ("render/src/print.rs", "struct AxisSegment"),
+    ("render/src/print.rs", "struct PageSlot"),
     ("render/src/print.rs", "fn normalize_repeat_rows"),
     ("render/src/print.rs", "fn normalize_repeat_cols"),
     ("render/src/print.rs", "fn expand_repeat_rows_for_merges"),
@@ -40,16 +48,24 @@ ITEMS = [
     ("render/src/print.rs", "fn paper_geometry"),
     ("render/src/print.rs", "fn mm_to_inches"),
     ("render/src/print.rs", "fn content_geometry"),
+    ("render/src/print.rs", "fn choose_scale"),
     ("render/src/print.rs", "fn unscaled_capacity"),
+    ("render/src/print.rs", "fn axis_segment_repeats_titles"),
+    ("render/src/print.rs", "fn axis_rendered_size"),
+    ("render/src/print.rs", "fn axis_overflow_count"),
+    ("render/src/print.rs", "fn axis_segments_fit"),
     ("render/src/print.rs", "fn partition_axis"),
     ("render/src/print.rs", "fn partition_axis_with_breaks"),
     ("render/src/print.rs", "fn merge_intervals_rows"),
     ("render/src/print.rs", "fn merge_intervals_columns"),
+    ("render/src/print.rs", "fn ensure_row_segment"),
+    ("render/src/print.rs", "fn ensure_column_segment"),
     ("render/src/print.rs", "fn measured_axis_range"),
     ("render/src/print.rs", "fn axis_total"),
     ("render/src/print.rs", "fn axis_slice_total"),
     ("render/src/print.rs", "fn scale_fixed"),
     ("render/src/print.rs", "fn inches_to_fixed"),
+    ("render/src/print.rs", "fn enforce_print_limit"),
 ]
 
 HEADER = f"""\

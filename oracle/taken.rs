@@ -215,6 +215,62 @@ pub struct Rect {
     pub height: Fixed,
 }
 
+// src/model/print.rs:48
+/// Authored order used to traverse a worksheet's printed pages.
+#[derive(Debug, Clone, Copy, PartialEq, Eq, Hash)]
+#[non_exhaustive]
+pub enum PrintPageOrder {
+    /// Print down the worksheet first, then move to the next page column.
+    DownThenOver,
+    /// Print across the worksheet first, then move to the next page row.
+    OverThenDown,
+}
+
+// src/model/print.rs:426
+/// Print / page setup for a worksheet (authoring). All fields optional; an
+/// unset field uses Excel's default.
+#[derive(Debug, Clone, Default, PartialEq)]
+pub struct PageSetup {
+    /// Landscape orientation (default portrait).
+    pub landscape: bool,
+    /// Page margins in inches: `(left, right, top, bottom, header, footer)`.
+    pub margins: Option<(f64, f64, f64, f64, f64, f64)>,
+    /// Print area `(r0, c0, r1, c1)` (0-based, inclusive).
+    pub print_area: Option<(u32, u16, u32, u16)>,
+    /// Rows to repeat at the top of every printed page, `first..=last` (0-based).
+    pub repeat_rows: Option<(u32, u32)>,
+    /// Columns to repeat at the left of every printed page, `first..=last`
+    /// (0-based).
+    pub repeat_cols: Option<(u16, u16)>,
+    /// Scale to fit this many pages wide (`fit_to_width`) / tall (`fit_to_height`).
+    pub fit_to_width: Option<u16>,
+    /// See [`Self::fit_to_width`].
+    pub fit_to_height: Option<u16>,
+    /// Header text (Excel `&`-codes, e.g. `&C&"Bold"Title`).
+    pub header: Option<String>,
+    /// Footer text (e.g. `&CPage &P of &N`).
+    pub footer: Option<String>,
+    /// Paper size code (Excel's `paperSize`, e.g. `1` = Letter, `9` = A4).
+    pub paper_size: Option<u16>,
+    /// Print scale as a percentage (10–400); ignored when fit-to-page is set.
+    pub scale: Option<u16>,
+    /// Center the print area horizontally on the page (`<printOptions
+    /// horizontalCentered="1">`).
+    pub center_horizontally: bool,
+    /// Center the print area vertically on the page (`<printOptions
+    /// verticalCentered="1">`).
+    pub center_vertically: bool,
+    /// First printed page number; emits `firstPageNumber="N" useFirstPageNumber="1"`
+    /// on `<pageSetup>`. `None` uses Excel's default (auto).
+    pub first_page_number: Option<u16>,
+}
+
+// render/src/print.rs:31
+const ROW_HEADING_WIDTH: Fixed = Fixed::from_pixels(38);
+
+// render/src/print.rs:32
+const COLUMN_HEADING_HEIGHT: Fixed = Fixed::from_pixels(17);
+
 // render/src/print.rs:28
 const DEFAULT_LEFT_RIGHT_INCHES: f64 = 0.7;
 
@@ -223,6 +279,15 @@ const DEFAULT_TOP_BOTTOM_INCHES: f64 = 0.75;
 
 // render/src/print.rs:30
 const DEFAULT_HEADER_FOOTER_INCHES: f64 = 0.3;
+
+// render/src/print.rs:40
+const MIN_PRINT_SCALE_PERMILLE: u16 = 100;
+
+// render/src/print.rs:41
+const MAX_PRINT_SCALE_PERMILLE: u16 = 4_000;
+
+// render/src/print.rs:42
+const MAX_FIT_SCALE_PERMILLE: u16 = 1_000;
 
 // render/src/print.rs:125
 /// Stable typed print approximation or recovery.
@@ -334,6 +399,15 @@ struct AxisSegment<I> {
     size: Fixed,
     body_is_empty: bool,
     manual_break_before: bool,
+}
+
+// render/src/print.rs:522
+#[derive(Debug, Clone, Copy, PartialEq, Eq)]
+struct PageSlot {
+    horizontal_index: usize,
+    vertical_index: usize,
+    rows: AxisSegment<u32>,
+    columns: AxisSegment<u16>,
 }
 
 // render/src/print.rs:2919
@@ -536,6 +610,98 @@ fn content_geometry(
     ))
 }
 
+// render/src/print.rs:3112
+#[allow(clippy::too_many_arguments)]
+fn choose_scale(
+    setup: &PageSetup,
+    fit_to_page: bool,
+    rows: &[MeasuredAxisSlot<u32>],
+    columns: &[MeasuredAxisSlot<u16>],
+    repeated_height: Fixed,
+    repeated_width: Fixed,
+    repeat_rows: Option<(u32, u32)>,
+    repeat_cols: Option<(u16, u16)>,
+    headings_height: Fixed,
+    headings_width: Fixed,
+    content: Rect,
+    row_merges: &[(u32, u32)],
+    col_merges: &[(u16, u16)],
+    warnings: &mut PrintWarnings,
+) -> Result<u16, RenderError> {
+    if !fit_to_page {
+        let requested = setup.scale.unwrap_or(100);
+        let clamped = requested.clamp(MIN_PRINT_SCALE_PERMILLE / 10, MAX_PRINT_SCALE_PERMILLE / 10);
+        if requested != clamped {
+            warnings.add(PrintWarningCode::PrintScaleClamped);
+        }
+        return Ok(clamped.saturating_mul(10));
+    }
+    // CT_PageSetup defaults omitted fit dimensions to 1. Excel-compatible
+    // explicit zero leaves that dimension unconstrained.
+    let fit_width = match setup.fit_to_width.unwrap_or(1) {
+        0 => None,
+        value => Some(value),
+    };
+    let fit_height = match setup.fit_to_height.unwrap_or(1) {
+        0 => None,
+        value => Some(value),
+    };
+    let fits = |scale| -> Result<bool, RenderError> {
+        let row_capacity =
+            unscaled_capacity(content.height, scale, repeated_height, headings_height)?;
+        let untitled_row_capacity =
+            unscaled_capacity(content.height, scale, Fixed::ZERO, headings_height)?;
+        let col_capacity = unscaled_capacity(content.width, scale, repeated_width, headings_width)?;
+        let untitled_col_capacity =
+            unscaled_capacity(content.width, scale, Fixed::ZERO, headings_width)?;
+        let (row_pages, _) = partition_axis(
+            rows,
+            untitled_row_capacity,
+            row_capacity,
+            row_merges,
+            repeat_rows,
+        )?;
+        let (col_pages, _) = partition_axis(
+            columns,
+            untitled_col_capacity,
+            col_capacity,
+            col_merges,
+            repeat_cols,
+        )?;
+        Ok(axis_segments_fit(
+            &row_pages,
+            repeated_height,
+            repeat_rows,
+            headings_height,
+            scale,
+            content.height,
+        )? && axis_segments_fit(
+            &col_pages,
+            repeated_width,
+            repeat_cols,
+            headings_width,
+            scale,
+            content.width,
+        )? && fit_height.is_none_or(|target| row_pages.len() <= usize::from(target))
+            && fit_width.is_none_or(|target| col_pages.len() <= usize::from(target)))
+    };
+    if !fits(MIN_PRINT_SCALE_PERMILLE)? {
+        warnings.add(PrintWarningCode::FitTargetUnreachable);
+        return Ok(MIN_PRINT_SCALE_PERMILLE);
+    }
+    let mut low = MIN_PRINT_SCALE_PERMILLE;
+    let mut high = MAX_FIT_SCALE_PERMILLE;
+    while low < high {
+        let middle = low + (high - low).div_ceil(2);
+        if fits(middle)? {
+            low = middle;
+        } else {
+            high = middle - 1;
+        }
+    }
+    Ok(low)
+}
+
 // render/src/print.rs:3207
 fn unscaled_capacity(
     page_capacity: Fixed,
@@ -553,6 +719,83 @@ fn unscaled_capacity(
         .and_then(|value| value.checked_sub(headings))
         .unwrap_or(Fixed::from_raw(1))
         .max(Fixed::from_raw(1)))
+}
+
+// render/src/print.rs:3225
+fn axis_segment_repeats_titles<I>(segment: &AxisSegment<I>, repeat: Option<(I, I)>) -> bool
+where
+    I: Copy + Ord,
+{
+    segment.body_is_empty || repeat.is_some_and(|(_, repeat_last)| segment.first > repeat_last)
+}
+
+// render/src/print.rs:3232
+fn axis_rendered_size<I>(
+    segment: &AxisSegment<I>,
+    repeated: Fixed,
+    repeat: Option<(I, I)>,
+    headings: Fixed,
+) -> Result<Fixed, RenderError>
+where
+    I: Copy + Ord,
+{
+    segment
+        .size
+        .checked_add(if axis_segment_repeats_titles(segment, repeat) {
+            repeated
+        } else {
+            Fixed::ZERO
+        })
+        .and_then(|value| value.checked_add(headings))
+        .ok_or(RenderError::CoordinateOverflow)
+}
+
+// render/src/print.rs:3252
+#[allow(clippy::too_many_arguments)]
+fn axis_overflow_count<I>(
+    segments: &[AxisSegment<I>],
+    repeated: Fixed,
+    repeat: Option<(I, I)>,
+    headings: Fixed,
+    scale_permille: u16,
+    page_capacity: Fixed,
+) -> Result<u64, RenderError>
+where
+    I: Copy + Ord,
+{
+    segments.iter().try_fold(0_u64, |count, segment| {
+        let rendered = axis_rendered_size(segment, repeated, repeat, headings)?;
+        Ok(count + u64::from(scale_fixed(rendered, scale_permille)? > page_capacity))
+    })
+}
+
+// render/src/print.rs:3270
+#[allow(clippy::too_many_arguments)]
+fn axis_segments_fit<I>(
+    segments: &[AxisSegment<I>],
+    repeated: Fixed,
+    repeat: Option<(I, I)>,
+    headings: Fixed,
+    scale_permille: u16,
+    page_capacity: Fixed,
+) -> Result<bool, RenderError>
+where
+    I: Copy + Ord,
+{
+    if segments.is_empty() {
+        let title_only = repeated
+            .checked_add(headings)
+            .ok_or(RenderError::CoordinateOverflow)?;
+        return Ok(scale_fixed(title_only, scale_permille)? <= page_capacity);
+    }
+    Ok(axis_overflow_count(
+        segments,
+        repeated,
+        repeat,
+        headings,
+        scale_permille,
+        page_capacity,
+    )? == 0)
 }
 
 // render/src/print.rs:3298
@@ -795,6 +1038,42 @@ fn merge_intervals_columns(sheet: &Sheet, first: u16, last: u16) -> Vec<(u16, u1
     values.into_iter().collect()
 }
 
+// render/src/print.rs:3508
+fn ensure_row_segment(
+    segments: Vec<AxisSegment<u32>>,
+    range: RenderRange,
+) -> Vec<AxisSegment<u32>> {
+    if segments.is_empty() {
+        vec![AxisSegment {
+            first: range.first_row,
+            last: range.first_row,
+            size: Fixed::ZERO,
+            body_is_empty: true,
+            manual_break_before: false,
+        }]
+    } else {
+        segments
+    }
+}
+
+// render/src/print.rs:3525
+fn ensure_column_segment(
+    segments: Vec<AxisSegment<u16>>,
+    range: RenderRange,
+) -> Vec<AxisSegment<u16>> {
+    if segments.is_empty() {
+        vec![AxisSegment {
+            first: range.first_col,
+            last: range.first_col,
+            size: Fixed::ZERO,
+            body_is_empty: true,
+            manual_break_before: false,
+        }]
+    } else {
+        segments
+    }
+}
+
 // render/src/print.rs:3683
 fn measured_axis_range<I>(
     slots: &[MeasuredAxisSlot<I>],
@@ -847,4 +1126,17 @@ fn inches_to_fixed(inches: f64) -> Result<Fixed, RenderError> {
         return Err(RenderError::CoordinateOverflow);
     }
     Ok(Fixed::from_raw(raw as i64))
+}
+
+// render/src/print.rs:4138
+fn enforce_print_limit(kind: LimitKind, limit: u64, actual: u64) -> Result<(), RenderError> {
+    if actual > limit {
+        Err(RenderError::LimitExceeded {
+            kind,
+            limit,
+            actual,
+        })
+    } else {
+        Ok(())
+    }
 }

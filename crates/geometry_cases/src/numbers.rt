@@ -8,12 +8,3 @@ pub fn signed(bits: u64) -> i64 {
         -1 - ((0xffff_ffff_ffff_ffff - bits) as i64)
     }
 }
-
-// The float that 64 bits stand for; any NaN pattern gives a NaN.
-pub fn float(bits: u64) -> f64 {
-    if bits % 0x8000_0000_0000_0000 > 0x7ff0_0000_0000_0000 {
-        0.0 / 0.0
-    } else {
-        f64::from_bits(bits)
-    }
-}

@@ -2,13 +2,13 @@
 use crate::figures::infinity;
 use crate::figures::nan;
 use crate::figures::say;
-use crate::numbers::float;
 use geometry::Content;
 use geometry::MarginSetting;
 use geometry::Margins;
 use geometry::Paper;
 use geometry::PaperGeometry;
 use geometry::Setting;
+use lines::float;
 
 fn upright(code: u16) -> Paper {
     geometry::paper_geometry(Setting::Given(code), false)

@@ -7,7 +7,6 @@
 //     p  paper_geometry     0 absent or 1 given, code, landscape 0 or 1
 //     m  content_geometry   width, height, left, right, top, bottom, header, footer
 //     a  content_geometry   width, height; margins absent
-use crate::numbers::float;
 use crate::numbers::signed;
 use crate::text::count;
 use crate::text::number;
@@ -22,6 +21,7 @@ use geometry::Setting;
 use libc::STDIN_FILENO;
 use lines::bits;
 use lines::digit;
+use lines::float;
 ghost use Prim.Native.Nat.{_<_};
 
 // The bytes of a line with its line end.

@@ -7,10 +7,10 @@ use planner::Title;
 use planner::Widening;
 
 // The bytes that a line has room for.
-pub const LINE: usize = 1024;
+pub const LINE: usize = 4096;
 
 // Each function puts its text from the place `at` on, and returns the place after it.
-fn byte(out: &mut [u8; LINE], at: usize, b: u8) -> usize {
+pub fn byte(out: &mut [u8; LINE], at: usize, b: u8) -> usize {
     if at >= LINE {
         return at;
     }
@@ -29,16 +29,16 @@ pub fn text(out: &mut [u8; LINE], at: usize, bytes: &[u8]) -> usize {
 }
 
 // A space and a number.
-fn number(out: &mut [u8; LINE], at: usize, n: u64) -> usize {
+pub fn number(out: &mut [u8; LINE], at: usize, n: u64) -> usize {
     let mut digits = [0u8; 20];
     let k = io::decimal(n, &mut digits);
     let next = byte(out, at, b' ');
     text(out, next, &digits[..k])
 }
 
-fn refusal(out: &mut [u8; LINE], n: u8) -> usize {
-    let at = text(out, 0, b"no");
-    number(out, at, wider(n))
+pub fn refusal(out: &mut [u8; LINE], at: usize, n: u8) -> usize {
+    let next = text(out, at, b"no");
+    number(out, next, wider(n))
 }
 
 // A title, and the notes of titles ignored and expanded.
@@ -50,7 +50,7 @@ pub fn widening(out: &mut [u8; LINE], answer: Widening) -> usize {
             let next = number(out, at, widened.ignored);
             number(out, next, widened.expanded)
         }
-        Widening::Refused(n) => refusal(out, n),
+        Widening::Refused(n) => refusal(out, 0, n),
     }
 }
 
@@ -74,7 +74,7 @@ fn partition(out: &mut [u8; LINE], answer: Partition) -> usize {
             let later = number(out, next, tally.expansions);
             number(out, later, tally.shifts)
         }
-        Partition::Refused(n) => refusal(out, n),
+        Partition::Refused(n) => refusal(out, 0, n),
     }
 }
 
@@ -109,7 +109,22 @@ fn marks(out: &mut [u8; LINE], at: usize, list: &[u8]) -> usize {
     next
 }
 
-// The answer to a cut: the counts, and the runs' firsts, lasts, sizes and marks.
+// The runs' firsts, lasts, sizes and marks.
+pub fn run_lists(
+    out: &mut [u8; LINE],
+    at: usize,
+    firsts: &[u32],
+    lasts: &[u32],
+    totals: &[u64],
+    mark: &[u8],
+) -> usize {
+    let a = numbers(out, at, firsts);
+    let b = numbers(out, a, lasts);
+    let c = sizes(out, b, totals);
+    marks(out, c, mark)
+}
+
+// The answer to a cut: the counts, and the runs.
 pub fn axis(
     out: &mut [u8; LINE],
     answer: Partition,
@@ -118,11 +133,8 @@ pub fn axis(
     totals: &[u64],
     mark: &[u8],
 ) -> usize {
-    let a = partition(out, answer);
-    let b = numbers(out, a, firsts);
-    let c = numbers(out, b, lasts);
-    let d = sizes(out, c, totals);
-    marks(out, d, mark)
+    let at = partition(out, answer);
+    run_lists(out, at, firsts, lasts, totals, mark)
 }
 
 // Writes the text that ends at a place.

@@ -1,4 +1,4 @@
-// The head of a line of input: a letter and fields, each a space and so many hexadecimal digits.
+// The head of an axis: fields, each a space and so many hexadecimal digits.
 //
 //     2   axis, 0 rows or 1 columns; title, 0 absent or 1 given
 //     2   nine lengths: indexes, sizes, merges' firsts, merges' lasts, breaks, and the lent lists of runs' firsts, lasts,
@@ -14,14 +14,14 @@ use planner::Title;
 ghost use Prim.Native.Nat.{_≤_, _<_};
 
 // The bytes of a head.
-pub const HEAD: usize = 104;
+pub const HEAD: usize = 103;
 
 // The field of two digits with the number k.
 fn short(head: &[u8; HEAD], k: usize) -> u64
     requires { ⌜ k < 11 ⌝ }
 {
     let text = &head[..];
-    let start = 2 + 3 * k;
+    let start = 1 + 3 * k;
     let end = start + 2;
     bits(&text[start..end])
 }
@@ -31,7 +31,7 @@ fn index(head: &[u8; HEAD], k: usize) -> u32
     requires { ⌜ k < 4 ⌝ }
 {
     let text = &head[..];
-    let start = 35 + 9 * k;
+    let start = 34 + 9 * k;
     let end = start + 8;
     low(bits(&text[start..end]))
 }
@@ -41,7 +41,7 @@ fn capacity(head: &[u8; HEAD], k: usize) -> u64
     requires { ⌜ k < 2 ⌝ }
 {
     let text = &head[..];
-    let start = 71 + 17 * k;
+    let start = 70 + 17 * k;
     let end = start + 16;
     bits(&text[start..end])
 }

@@ -96,3 +96,21 @@ pub fn marks_from(first: u8) -> [u8; MOST]
     }
     out
 }
+
+// The mark after another, of marks that rise from 0 to the highest and start again.
+fn next_mark(mark: u8, highest: u8) -> u8 {
+    if mark < highest { mark + 1 } else { 0 }
+}
+
+// Marks that rise from 0 to the highest, and start again.
+pub fn marks_to(highest: u8) -> [u8; MOST] {
+    let mut out = [0u8; MOST];
+    let mut mark = 0;
+    let mut i = 0;
+    while i < MOST {
+        out[i] = mark;
+        mark = next_mark(mark, highest);
+        i += 1;
+    }
+    out
+}

@@ -12,3 +12,8 @@ pub fn wide(x: u32) -> u64 {
 pub fn wider(x: u8) -> u64 {
     x as u64
 }
+
+// The last 16 bits.
+pub fn lower(x: u32) -> u16 {
+    (x % 0x1_0000) as u16
+}

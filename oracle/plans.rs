@@ -1,0 +1,562 @@
+// Plans and pages by the Rust's own functions. planner.rs includes this file at its root.
+//
+// The fields of a line, each a space and so many hexadecimal digits:
+//
+//     p   plans
+//     2   eleven flags, 0 or 1: paper given, landscape, percent given, fit, width's target given,
+//         height's target given, over then down, headings, row title given, column title given,
+//         margins given
+//     2   eighteen lengths: row indexes and sizes, column indexes and sizes, the merges' first rows,
+//         first columns, last rows and last columns, row breaks, column breaks, and the lent lists
+//         of row runs' firsts, lasts, sizes and marks, and of column runs'
+//     8   paper, percent, width's target, height's target; the range's first row, first column, last
+//         row and last column; the row title's first and last, the column title's first and last
+//     16  the page limit
+//     16  left, right, top, bottom, header and footer as the bits of an f64, if margins are given
+//     8   the row indexes
+//     16  the row sizes
+//     8   the column indexes
+//     16  the column sizes
+//     8   the merges' first rows, first columns, last rows, last columns; row breaks; column breaks
+//
+//     n   pages by their number, of plans that are not as they were answered
+//     2   three flags, 0 or 1: over then down, rows empty, columns empty
+//     2   the highest marks of row runs and of column runs: marks rise from 0 to it, and start again
+//     2   eight lengths: row runs' firsts, lasts, sizes and marks, and column runs'
+//     16  row runs, column runs, pages, and the number of the page
+//
+// The answer to p is `plan`, the permille, the counts of row runs and column runs, whether rows and
+// columns are empty, the count of pages, the order (1 over then down), and the nine notes; then the
+// eight lent lists, whole, each after a `;`; then pages, each after a `;`: the number, and an answer
+// as to n. Of twelve pages or fewer all are answered, with the numbers 0 and one above the count; of
+// more those that `asked` has. The answer to n is `page`, the vertical and the horizontal number, and
+// the two runs, each with first, last, size, empty mark and manual mark. A refusal is `no` and its
+// number; of p the lent lists follow here too.
+//
+// After the questions, which the Rust does not ask, the chain is that of prepare_print_document and
+// prepare_print_area, line by line, over the slots that are given.
+
+const COLUMN_STARTS: Starts = (2_500_000, 3_500_000, 1_500_000, 100);
+
+/// What a line says of a plan.
+struct Job {
+    setup: PageSetup,
+    behavior: Behavior,
+    page_limit: u64,
+    first_row: u32,
+    first_column: u32,
+    last_row: u32,
+    last_column: u32,
+    row_indexes: Vec<u32>,
+    row_sizes: Vec<u64>,
+    column_indexes: Vec<u32>,
+    column_sizes: Vec<u64>,
+    merge_first_rows: Vec<u32>,
+    merge_first_columns: Vec<u32>,
+    merge_last_rows: Vec<u32>,
+    merge_last_columns: Vec<u32>,
+    row_breaks: Vec<u32>,
+    column_breaks: Vec<u32>,
+    lent_rows: Lent,
+    lent_columns: Lent,
+}
+
+/// Of PrintBehavior what a plan looks at.
+struct Behavior {
+    page_order: PrintPageOrder,
+    fit_to_page: bool,
+    headings: bool,
+}
+
+fn page_order(over_then_down: bool) -> PrintPageOrder {
+    if over_then_down {
+        PrintPageOrder::OverThenDown
+    } else {
+        PrintPageOrder::DownThenOver
+    }
+}
+
+fn job(line: &str) -> Job {
+    let mut fields = Fields(&line[1..]);
+    let flags: Vec<bool> = (0..11).map(|_| fields.flag()).collect();
+    let lengths: Vec<usize> = (0..18).map(|_| fields.next(2) as usize).collect();
+    let mut small = || u16::try_from(fields.number()).expect("a number of 16 bits");
+    let (paper, percent, width, height) = (small(), small(), small(), small());
+    let range = fields.numbers(4);
+    let row_title = (fields.number(), fields.number());
+    let column_title = (u16::of(fields.number()), u16::of(fields.number()));
+    let page_limit = fields.next(16);
+    let mut inches = || f64::from_bits(fields.next(16));
+    let margins = flags[10].then(|| (inches(), inches(), inches(), inches(), inches(), inches()));
+    let job = Job {
+        setup: PageSetup {
+            paper_size: flags[0].then_some(paper),
+            landscape: flags[1],
+            margins,
+            scale: flags[2].then_some(percent),
+            fit_to_width: flags[4].then_some(width),
+            fit_to_height: flags[5].then_some(height),
+            repeat_rows: flags[8].then_some(row_title),
+            repeat_cols: flags[9].then_some(column_title),
+            ..PageSetup::default()
+        },
+        behavior: Behavior {
+            fit_to_page: flags[3],
+            page_order: page_order(flags[6]),
+            headings: flags[7],
+        },
+        page_limit,
+        first_row: range[0],
+        first_column: range[1],
+        last_row: range[2],
+        last_column: range[3],
+        row_indexes: fields.numbers(lengths[0]),
+        row_sizes: fields.sizes(lengths[1]),
+        column_indexes: fields.numbers(lengths[2]),
+        column_sizes: fields.sizes(lengths[3]),
+        merge_first_rows: fields.numbers(lengths[4]),
+        merge_first_columns: fields.numbers(lengths[5]),
+        merge_last_rows: fields.numbers(lengths[6]),
+        merge_last_columns: fields.numbers(lengths[7]),
+        row_breaks: fields.numbers(lengths[8]),
+        column_breaks: fields.numbers(lengths[9]),
+        lent_rows: Lent::new(&lengths[10..14], ROW_STARTS),
+        lent_columns: Lent::new(&lengths[14..], COLUMN_STARTS),
+    };
+    assert_eq!(fields.0, "", "more than the fields in {line:?}");
+    job
+}
+
+// ---- the questions
+
+impl Job {
+    /// 6: slices that make up one list are equally long.
+    fn lists_pair_up(&self) -> bool {
+        let merges = self.merge_first_rows.len();
+        let others = [
+            self.merge_first_columns.len(),
+            self.merge_last_rows.len(),
+            self.merge_last_columns.len(),
+        ];
+        self.row_indexes.len() == self.row_sizes.len()
+            && self.column_indexes.len() == self.column_sizes.len()
+            && others == [merges; 3]
+            && self.lent_rows.even()
+            && self.lent_columns.even()
+    }
+
+    /// 6: firsts are not above lasts.
+    fn pairs_ordered(&self) -> bool {
+        let mut rows = self.merge_first_rows.iter().zip(&self.merge_last_rows);
+        let mut columns = self.merge_first_columns.iter().zip(&self.merge_last_columns);
+        self.first_row <= self.last_row
+            && self.first_column <= self.last_column
+            && rows.all(|(first, last)| first <= last)
+            && columns.all(|(first, last)| first <= last)
+    }
+
+    /// 7: the range and every merge lie inside the grid.
+    fn inside(&self) -> bool {
+        let columns = u32::from(MAX_WORKSHEET_COLUMN);
+        self.last_row <= MAX_WORKSHEET_ROW
+            && self.last_column <= columns
+            && self.merge_last_rows.iter().all(|&row| row <= MAX_WORKSHEET_ROW)
+            && self.merge_last_columns.iter().all(|&column| column <= columns)
+    }
+
+    /// 8: slot indexes rise strictly and lie inside the grid.
+    fn slots_rise(&self) -> bool {
+        let rises = |indexes: &[u32], limit: u32| {
+            indexes.windows(2).all(|pair| pair[0] < pair[1]) && indexes.iter().all(|&index| index <= limit)
+        };
+        rises(&self.row_indexes, MAX_WORKSHEET_ROW)
+            && rises(&self.column_indexes, u32::from(MAX_WORKSHEET_COLUMN))
+    }
+
+    /// 9: sizes are at most the largest.
+    fn sizes_small(&self) -> bool {
+        self.row_sizes.iter().chain(&self.column_sizes).all(|&size| size <= LARGEST_SIZE)
+    }
+
+    /// The first of the questions 6 to 9 that the input does not pass.
+    fn refused(&self) -> Option<u8> {
+        let passed = [
+            (6, self.lists_pair_up() && self.pairs_ordered()),
+            (7, self.inside()),
+            (8, self.slots_rise()),
+            (9, self.sizes_small()),
+        ];
+        passed.into_iter().find(|(_, ok)| !ok).map(|(number, _)| number)
+    }
+}
+
+/// A refusal's number.
+struct Refused(u8);
+
+impl From<RenderError> for Refused {
+    fn from(error: RenderError) -> Self {
+        match error {
+            RenderError::CoordinateOverflow => Self(10),
+            RenderError::LimitExceeded { .. } => Self(12),
+            other => panic!("another refusal: {other:?}"),
+        }
+    }
+}
+
+// ---- the chain
+
+impl Job {
+    fn range(&self) -> RenderRange {
+        RenderRange {
+            first_row: self.first_row,
+            first_col: u16::of(self.first_column),
+            last_row: self.last_row,
+            last_col: u16::of(self.last_column),
+        }
+    }
+
+    fn sheet(&self) -> Sheet {
+        let merge = |at: usize| {
+            (
+                self.merge_first_rows[at],
+                u16::of(self.merge_first_columns[at]),
+                self.merge_last_rows[at],
+                u16::of(self.merge_last_columns[at]),
+            )
+        };
+        Sheet((0..self.merge_first_rows.len()).map(merge).collect())
+    }
+}
+
+/// What a plan is made of.
+struct Area {
+    scale_permille: u16,
+    row_segments: Vec<AxisSegment<u32>>,
+    column_segments: Vec<AxisSegment<u16>>,
+    logical_pages: u64,
+    slots: Vec<PageSlot>,
+}
+
+/// As prepare_print_document: paper, content and titles.
+fn prepared(job: &Job, warnings: &mut PrintWarnings) -> Result<Area, Refused> {
+    let (sheet, setup) = (job.sheet(), &job.setup);
+    let paper = paper_geometry(setup.paper_size, setup.landscape, warnings)?;
+    let (content_rect, _, _) = content_geometry(paper, setup.margins, warnings)?;
+    let repeat_rows = normalize_repeat_rows(setup.repeat_rows, warnings);
+    let repeat_rows = expand_repeat_rows_for_merges(&sheet, repeat_rows, warnings);
+    let repeat_cols = normalize_repeat_cols(setup.repeat_cols, warnings);
+    let repeat_cols = expand_repeat_cols_for_merges(&sheet, repeat_cols, warnings);
+    prepared_area(job, &sheet, repeat_rows, repeat_cols, content_rect, warnings)
+}
+
+/// As prepare_print_area, with question 11 before the page limit.
+fn prepared_area(
+    job: &Job,
+    sheet: &Sheet,
+    repeat_rows: Option<(u32, u32)>,
+    repeat_cols: Option<(u16, u16)>,
+    content_rect: Rect,
+    warnings: &mut PrintWarnings,
+) -> Result<Area, Refused> {
+    let (setup, behavior, range) = (&job.setup, &job.behavior, job.range());
+    let mut body_first_row = Some(range.first_row);
+    let mut body_first_col = Some(range.first_col);
+    if let Some((first, last)) = repeat_rows {
+        if first <= range.first_row && last >= range.first_row {
+            body_first_row = last.checked_add(1);
+        }
+    }
+    if let Some((first, last)) = repeat_cols {
+        if first <= range.first_col && last >= range.first_col {
+            body_first_col = last.checked_add(1);
+        }
+    }
+    let measured_rows: Vec<MeasuredAxisSlot<u32>> = measured(&job.row_indexes, &job.row_sizes);
+    let measured_columns: Vec<MeasuredAxisSlot<u16>> = measured(&job.column_indexes, &job.column_sizes);
+    let body_rows = body_first_row
+        .filter(|&first| first <= range.last_row)
+        .map_or_else(Vec::new, |first| measured_axis_range(&measured_rows, first, range.last_row));
+    let body_columns = body_first_col
+        .filter(|&first| first <= range.last_col)
+        .map_or_else(Vec::new, |first| measured_axis_range(&measured_columns, first, range.last_col));
+    let repeated_rows = match repeat_rows {
+        Some((first, last)) => measured_axis_range(&measured_rows, first, last),
+        None => Vec::new(),
+    };
+    let repeated_columns = match repeat_cols {
+        Some((first, last)) => measured_axis_range(&measured_columns, first, last),
+        None => Vec::new(),
+    };
+    let repeated_height = axis_total(&repeated_rows)?;
+    let repeated_width = axis_total(&repeated_columns)?;
+    let headings_width = if behavior.headings {
+        ROW_HEADING_WIDTH
+    } else {
+        Fixed::ZERO
+    };
+    let headings_height = if behavior.headings {
+        COLUMN_HEADING_HEIGHT
+    } else {
+        Fixed::ZERO
+    };
+    let row_merges = body_first_row
+        .filter(|&first| first <= range.last_row)
+        .map_or_else(Vec::new, |first| merge_intervals_rows(sheet, first, range.last_row));
+    let col_merges = body_first_col
+        .filter(|&first| first <= range.last_col)
+        .map_or_else(Vec::new, |first| merge_intervals_columns(sheet, first, range.last_col));
+
+    let scale_permille = choose_scale(
+        setup,
+        behavior.fit_to_page,
+        &body_rows,
+        &body_columns,
+        repeated_height,
+        repeated_width,
+        repeat_rows,
+        repeat_cols,
+        headings_height,
+        headings_width,
+        content_rect,
+        &row_merges,
+        &col_merges,
+        warnings,
+    )?;
+    let manual_col_breaks: Vec<u16> = job.column_breaks.iter().map(|&number| u16::of(number)).collect();
+    let row_breaks: &[u32] = if behavior.fit_to_page { &[] } else { &job.row_breaks };
+    let col_breaks: &[u16] = if behavior.fit_to_page { &[] } else { &manual_col_breaks };
+    let body_capacity_height =
+        unscaled_capacity(content_rect.height, scale_permille, repeated_height, headings_height)?;
+    let untitled_capacity_height =
+        unscaled_capacity(content_rect.height, scale_permille, Fixed::ZERO, headings_height)?;
+    let body_capacity_width =
+        unscaled_capacity(content_rect.width, scale_permille, repeated_width, headings_width)?;
+    let untitled_capacity_width =
+        unscaled_capacity(content_rect.width, scale_permille, Fixed::ZERO, headings_width)?;
+    let (row_segments, row_expansions, row_break_shifts) = partition_axis_with_breaks(
+        &body_rows,
+        untitled_capacity_height,
+        body_capacity_height,
+        &row_merges,
+        row_breaks,
+        repeat_rows,
+    )?;
+    let (column_segments, column_expansions, column_break_shifts) = partition_axis_with_breaks(
+        &body_columns,
+        untitled_capacity_width,
+        body_capacity_width,
+        &col_merges,
+        col_breaks,
+        repeat_cols,
+    )?;
+    warnings.add_count(
+        PrintWarningCode::MergeExpandedPage,
+        row_expansions.saturating_add(column_expansions),
+    );
+    warnings.add_count(
+        PrintWarningCode::ManualBreakShiftedForMerge,
+        row_break_shifts.saturating_add(column_break_shifts),
+    );
+    let row_segments = ensure_row_segment(row_segments, range);
+    let column_segments = ensure_column_segment(column_segments, range);
+    let row_overflows = axis_overflow_count(
+        &row_segments,
+        repeated_height,
+        repeat_rows,
+        headings_height,
+        scale_permille,
+        content_rect.height,
+    )?;
+    let column_overflows = axis_overflow_count(
+        &column_segments,
+        repeated_width,
+        repeat_cols,
+        headings_width,
+        scale_permille,
+        content_rect.width,
+    )?;
+    warnings.add_count(
+        PrintWarningCode::PageContentOverflow,
+        row_overflows.saturating_add(column_overflows),
+    );
+    if row_segments.len() > job.lent_rows.firsts.len() || column_segments.len() > job.lent_columns.firsts.len() {
+        return Err(Refused(11));
+    }
+    let logical_pages = (row_segments.len() as u64)
+        .checked_mul(column_segments.len() as u64)
+        .ok_or(RenderError::CoordinateOverflow)?;
+    enforce_print_limit(LimitKind::LogicalPages, job.page_limit, logical_pages)?;
+    let slots = page_slots(behavior.page_order, &row_segments, &column_segments);
+    enforce_print_limit(LimitKind::Pages, job.page_limit, slots.len() as u64)?;
+    Ok(Area {
+        scale_permille,
+        row_segments,
+        column_segments,
+        logical_pages,
+        slots,
+    })
+}
+
+/// The page loop, where no page is omitted.
+fn page_slots(
+    page_order: PrintPageOrder,
+    row_segments: &[AxisSegment<u32>],
+    column_segments: &[AxisSegment<u16>],
+) -> Vec<PageSlot> {
+    let mut slots = Vec::new();
+    match page_order {
+        PrintPageOrder::OverThenDown => {
+            for (vertical_index, rows) in row_segments.iter().copied().enumerate() {
+                for (horizontal_index, columns) in column_segments.iter().copied().enumerate() {
+                    slots.push(PageSlot {
+                        horizontal_index,
+                        vertical_index,
+                        rows,
+                        columns,
+                    });
+                }
+            }
+        }
+        _ => {
+            for (horizontal_index, columns) in column_segments.iter().copied().enumerate() {
+                for (vertical_index, rows) in row_segments.iter().copied().enumerate() {
+                    slots.push(PageSlot {
+                        horizontal_index,
+                        vertical_index,
+                        rows,
+                        columns,
+                    });
+                }
+            }
+        }
+    }
+    slots
+}
+
+// ---- the answer
+
+const NOTES: [PrintWarningCode; 9] = [
+    PrintWarningCode::UnknownPaperSizeFallback,
+    PrintWarningCode::InvalidMarginsFallback,
+    PrintWarningCode::PrintScaleClamped,
+    PrintWarningCode::FitTargetUnreachable,
+    PrintWarningCode::InvalidPrintTitlesIgnored,
+    PrintWarningCode::PrintTitlesExpandedForMerge,
+    PrintWarningCode::MergeExpandedPage,
+    PrintWarningCode::ManualBreakShiftedForMerge,
+    PrintWarningCode::PageContentOverflow,
+];
+
+/// The nine notes in document 01's order; any other note is a fault of the driver.
+fn nine_notes(warnings: PrintWarnings) -> [u64; 9] {
+    let mut counts = [0; 9];
+    for warning in warnings.finish() {
+        let at = NOTES.iter().position(|&code| code == warning.code);
+        counts[at.expect("one of the nine notes")] += warning.occurrences;
+    }
+    counts
+}
+
+fn run_text<I: Index>(run: &AxisSegment<I>) -> String {
+    let (first, last, size) = (run.first.number(), run.last.number(), run.size.raw());
+    let (empty, manual) = (u8::from(run.body_is_empty), u8::from(run.manual_break_before));
+    format!(" {first} {last} {size} {empty} {manual}")
+}
+
+fn slot_text(slot: &PageSlot) -> String {
+    let (rows, columns) = (run_text(&slot.rows), run_text(&slot.columns));
+    format!("page {} {}{rows}{columns}", slot.vertical_index, slot.horizontal_index)
+}
+
+/// The page with a number, from 1 to the count, or `no 14`.
+fn numbered(slots: &[PageSlot], number: u64) -> String {
+    let before = number.checked_sub(1).and_then(|before| usize::try_from(before).ok());
+    let slot = before.and_then(|before| slots.get(before));
+    slot.map_or_else(|| "no 14".to_string(), slot_text)
+}
+
+/// The numbers of the pages that are answered.
+fn asked(pages: u64) -> Vec<u64> {
+    if pages <= 12 {
+        return (0..=pages + 1).collect();
+    }
+    let middle = [pages / 2, pages / 2 + 1];
+    (0..=6).chain(middle).chain(pages - 5..=pages + 1).collect()
+}
+
+fn plan(mut job: Job) -> String {
+    if let Some(number) = job.refused() {
+        return format!("no {number}{}{}", job.lent_rows.text(), job.lent_columns.text());
+    }
+    let mut warnings = PrintWarnings::default();
+    let area = match prepared(&job, &mut warnings) {
+        Ok(area) => area,
+        Err(Refused(number)) => {
+            return format!("no {number}{}{}", job.lent_rows.text(), job.lent_columns.text());
+        }
+    };
+    let empty = |marked: bool| u8::from(marked);
+    let counts = [area.row_segments.len(), area.column_segments.len()];
+    let empties = [empty(area.row_segments[0].body_is_empty), empty(area.column_segments[0].body_is_empty)];
+    let order = u8::from(job.behavior.page_order == PrintPageOrder::OverThenDown);
+    let head = format!("plan {}{}{}", area.scale_permille, spelt(&counts), spelt(&empties));
+    let tail = format!(" {} {order}{}", area.logical_pages, spelt(&nine_notes(warnings)));
+    let pages = asked(area.logical_pages).into_iter().map(|n| format!("; {n} {}", numbered(&area.slots, n)));
+    let pages: String = pages.collect();
+    write(&plain(area.row_segments), &mut job.lent_rows);
+    write(&plain(area.column_segments), &mut job.lent_columns);
+    format!("{head}{tail}{}{}{pages}", job.lent_rows.text(), job.lent_columns.text())
+}
+
+// ---- pages by their number
+
+/// A run of lists as it stands at a place.
+fn run_in(lists: &Lent, at: usize, empty: bool) -> String {
+    let manual = u8::from(lists.marks[at] > 0);
+    format!(" {} {} {} {} {manual}", lists.firsts[at], lists.lasts[at], lists.sizes[at], u8::from(empty))
+}
+
+/// The pages of run lists, in order.
+fn pages_in(over_then_down: bool, runs: [usize; 2], empties: [bool; 2], lists: [&Lent; 2]) -> Vec<String> {
+    let mut places = Vec::new();
+    if over_then_down {
+        for v in 0..runs[0] {
+            places.extend((0..runs[1]).map(|h| (v, h)));
+        }
+    } else {
+        for h in 0..runs[1] {
+            places.extend((0..runs[0]).map(|v| (v, h)));
+        }
+    }
+    let text = |(v, h)| {
+        let (rows, columns) = (run_in(lists[0], v, empties[0]), run_in(lists[1], h, empties[1]));
+        format!("page {v} {h}{rows}{columns}")
+    };
+    places.into_iter().map(text).collect()
+}
+
+/// 6, then 11, then the page with the number out of the first `pages` pages, or 14.
+fn page(line: &str) -> String {
+    let mut fields = Fields(&line[1..]);
+    let [over_then_down, rows_empty, columns_empty] = [fields.flag(), fields.flag(), fields.flag()];
+    let highest = [fields.next(2), fields.next(2)];
+    let lengths: Vec<usize> = (0..8).map(|_| fields.next(2) as usize).collect();
+    let (row_runs, column_runs) = (fields.next(16) as usize, fields.next(16) as usize);
+    let (pages, number) = (fields.next(16), fields.next(16));
+    assert_eq!(fields.0, "", "more than the fields in {line:?}");
+    let rows = Lent::new(&lengths[..4], ROW_STARTS).marked_to(highest[0]);
+    let columns = Lent::new(&lengths[4..], COLUMN_STARTS).marked_to(highest[1]);
+    if !(rows.even() && columns.even()) {
+        return "no 6".to_string();
+    }
+    if row_runs > rows.firsts.len() || column_runs > columns.firsts.len() {
+        return "no 11".to_string();
+    }
+    let runs = [row_runs, column_runs];
+    let all = pages_in(over_then_down, runs, [rows_empty, columns_empty], [&rows, &columns]);
+    let kept = all.len().min(usize::try_from(pages).expect("64 bits"));
+    match (1..=kept as u64).position(|n| n == number) {
+        Some(at) => all[at].clone(),
+        None => "no 14".to_string(),
+    }
+}
