@@ -1,38 +1,24 @@
 // The call that cuts an axis into lent lists: document 01, sections "Titles" and "Runs".
-use crate::questions::all_small;
-use crate::questions::all_within;
-use crate::questions::pairs_ordered;
-use crate::questions::rising_within;
-use crate::runs::Frame;
-use crate::runs::Tally;
 use crate::runs::count_axis;
 use crate::runs::slots_below;
-use crate::runs::wide;
 use crate::runs::write_axis;
-use crate::titles::Axis;
-use crate::titles::Title;
-use crate::titles::body_start;
+use questions::all_small;
+use questions::all_within;
+use questions::pairs_ordered;
+use questions::rising_within;
+use rules::Axis;
+use rules::AxisSetup;
+use rules::Frame;
+use rules::Partition;
+use rules::Tally;
+use titles::body_start;
+use titles::wide;
 ghost use mathlib.Core.Path.{_≡_};
 ghost use lib.ListN.{length};
-ghost use Rattle.planner.specs.Slots.{Slots};
-ghost use Rattle.planner.specs.Titles.{limitOf};
-ghost use Rattle.planner.specs.Runs.{axisRuns, axisTally};
-ghost use Rattle.planner.specs.Partition as call;
-
-// A range of an axis, its title as it was widened, and what fits on a page without and with the title.
-pub struct AxisSetup {
-    pub first: u32,
-    pub last: u32,
-    pub title: Title,
-    pub untitled: u64,
-    pub titled: u64,
-}
-
-// What `partition_axis_with_breaks` answers: how many runs, expansions and shifts, or a refusal with its number.
-pub enum Partition {
-    Value(Tally),
-    Refused(u8),
-}
+ghost use Rattle.rules.specs.Slots.{Slots};
+ghost use Rattle.rules.specs.Titles.{limitOf};
+ghost use Rattle.rules.specs.Runs.{axisRuns, axisTally};
+ghost use Rattle.rules.specs.Partition as call;
 
 // 6, but for the order of the merges: lists that go together are equally long, and the range's first is not above its last.
 fn well_shaped(

@@ -1,97 +1,56 @@
 // The plan call: questions, scale, cuts and notes for both axes of a range.
-use crate::pages::Notes;
-use crate::pages::PageOrder;
-use crate::pages::Plan;
-use crate::pages::overflowing_runs;
-use crate::questions::all_small;
-use crate::questions::all_within;
-use crate::questions::pairs_ordered;
-use crate::questions::rising_within;
-use crate::runs::Frame;
+use crate::overflow::overflowing_runs;
 use crate::runs::count_axis;
 use crate::runs::slots_below;
-use crate::runs::wide;
 use crate::runs::write_axis;
-use crate::scale::ChosenScale;
-use crate::scale::Fit;
-use crate::scale::PageSide;
-use crate::scale::Stretch;
 use crate::scale::capacity_at;
 use crate::scale::fit_scale;
 use crate::scale::fixed_scale;
 use crate::scale::or_else;
-use crate::titles::Axis;
-use crate::titles::Title;
-use crate::titles::body_start;
-use crate::titles::title_total;
-use crate::titles::widened_title;
+use crate::title::title_total;
 use geometry::Content;
 use geometry::Fixed;
-use geometry::MarginSetting;
-use geometry::Setting;
+use questions::all_small;
+use questions::all_within;
+use questions::pairs_ordered;
+use questions::rising_within;
+use rules::Axis;
+use rules::AxisRange;
+use rules::ChosenScale;
+use rules::ContentSides;
+use rules::FinalCut;
+use rules::Fit;
+use rules::Frame;
+use rules::Notes;
+use rules::PageSide;
+use rules::Plan;
+use rules::Planning;
+use rules::PrintRange;
+use rules::Ready;
+use rules::Settings;
+use rules::SidesFound;
+use rules::Stretch;
+use rules::Title;
+use titles::body_start;
+use titles::wide;
+use titles::widened_title;
 ghost use mathlib.Core.Path.{_≡_};
 ghost use mathlib.Core.Bool.{cond, _&&_};
 ghost use mathlib.Core.List.{[]};
 ghost use Prim.Native.Nat.{_+_, _≤_, _^_, max};
 ghost use lib.Dec.{leb};
 ghost use lib.ListN.{length};
-ghost use Rattle.planner.specs.Questions.{equallyLong, allOrdered, allWithin};
-ghost use Rattle.planner.specs.Slots.{Slots};
-ghost use Rattle.planner.specs.Runs.{axisRuns};
-ghost use Rattle.planner.specs.Lent.{Room, Written};
-ghost use Rattle.planner.specs.Lent as lists;
-ghost use Rattle.planner.specs.Partition.{Even, noOr};
-ghost use Rattle.planner.specs.Scale.{fixedScale, fitScale, spaceOf, scaleOf, fitPasses, Low};
-ghost use Rattle.planner.specs.Pages.{emptyRun, none, orEmpty, overflowing};
-ghost use Rattle.planner.specs.Pages as pages;
-ghost use Rattle.planner.specs.Plan as call;
-ghost use Rattle.planner.specs.Demand.{CoversPairs, FewestPlan, LargestPlan};
-
-// How a range is printed. A target is the most pages in a direction, 0 for any number.
-pub struct Settings {
-    pub paper: Setting,
-    pub landscape: bool,
-    pub margins: MarginSetting,
-    pub percent: Setting,
-    pub fit: bool,
-    pub fit_width: Setting,
-    pub fit_height: Setting,
-    pub order: PageOrder,
-    pub headings: bool,
-    pub page_limit: u64,
-}
-
-pub struct PrintRange {
-    pub first_row: u32,
-    pub first_column: u32,
-    pub last_row: u32,
-    pub last_column: u32,
-}
-
-// What `plan_pages` answers: the plan, or a refusal with its number.
-pub enum Planning {
-    Value(Plan),
-    Refused(u8),
-}
-
-// An axis of a range, as the settings make it.
-pub(crate) struct AxisRange {
-    pub limit: u32,
-    pub first: u32,
-    pub last: u32,
-    pub title: Title,
-    pub headings: u64,
-    pub target: u16,
-}
-
-// An axis that is ready to be cut: what it is fitted by, where its body stands among the slots, and the notes on its title.
-pub(crate) struct Ready {
-    pub fit: Fit,
-    pub from: usize,
-    pub to: usize,
-    pub ignored: u64,
-    pub expanded: u64,
-}
+ghost use Rattle.rules.specs.Questions.{equallyLong, allOrdered, allWithin};
+ghost use Rattle.rules.specs.Slots.{Slots};
+ghost use Rattle.rules.specs.Runs.{axisRuns};
+ghost use Rattle.rules.specs.Lent.{Room, Written};
+ghost use Rattle.rules.specs.Lent as lists;
+ghost use Rattle.rules.specs.Partition.{Even, noOr};
+ghost use Rattle.rules.specs.Scale.{fixedScale, fitScale, spaceOf, scaleOf, fitPasses, Low};
+ghost use Rattle.rules.specs.Pages.{none, orEmpty, overflowing};
+ghost use Rattle.rules.specs.Pages as pages;
+ghost use Rattle.rules.specs.Plan as call;
+ghost use Rattle.rules.specs.Demand.{CoversPairs, FewestPlan, LargestPlan};
 
 // Widens the title of an axis and finds the body.
 fn ready_axis(
@@ -196,14 +155,6 @@ fn frame_at(fit: Fit, permille: u16) -> Frame
         lo: stretch.lo,
         hi: stretch.hi,
     }
-}
-
-// The final cut of an axis: how many runs its pages are made of, whether its body is empty, and the notes on the cut.
-pub(crate) struct FinalCut {
-    pub runs: usize,
-    pub empty: bool,
-    pub expansions: u64,
-    pub shifts: u64,
 }
 
 // Counts the final cut of an axis, without writing it.
@@ -349,14 +300,6 @@ fn write_cut(
         &run_firsts[..runs],
         &run_sizes[..runs],
     )
-}
-
-// The sides of the content, and the notes on paper and margins.
-pub(crate) struct ContentSides {
-    pub width: Fixed,
-    pub height: Fixed,
-    pub unknown: u64,
-    pub invalid: u64,
 }
 
 // What the notes of a plan are made of, beside the cuts.
@@ -594,12 +537,6 @@ fn plan_axes(
     )
 }
 
-// What paper and margins come to: the content's sides, or the refusal 10.
-pub(crate) enum SidesFound {
-    Value(ContentSides),
-    CoordinateOverflow,
-}
-
 fn content_sides(settings: Settings) -> SidesFound
     ensures { λ r. ⌜ call.sidesOutcome r ≡ call.contentSides settings ⌝ }
 {
@@ -675,14 +612,11 @@ fn formed(
 ) -> bool
     ensures { λ r. ⌜ r ≡ (equallyLong (now (indexes .entry)) (now (sizes .entry)) && equallyLong (now («merge_firsts» .entry)) (now («merge_lasts» .entry)) && «lent_even» && leb first last && allOrdered (now («merge_firsts» .entry)) (now («merge_lasts» .entry))) ⌝ }
 {
-    let shaped = (indexes.len() == sizes.len())
+    (indexes.len() == sizes.len())
         & (merge_firsts.len() == merge_lasts.len())
         & lent_even
-        & (first <= last);
-    if !shaped {
-        return false;
-    }
-    pairs_ordered(merge_firsts, merge_lasts)
+        & (first <= last)
+        & pairs_ordered(merge_firsts, merge_lasts)
 }
 
 // 7 of an axis: the range and every merge are inside the grid.

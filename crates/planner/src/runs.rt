@@ -1,31 +1,21 @@
 // Where the slots of an axis are cut into runs: document 01, section "Runs".
-use crate::titles::Title;
+use rules::Counted;
+use rules::Cut;
+use rules::Frame;
+use rules::Held;
+use rules::RunEnd;
+use rules::Tally;
+use rules::Title;
+use titles::greater;
+use titles::lesser;
+use titles::wide;
 ghost use mathlib.Core.Path.{_≡_};
-ghost use mathlib.Core.Bool.{cond};
-ghost use Prim.Native.Nat.{_+_, _≤_, _<_, min, max};
+ghost use Prim.Native.Nat.{_≤_, _<_, min};
 ghost use lib.ListN.{length};
-ghost use Rattle.planner.specs.Slots.{Small, Slots, sum, below, through};
-ghost use Rattle.planner.specs.Titles.{titleHolds};
-ghost use Rattle.planner.specs.Runs.{earlier, nearer, holding, natural, capacityAt, resumed, resumption, taken, mergeStep, merged, runEnd, runs, firstMarked, moved, placed, nextCut, stretch, axisRuns, axisTally};
-ghost use Rattle.planner.specs.Lent.{Room, Written, RoomAt, WrittenAt, counted};
-
-// What holds a boundary: nothing, or a pair of a first and a last index.
-pub enum Held {
-    Free,
-    By(u32, u32),
-}
-
-pub(crate) fn greater(a: u32, b: u32) -> u32
-    ensures { λ r. ⌜ r ≡ max a b ⌝ }
-{
-    if a < b { b } else { a }
-}
-
-pub(crate) fn lesser(a: u32, b: u32) -> u32
-    ensures { λ r. ⌜ r ≡ min a b ⌝ }
-{
-    if a < b { a } else { b }
-}
+ghost use Rattle.rules.specs.Slots.{Small, Slots, sum, below, through};
+ghost use Rattle.rules.specs.Titles.{titleHolds};
+ghost use Rattle.rules.specs.Runs.{earlier, nearer, holding, natural, capacityAt, resumed, resumption, taken, mergeStep, merged, runEnd, runs, firstMarked, moved, placed, nextCut, stretch, axisRuns, axisTally};
+ghost use Rattle.rules.specs.Lent.{Room, Written, RoomAt, WrittenAt, counted};
 
 // The earlier of two pairs, by first, then last.
 fn earlier_of(first: u32, last: u32, held: Held) -> Held
@@ -69,27 +59,6 @@ fn holding_merge(firsts: &[u32], lasts: &[u32], lo: u32, hi: u32, b: u32) -> Hel
         held = nearer_of(f, l, b, held);
     }
     held
-}
-
-// What the runs of an axis go by: two capacities, the title, and the stretch that merges are clipped to.
-pub struct Frame {
-    pub untitled: u64,
-    pub titled: u64,
-    pub title: Title,
-    pub lo: u32,
-    pub hi: u32,
-}
-
-// Where a run ends: how many slots it has, and 1 where a merge took it further.
-pub struct RunEnd {
-    pub slots: usize,
-    pub grown: u64,
-}
-
-pub(crate) fn wide(x: u32) -> u64
-    ensures { λ r. ⌜ r ≡ x ⌝ }
-{
-    x as u64
 }
 
 // How many slots at the front have an index below the limit.
@@ -288,12 +257,6 @@ pub(crate) fn run_end(
     merged_end(indexes, n, firsts, lasts, lo, hi)
 }
 
-// How many runs a stretch has, and how many of them a merge took further.
-pub struct Counted {
-    pub runs: usize,
-    pub grown: u64,
-}
-
 // Counts the runs of a stretch.
 fn count_runs(k: Frame, mfirsts: &[u32], mlasts: &[u32], indexes: &[u32], sizes: &[u64]) -> Counted
     requires { ⌜ length (now mfirsts) ≡ length (now mlasts) ⌝ }
@@ -352,12 +315,6 @@ fn write_runs(
         at += 1;
     }
     at
-}
-
-// The place of a cut, and 1 where a merge moved it.
-pub struct Cut {
-    pub place: usize,
-    pub shifted: u64,
 }
 
 fn title_holds(title: Title, b: u32) -> bool
@@ -456,13 +413,6 @@ fn next_cut(k: Frame, mfirsts: &[u32], mlasts: &[u32], indexes: &[u32], prev: us
         place: prev,
         shifted,
     }
-}
-
-// What an axis comes to: how many runs, expansions and shifts.
-pub struct Tally {
-    pub runs: usize,
-    pub expansions: u64,
-    pub shifts: u64,
 }
 
 // Counts the runs of an axis.

@@ -1,40 +1,24 @@
 // How large a worksheet is printed: document 01, section "Scale".
-use crate::runs::Frame;
 use crate::runs::run_end;
 use crate::runs::total;
-use crate::titles::Title;
 use geometry::Fixed;
 use geometry::Length;
 use geometry::Setting;
+use rules::ChosenScale;
+use rules::Fit;
+use rules::Frame;
+use rules::PageSide;
+use rules::Stretch;
+use rules::Tested;
+use rules::Title;
 ghost use mathlib.Core.Path.{_≡_};
 ghost use mathlib.Core.Bool.{cond, _&&_};
 ghost use Prim.Native.Nat.{_+_, _≤_, _^_};
 ghost use lib.ListN.{length};
-ghost use Rattle.planner.specs.Slots.{Slots};
-ghost use Rattle.planner.specs.Titles.{pastTitle};
-ghost use Rattle.planner.specs.Runs.{runs};
-ghost use Rattle.planner.specs.Scale.{orElse, fixedScale, capacityOf, fitsSide, allFit, meets, axisPasses, halve, fitScale, spaceOf, scaleOf, bodyFor, titled, Low, fitPasses, Fitted};
-
-// A scale in thousandths, and its two notes.
-pub(crate) struct ChosenScale {
-    pub permille: u16,
-    pub clamp: u64,
-    pub unreachable: u64,
-}
-
-// What an axis has on a page: the content side, the headings, and the title's total.
-pub(crate) struct PageSide {
-    pub side: Fixed,
-    pub headings: u64,
-    pub titles: u64,
-}
-
-// The title of an axis, and the stretch that its merges are clipped to.
-pub(crate) struct Stretch {
-    pub title: Title,
-    pub lo: u32,
-    pub hi: u32,
-}
+ghost use Rattle.rules.specs.Slots.{Slots};
+ghost use Rattle.rules.specs.Titles.{pastTitle};
+ghost use Rattle.rules.specs.Runs.{runs};
+ghost use Rattle.rules.specs.Scale.{orElse, fixedScale, capacityOf, fitsSide, allFit, meets, axisPasses, halve, fitScale, spaceOf, scaleOf, bodyFor, titled, Low, fitPasses, Fitted};
 
 // A setting, or what its absence means.
 pub(crate) fn or_else(setting: Setting, absent: u16) -> u16
@@ -119,12 +103,6 @@ fn rendered(page: PageSide, title: Title, first: u32, size: u64) -> u64
     size + page.headings
 }
 
-// How many runs there are, and whether all fit the page.
-pub(crate) struct Tested {
-    pub runs: usize,
-    pub fit: bool,
-}
-
 // Tests the runs of slots at a permille.
 fn test_runs(
     page: PageSide,
@@ -199,13 +177,6 @@ fn axis_passes(
         return fits_side(page, permille, page.titles + page.headings);
     }
     tested.fit & meets_target(target, tested.runs)
-}
-
-// An axis to be fitted: its page, its stretch, and the most runs that it may have, 0 for any number.
-pub(crate) struct Fit {
-    pub page: PageSide,
-    pub stretch: Stretch,
-    pub target: u16,
 }
 
 fn fit_passes(

@@ -1,7 +1,7 @@
 -- `planner::partition::first_no` meets its contract: each way out knows the answers up to its own. Assumes nothing.
 use mathlib.Core.Path.{sym, _∙_}
 use borrow.Author.Tests.{not-true, not-false}
-use Rattle.planner.proofs.PartitionLaws.{merges-even, no-shape, no-order, no-range, no-grid, no-rise, no-size, no-no}
+use Rattle.rules.proofs.PartitionLaws.{no-shape, no-order, no-range, no-grid, no-rise, no-size, no-no}
 use borrow.Author.Needs.{needs}
 use Rattle.planner.proofs.partition.first_no.Statement.{statement}
 use Rattle.planner.proofs.partition.first_no.Tie as tie
@@ -15,9 +15,7 @@ returns c =
     no-shape (a .limit) (a .setup) (a .indexes .now) (a .sizes .now) (a .merge-firsts .now) (a .merge-lasts .now) (a .lent-even) (sym (c .before .well-shaped .ensures) ∙ not-true (c .before .well-shaped .result) (c .if1 .taken))
 
 pairs-ordered-requires : tie.Need-pairs-ordered-requires
-pairs-ordered-requires c κs =
-    let a = c .before .before .before .before .before .before .args in
-    merges-even (a .setup) (a .indexes .now) (a .sizes .now) (a .merge-firsts .now) (a .merge-lasts .now) (a .lent-even) (sym (c .before .well-shaped .ensures) ∙ not-false (c .before .well-shaped .result) (c .if1 .left))
+pairs-ordered-requires c κs = search needs
 
 returns-2 : tie.Need-returns-2
 returns-2 c =

@@ -6,12 +6,12 @@ use native.Mathlib.Omega.{arith}
 use lib.Dec.{lit≤}
 use lib.ListN.{length}
 use Rattle.geometry.specs.Outcome.{Outcome}
-use Rattle.planner.specs.declared.runs.Tally.{Tally}
-use Rattle.planner.specs.declared.titles.Axis.{Axis}
-use Rattle.planner.specs.declared.titles.Axis.the-variants.{Rows, Columns}
-use Rattle.planner.specs.Titles.{limitOf}
-use Rattle.planner.specs.Partition.{firstNo, lentEven, partition, bodyRuns, Answered}
-use Rattle.planner.proofs.PartitionLaws.{is-refused, is-asked, refuses}
+use Rattle.rules.specs.declared.runs.Tally.{Tally}
+use Rattle.rules.specs.declared.titles.Axis.{Axis}
+use Rattle.rules.specs.declared.titles.Axis.the-variants.{Rows, Columns}
+use Rattle.rules.specs.Titles.{limitOf}
+use Rattle.rules.specs.Partition.{firstNo, lentEven, partition, bodyRuns, Answered}
+use Rattle.rules.proofs.PartitionLaws.{is-refused, is-asked, refuses}
 use borrow.Author.Needs.{needs}
 use Rattle.planner.proofs.partition.partition_axis_with_breaks.Statement.{statement}
 use Rattle.planner.proofs.partition.partition_axis_with_breaks.Tie as tie

@@ -4,10 +4,10 @@ use Prim.Native.Nat.{ℕ, _≤_, _<_}
 use native.Mathlib.Omega.{arith}
 use lib.ListN.{length}
 use Rattle.geometry.specs.Outcome.{Outcome, given}
-use Rattle.planner.specs.declared.runs.Tally.{Tally}
-use Rattle.planner.specs.Runs.{Run, axisRuns, axisTally}
-use Rattle.planner.specs.Partition.{roomFor}
-use Rattle.planner.proofs.PartitionLaws.{refuses, answers, no-room, room-enough}
+use Rattle.rules.specs.declared.runs.Tally.{Tally}
+use Rattle.rules.specs.Runs.{Run, axisRuns, axisTally}
+use Rattle.rules.specs.Partition.{roomFor}
+use Rattle.rules.proofs.PartitionLaws.{refuses, answers, no-room, room-enough}
 use borrow.Author.Needs.{needs}
 use Rattle.planner.proofs.partition.partition_slots.Statement.{statement}
 use Rattle.planner.proofs.partition.partition_slots.Tie as tie

@@ -1,6 +1,6 @@
 -- `planner::partition::well_shaped` meets its contract. Assumes nothing.
 use mathlib.Core.Path.{refl}
-use Rattle.planner.specs.Partition.{shaped}
+use Rattle.rules.specs.Partition.{shaped}
 use Rattle.planner.proofs.partition.well_shaped.Statement.{statement}
 use Rattle.planner.proofs.partition.well_shaped.Tie as tie
 

@@ -1,5 +1,5 @@
 -- `planner::plan::content_sides` meets its contract. Assumes nothing.
-use Rattle.planner.specs.Plan.{contentSides}
+use Rattle.rules.specs.Plan.{contentSides}
 use borrow.Author.Needs.{needs}
 use Rattle.planner.proofs.plan.content_sides.Statement.{statement}
 use Rattle.planner.proofs.plan.content_sides.Tie as tie

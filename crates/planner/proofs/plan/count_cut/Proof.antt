@@ -4,13 +4,13 @@ use Prim.Native.Nat.{_≤_, _^_}
 use lib.Dec.{eqb}
 use lib.ListN.{length}
 use borrow.Author.Tests.{eqb-true, eqb-false}
-use Rattle.planner.specs.declared.runs.Tally.{Tally}
-use Rattle.planner.specs.declared.runs.Frame.{Frame}
-use Rattle.planner.specs.declared.plan.FinalCut.{FinalCut}
-use Rattle.planner.specs.Runs.{axisTally, expansions, tallies}
-use Rattle.planner.specs.Plan.{readyRuns, readyShifts, within, readyFrame}
-use Rattle.planner.proofs.Laws.{slots-mid}
-use Rattle.planner.proofs.PlanLaws.{cutAs, cut-none, cut-some}
+use Rattle.rules.specs.declared.runs.Tally.{Tally}
+use Rattle.rules.specs.declared.runs.Frame.{Frame}
+use Rattle.rules.specs.declared.plan.FinalCut.{FinalCut}
+use Rattle.rules.specs.Runs.{axisTally, expansions, tallies}
+use Rattle.rules.specs.Plan.{readyRuns, readyShifts, within, readyFrame}
+use Rattle.rules.proofs.Laws.{slots-mid}
+use Rattle.rules.proofs.PlanLaws.{cutAs, cut-none, cut-some}
 use native.Mathlib.Omega.{arith}
 use borrow.Author.Needs.{needs}
 use Rattle.planner.proofs.plan.count_cut.Statement.{statement}

@@ -1,6 +1,6 @@
 -- `planner::plan::first_no` meets its contract. Assumes nothing.
 use mathlib.Core.Path.{_∙_}
-use Rattle.planner.specs.Plan.{formed, inGrid, firstNo}
+use Rattle.rules.specs.Plan.{formed, inGrid, firstNo}
 use borrow.Author.Needs.{needs}
 use Rattle.planner.proofs.plan.first_no.Statement.{statement}
 use Rattle.planner.proofs.plan.first_no.Tie as tie

@@ -1,6 +1,6 @@
 -- `planner::plan::first_refused` meets its contract. Assumes nothing.
 use borrow.Author.Tests.{not-true, not-false}
-use Rattle.planner.proofs.PlanLaws.{no-six, no-seven, no-eight, no-nine, no-none}
+use Rattle.rules.proofs.PlanLaws.{no-six, no-seven, no-eight, no-nine, no-none}
 use Rattle.planner.proofs.plan.first_refused.Statement.{statement}
 use Rattle.planner.proofs.plan.first_refused.Tie as tie
 

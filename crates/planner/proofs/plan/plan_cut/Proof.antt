@@ -2,13 +2,13 @@
 use mathlib.Core.Path.{_≡_, sym, ap, subst, _∙_}
 use Prim.Native.Nat.{ℕ, _+_, _*_, _≤_, _<_}
 use lib.ListN.{length}
-use Rattle.planner.specs.declared.pages.Plan.{Plan}
-use Rattle.planner.specs.declared.pages.Notes.{Notes}
-use Rattle.planner.specs.Scale.{scaleOf, spaceOf}
-use Rattle.planner.specs.Pages.{runLists, orEmpty}
-use Rattle.planner.specs.Plan.{AxisInput, Layout, titleOf, axisFor, sidesOf, cutRuns, cutShifts, layoutAt, roomFor, cutOf, readyRuns, readyShifts}
-use Rattle.planner.proofs.TitleLaws.{ignored-le, expanded-le}
-use Rattle.planner.proofs.PlanLaws.{cuttable, cut-of, row-count, column-count, page-count, refuses-plan, answers-plan, no-row-room, no-column-room, too-many, room-enough, room-of, few-pages, overflows-few, overflows-of, written-of, plan-value}
+use Rattle.rules.specs.declared.pages.Plan.{Plan}
+use Rattle.rules.specs.declared.pages.Notes.{Notes}
+use Rattle.rules.specs.Scale.{scaleOf, spaceOf}
+use Rattle.rules.specs.Pages.{runLists, orEmpty}
+use Rattle.rules.specs.Plan.{AxisInput, Layout, titleOf, axisFor, sidesOf, cutRuns, cutShifts, layoutAt, roomFor, cutOf, readyRuns, readyShifts}
+use Rattle.rules.proofs.TitleLaws.{ignored-le, expanded-le}
+use Rattle.rules.proofs.PlanLaws.{cuttable, cut-of, row-count, column-count, page-count, refuses-plan, answers-plan, no-row-room, no-column-room, too-many, room-enough, room-of, few-pages, overflows-few, overflows-of, written-of, plan-value}
 use native.Mathlib.Omega.{arith}
 use borrow.Author.Needs.{needs}
 use Rattle.planner.proofs.plan.plan_cut.Statement.{statement}

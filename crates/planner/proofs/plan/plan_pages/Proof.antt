@@ -5,11 +5,11 @@ use Prim.Native.Nat.{ℕ}
 use lib.ListN.{length, take}
 use lib.Seq.{length-take-le}
 use Rattle.geometry.specs.Outcome.{Outcome, given, refused}
-use Rattle.planner.specs.declared.plan.SidesFound.{SidesFound}
-use Rattle.planner.specs.Pages.{runLists, evenLists}
-use Rattle.planner.specs.Plan.{AxisInput, Sides, rowsOf, columnsOf, lookedAt, axisFor, sidesOf, sidesOutcome, contentSides, firstNo}
-use Rattle.planner.proofs.Demand.{clauses}
-use Rattle.planner.proofs.PlanLaws.{even-of, formed-of, is-refused, is-asked, refuses-plan, no-breaks, looked, looked-few, ten-of, sides-of, relay-call, rows-fine, columns-fine}
+use Rattle.rules.specs.declared.plan.SidesFound.{SidesFound}
+use Rattle.rules.specs.Pages.{runLists, evenLists}
+use Rattle.rules.specs.Plan.{AxisInput, Sides, rowsOf, columnsOf, lookedAt, axisFor, sidesOf, sidesOutcome, contentSides, firstNo}
+use Rattle.rules.proofs.Demand.{clauses}
+use Rattle.rules.proofs.PlanLaws.{even-of, formed-of, is-refused, is-asked, refuses-plan, no-breaks, looked, looked-few, ten-of, sides-of, relay-call, rows-fine, columns-fine}
 use borrow.Author.Needs.{needs}
 use Rattle.planner.proofs.plan.plan_pages.Statement.{statement}
 use Rattle.planner.proofs.plan.plan_pages.Tie as tie

@@ -1,22 +1,21 @@
 -- `planner::plan::ready_axis` meets its contract. Assumes nothing.
 use mathlib.Core.Path.{_≡_, refl, sym, ap, _∙_}
 use Prim.Native.Nat.{ℕ, _+_, max}
-use Rattle.planner.proofs.TitleLaws.{title-total-le}
+use Rattle.rules.proofs.TitleLaws.{title-total-le}
 use lib.ListN.{length}
-use Rattle.planner.specs.declared.titles.Title.{Title}
-use Rattle.planner.specs.declared.titles.Widened.{Widened}
-use Rattle.planner.specs.Slots.{below}
-use Rattle.planner.specs.Titles.{bodyStart, titleTotal}
-use Rattle.planner.specs.Plan.{spaceOn}
-use Rattle.planner.proofs.PlanLaws.{start-small}
+use Rattle.rules.specs.declared.titles.Title.{Title}
+use Rattle.rules.specs.declared.titles.Widened.{Widened}
+use Rattle.rules.specs.Slots.{below}
+use Rattle.rules.specs.Titles.{bodyStart, titleTotal}
+use Rattle.rules.specs.Plan.{spaceOn}
+use Rattle.rules.proofs.PlanLaws.{start-small}
 use native.Mathlib.Omega.{arith}
 use borrow.Author.Needs.{needs}
 use Rattle.planner.proofs.plan.ready_axis.Statement.{statement}
 use Rattle.planner.proofs.plan.ready_axis.Tie as tie
 
 widened-title-requires : tie.Need-widened-title-requires
-widened-title-requires c κs =
-    c .before .before .before .before .pre .merges
+widened-title-requires c κs = search needs
 
 title-total-requires : tie.Need-title-total-requires
 title-total-requires c κs =

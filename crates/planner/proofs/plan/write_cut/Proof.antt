@@ -3,15 +3,15 @@ use mathlib.Core.Path.{_≡_, sym, ap, subst, _∙_}
 use Prim.Native.Nat.{ℕ}
 use lib.ListN.{length}
 use lib.Seq.{length-take-le}
-use Rattle.planner.specs.declared.runs.Frame.{Frame}
-use Rattle.planner.specs.declared.plan.FinalCut.{FinalCut}
-use Rattle.planner.specs.Runs.{axisRuns}
-use Rattle.planner.specs.Lent.{Written}
-use Rattle.planner.specs.Scale.{spaceOf}
-use Rattle.planner.specs.Pages.{orEmpty}
-use Rattle.planner.specs.Plan.{readyRuns, readyFrame, within}
-use Rattle.planner.proofs.Laws.{slots-mid}
-use Rattle.planner.proofs.PlanLaws.{as-many, Front, front-of, recount, overflow-front, runs-moderate, taken-moderate, taken-even}
+use Rattle.rules.specs.declared.runs.Frame.{Frame}
+use Rattle.rules.specs.declared.plan.FinalCut.{FinalCut}
+use Rattle.rules.specs.Runs.{axisRuns}
+use Rattle.rules.specs.Lent.{Written}
+use Rattle.rules.specs.Scale.{spaceOf}
+use Rattle.rules.specs.Pages.{orEmpty}
+use Rattle.rules.specs.Plan.{readyRuns, readyFrame, within}
+use Rattle.rules.proofs.Laws.{slots-mid}
+use Rattle.rules.proofs.PlanLaws.{as-many, Front, front-of, recount, overflow-front, runs-moderate, taken-moderate, taken-even}
 use native.Mathlib.Omega.{arith}
 use borrow.Author.Needs.{needs}
 use Rattle.planner.proofs.plan.write_cut.Statement.{statement}

@@ -3,10 +3,8 @@ use borrow.Author.Tests.{lt-ltb, le-ltb}
 use borrow.Author.Needs.{needs}
 use Rattle.planner.proofs.runs.capacity_for.Statement.{statement}
 use Rattle.planner.proofs.runs.capacity_for.Tie as tie
-use Rattle.planner.proofs.runs.capacity_for.Reads as reads
-use Rattle.planner.proofs.runs.capacity_for.Lts as lts
-use Rattle.planner.specs.Titles.{pastTitle}
-use Rattle.planner.specs.Runs.{capacityAt}
+use Rattle.rules.specs.Titles.{pastTitle}
+use Rattle.rules.specs.Runs.{capacityAt}
 
 enum-known-title : tie.Need-enum-known-title
 enum-known-title c = search needs

@@ -1,7 +1,7 @@
-use Rattle.planner.proofs.AxisLaws.{stretch-length, stretch-expansions, axis-more, axis-end, shifts-more, shifts-end, expansions-append}
-use Rattle.planner.proofs.Laws.{length-mid, slots-mid}
-use Rattle.planner.specs.declared.runs.Tally.{Tally}
-use Rattle.planner.specs.declared.runs.Counted.{Counted}
+use Rattle.rules.proofs.AxisLaws.{stretch-length, stretch-expansions, axis-more, axis-end, shifts-more, shifts-end, expansions-append}
+use Rattle.rules.proofs.Laws.{length-mid, slots-mid}
+use Rattle.rules.specs.declared.runs.Tally.{Tally}
+use Rattle.rules.specs.declared.runs.Counted.{Counted}
 use lib.ListN.{length, drop, length-append}
 -- `planner::runs::count_axis` meets its contract. The loop's invariant: what is counted, and what the axis has from the last kept cut on, is all.
 -- Assumes nothing.
@@ -12,12 +12,8 @@ use borrow.Author.Needs.{needs}
 use native.Mathlib.Omega.{arith}
 use Rattle.planner.proofs.runs.count_axis.Statement.{statement}
 use Rattle.planner.proofs.runs.count_axis.Tie as tie
-use Rattle.planner.proofs.runs.count_axis.Reads as reads
-use Rattle.planner.proofs.runs.count_axis.Lts as lts
-use Rattle.planner.proofs.runs.count_runs.Reads as count-runs-reads
-use Rattle.planner.proofs.runs.next_cut.Reads as next-cut-reads
-use Rattle.planner.specs.Slots.{Slots}
-use Rattle.planner.specs.Runs.{axisRuns, shifts, stretch, axisTally, tallies, runs, expansions, Run}
+use Rattle.rules.specs.Slots.{Slots}
+use Rattle.rules.specs.Runs.{axisRuns, shifts, stretch, axisTally, tallies, runs, expansions, Run}
 
 abbrev Inv-loop : tie.InvT-loop
 Inv-loop k mfirsts mlasts breaks indexes sizes end₀ prev₀ count₀ grown₀ shifted₀ j₀ prev count grown shifted j =

@@ -1,8 +1,8 @@
 -- `planner::runs::count_runs` meets its contract. The loop's invariant: the runs counted, and those of the slots that are left, are all.
 -- Assumes nothing.
-use Rattle.planner.proofs.Laws.{slots-part, length-part, turn, none}
-use Rattle.planner.specs.Lent.{counts}
-use Rattle.planner.specs.declared.runs.RunEnd.{RunEnd}
+use Rattle.rules.proofs.Laws.{slots-part, length-part, turn, none}
+use Rattle.rules.specs.Lent.{counts}
+use Rattle.rules.specs.declared.runs.RunEnd.{RunEnd}
 use lib.ListN.{length}
 use Prim.Native.Nat.{ℕ, _+_, _≤_}
 use mathlib.Core.List.{List}
@@ -11,11 +11,8 @@ use borrow.Author.Needs.{needs}
 use native.Mathlib.Omega.{arith}
 use Rattle.planner.proofs.runs.count_runs.Statement.{statement}
 use Rattle.planner.proofs.runs.count_runs.Tie as tie
-use Rattle.planner.proofs.runs.count_runs.Reads as reads
-use Rattle.planner.proofs.runs.count_runs.Lts as lts
-use Rattle.planner.proofs.runs.run_end.Reads as run-end-reads
-use Rattle.planner.specs.Slots.{Slots}
-use Rattle.planner.specs.Runs.{run, runs, expansions, Run}
+use Rattle.rules.specs.Slots.{Slots}
+use Rattle.rules.specs.Runs.{run, runs, expansions, Run}
 
 abbrev Inv-loop : tie.InvT-loop
 Inv-loop k mfirsts mlasts indexes sizes is₀ ss₀ count₀ grown₀ is ss count grown =

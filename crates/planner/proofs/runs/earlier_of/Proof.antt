@@ -2,11 +2,8 @@ use borrow.Author.Tests.{lt-ltb, le-ltb, le-leb, lt-leb}
 use borrow.Author.Needs.{needs}
 use Rattle.planner.proofs.runs.earlier_of.Statement.{statement}
 use Rattle.planner.proofs.runs.earlier_of.Tie as tie
-use Rattle.planner.proofs.runs.earlier_of.Reads as reads
-use Rattle.planner.proofs.runs.earlier_of.Lts as lts
-use Rattle.planner.proofs.runs.lesser.Reads as lesser-reads
-use Rattle.planner.specs.Titles.{holds}
-use Rattle.planner.specs.Runs.{earlier, nearer}
+use Rattle.rules.specs.Titles.{holds}
+use Rattle.rules.specs.Runs.{earlier, nearer}
 
 enum-known-held : tie.Need-enum-known-held
 enum-known-held c = search needs

@@ -1,6 +1,6 @@
 -- `planner::runs::holding_merge` meets its contract. The loop goes down, so that its invariant is the definition at the merges passed.
 -- Assumes nothing.
-use Rattle.planner.proofs.MergeLaws.{holding-none, holding-back}
+use Rattle.rules.proofs.MergeLaws.{holding-none, holding-back}
 use mathlib.Core.Path.{_≡_, sym, _∙_}
 use lib.ListN.{length, drop}
 use Prim.Native.Nat.{_+_, _*_, _-_, _≤_}
@@ -8,12 +8,7 @@ use borrow.Author.Needs.{needs}
 use native.Mathlib.Omega.{arith}
 use Rattle.planner.proofs.runs.holding_merge.Statement.{statement}
 use Rattle.planner.proofs.runs.holding_merge.Tie as tie
-use Rattle.planner.proofs.runs.holding_merge.Reads as reads
-use Rattle.planner.proofs.runs.holding_merge.Lts as lts
-use Rattle.planner.proofs.runs.greater.Reads as greater-reads
-use Rattle.planner.proofs.runs.lesser.Reads as lesser-reads
-use Rattle.planner.proofs.runs.nearer_of.Reads as nearer-of-reads
-use Rattle.planner.specs.Runs.{nearer, holding}
+use Rattle.rules.specs.Runs.{nearer, holding}
 
 abbrev Inv-loop : tie.InvT-loop
 Inv-loop firsts lasts lo hi b i₀ held₀ i held = (i ≤ length firsts) × (held ≡ holding lo hi b (drop i firsts) (drop i lasts))

@@ -1,17 +1,13 @@
 -- `planner::runs::merge_step` meets its contract. Assumes nothing.
 use mathlib.Core.Path.{_≡_, ap, _∙_}
 use Prim.Native.Nat.{ℕ, _+_}
-use Rattle.planner.proofs.EndLaws.{step-start, step-far, step-stay}
+use Rattle.rules.proofs.EndLaws.{step-start, step-far, step-stay}
 use borrow.Author.Tests.{lt-ltb, le-ltb, le-leb, lt-leb}
 use borrow.Author.Needs.{needs}
 use Rattle.planner.proofs.runs.merge_step.Statement.{statement}
 use Rattle.planner.proofs.runs.merge_step.Tie as tie
-use Rattle.planner.proofs.runs.merge_step.Reads as reads
-use Rattle.planner.proofs.runs.merge_step.Lts as lts
-use Rattle.planner.proofs.runs.slots_below.Reads as slots-below-reads
-use Rattle.planner.proofs.runs.wide.Reads as wide-reads
-use Rattle.planner.specs.Slots.{below}
-use Rattle.planner.specs.Runs.{mergeStep, merged}
+use Rattle.rules.specs.Slots.{below}
+use Rattle.rules.specs.Runs.{mergeStep, merged}
 
 enum-known-held : tie.Need-enum-known-held
 enum-known-held c = search needs

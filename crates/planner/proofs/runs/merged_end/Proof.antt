@@ -3,11 +3,7 @@ use borrow.Author.Tests.{lt-ltb, le-ltb, le-leb, lt-leb}
 use borrow.Author.Needs.{needs}
 use Rattle.planner.proofs.runs.merged_end.Statement.{statement}
 use Rattle.planner.proofs.runs.merged_end.Tie as tie
-use Rattle.planner.proofs.runs.merged_end.Reads as reads
-use Rattle.planner.proofs.runs.merged_end.Lts as lts
-use Rattle.planner.proofs.runs.holding_merge.Reads as holding-merge-reads
-use Rattle.planner.proofs.runs.merge_step.Reads as merge-step-reads
-use Rattle.planner.specs.Runs.{mergeStep, merged}
+use Rattle.rules.specs.Runs.{mergeStep, merged}
 
 returns : tie.Need-returns
 unfolding mergeStep merged

@@ -1,16 +1,12 @@
 -- `planner::runs::moved_cut` meets its contract. Assumes nothing.
-use Rattle.planner.proofs.AxisLaws.{moved-start, moved-past}
+use Rattle.rules.proofs.AxisLaws.{moved-start, moved-past}
 use Prim.Native.Nat.{ℕ, _+_}
 use mathlib.Core.Path.{_≡_, ap, _∙_}
 use borrow.Author.Needs.{needs}
 use Rattle.planner.proofs.runs.moved_cut.Statement.{statement}
 use Rattle.planner.proofs.runs.moved_cut.Tie as tie
-use Rattle.planner.proofs.runs.moved_cut.Reads as reads
-use Rattle.planner.proofs.runs.moved_cut.Lts as lts
-use Rattle.planner.proofs.runs.slots_below.Reads as slots-below-reads
-use Rattle.planner.proofs.runs.wide.Reads as wide-reads
-use Rattle.planner.specs.Slots.{below}
-use Rattle.planner.specs.Runs.{moved}
+use Rattle.rules.specs.Slots.{below}
+use Rattle.rules.specs.Runs.{moved}
 
 enum-known-held : tie.Need-enum-known-held
 enum-known-held c = search needs

@@ -2,11 +2,8 @@ use borrow.Author.Tests.{lt-ltb, le-ltb, le-leb, lt-leb}
 use borrow.Author.Needs.{needs}
 use Rattle.planner.proofs.runs.nearer_of.Statement.{statement}
 use Rattle.planner.proofs.runs.nearer_of.Tie as tie
-use Rattle.planner.proofs.runs.nearer_of.Reads as reads
-use Rattle.planner.proofs.runs.nearer_of.Lts as lts
-use Rattle.planner.proofs.runs.earlier_of.Reads as earlier-of-reads
-use Rattle.planner.specs.Titles.{holds}
-use Rattle.planner.specs.Runs.{earlier, nearer}
+use Rattle.rules.specs.Titles.{holds}
+use Rattle.rules.specs.Runs.{earlier, nearer}
 
 earlier-of-requires : tie.Need-earlier-of-requires
 earlier-of-requires c κs = search needs

@@ -1,6 +1,6 @@
 -- `planner::runs::next_cut` meets its contract. Assumes nothing.
-use Rattle.planner.proofs.AxisLaws.{placed-shifted, kept-yes, kept-past, kept-low, next-is}
-use Rattle.planner.specs.declared.runs.Cut.{Cut}
+use Rattle.rules.proofs.AxisLaws.{placed-shifted, kept-yes, kept-past, kept-low, next-is}
+use Rattle.rules.specs.declared.runs.Cut.{Cut}
 use lib.ListN.{length}
 use native.Mathlib.Omega.{arith}
 use Prim.Native.Nat.{ℕ, _≤_}
@@ -8,13 +8,8 @@ use mathlib.Core.Path.{_≡_, sym, ap, subst, _∙_}
 use borrow.Author.Needs.{needs}
 use Rattle.planner.proofs.runs.next_cut.Statement.{statement}
 use Rattle.planner.proofs.runs.next_cut.Tie as tie
-use Rattle.planner.proofs.runs.next_cut.Reads as reads
-use Rattle.planner.proofs.runs.next_cut.Lts as lts
-use Rattle.planner.proofs.runs.placed_cut.Reads as placed-cut-reads
-use Rattle.planner.proofs.runs.slots_below.Reads as slots-below-reads
-use Rattle.planner.proofs.runs.wide.Reads as wide-reads
-use Rattle.planner.specs.Slots.{below}
-use Rattle.planner.specs.Runs.{kept, nextCut}
+use Rattle.rules.specs.Slots.{below}
+use Rattle.rules.specs.Runs.{kept, nextCut}
 
 wide-requires : tie.Need-wide-requires
 wide-requires c κs = search needs

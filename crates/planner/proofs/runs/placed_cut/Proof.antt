@@ -1,17 +1,12 @@
 -- `planner::runs::placed_cut` meets its contract. Assumes nothing.
-use Rattle.planner.proofs.AxisLaws.{placed-zero, placed-past, placed-title, placed-moved}
-use Rattle.planner.specs.declared.runs.Held.{Held}
+use Rattle.rules.proofs.AxisLaws.{placed-zero, placed-past, placed-title, placed-moved}
+use Rattle.rules.specs.declared.runs.Held.{Held}
 use native.Mathlib.Omega.{arith}
 use mathlib.Core.Path.{_≡_, sym, ap, _∙_}
 use borrow.Author.Needs.{needs}
 use Rattle.planner.proofs.runs.placed_cut.Statement.{statement}
 use Rattle.planner.proofs.runs.placed_cut.Tie as tie
-use Rattle.planner.proofs.runs.placed_cut.Reads as reads
-use Rattle.planner.proofs.runs.placed_cut.Lts as lts
-use Rattle.planner.proofs.runs.holding_merge.Reads as holding-merge-reads
-use Rattle.planner.proofs.runs.moved_cut.Reads as moved-cut-reads
-use Rattle.planner.proofs.runs.title_holds.Reads as title-holds-reads
-use Rattle.planner.specs.Runs.{moved}
+use Rattle.rules.specs.Runs.{moved}
 
 returns : tie.Need-returns
 returns c =

@@ -1,17 +1,13 @@
 -- `planner::runs::run_end` meets its contract. Assumes nothing.
 use native.Mathlib.Omega.{arith}
-use Rattle.planner.proofs.EndLaws.{Within, merged-within}
-use Rattle.planner.specs.declared.runs.RunEnd.{RunEnd}
+use Rattle.rules.proofs.EndLaws.{Within, merged-within}
+use Rattle.rules.specs.declared.runs.RunEnd.{RunEnd}
 use Prim.Native.Nat.{ℕ}
 use mathlib.Core.Path.{_≡_, sym, ap, subst, _∙_}
 use borrow.Author.Needs.{needs}
 use Rattle.planner.proofs.runs.run_end.Statement.{statement}
 use Rattle.planner.proofs.runs.run_end.Tie as tie
-use Rattle.planner.proofs.runs.run_end.Reads as reads
-use Rattle.planner.proofs.runs.run_end.Lts as lts
-use Rattle.planner.proofs.runs.merged_end.Reads as merged-end-reads
-use Rattle.planner.proofs.runs.taken_slots.Reads as taken-slots-reads
-use Rattle.planner.specs.Runs.{merged, runEnd}
+use Rattle.rules.specs.Runs.{merged, runEnd}
 
 taken-slots-requires : tie.Need-taken-slots-requires
 taken-slots-requires c κs = search needs

@@ -1,6 +1,6 @@
 -- `planner::runs::slots_below` meets its contract. The loop's invariant: what is passed, and what the definition still counts from here, is the whole.
 -- Assumes nothing.
-use Rattle.planner.proofs.EndLaws.{below-yes, below-no, below-end}
+use Rattle.rules.proofs.EndLaws.{below-yes, below-no, below-end}
 use lib.ListN.{length, drop}
 use Prim.Native.Nat.{_+_, _-_, _≤_, _<_}
 use mathlib.Core.Path.{_≡_}
@@ -8,10 +8,7 @@ use borrow.Author.Needs.{needs}
 use native.Mathlib.Omega.{arith}
 use Rattle.planner.proofs.runs.slots_below.Statement.{statement}
 use Rattle.planner.proofs.runs.slots_below.Tie as tie
-use Rattle.planner.proofs.runs.slots_below.Reads as reads
-use Rattle.planner.proofs.runs.slots_below.Lts as lts
-use Rattle.planner.proofs.runs.wide.Reads as wide-reads
-use Rattle.planner.specs.Slots.{below}
+use Rattle.rules.specs.Slots.{below}
 
 abbrev Inv-loop : tie.InvT-loop
 Inv-loop indexes limit n₀ n = (n ≤ length indexes) × (n + below limit (drop n indexes) ≡ below limit indexes)

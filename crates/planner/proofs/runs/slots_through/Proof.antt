@@ -2,8 +2,8 @@
 use mathlib.Core.Path.{_≡_, refl, ap, sym, _∙_}
 use Prim.Native.Nat.{ℕ, zero, suc, _+_, _-_, _≤_}
 use lib.ListN.{length, drop}
-use Rattle.planner.specs.Slots.{through}
-use Rattle.planner.proofs.EndLaws.{through-none, through-found, through-passed, through-front}
+use Rattle.rules.specs.Slots.{through}
+use Rattle.rules.proofs.EndLaws.{through-none, through-found, through-passed, through-front}
 use borrow.Author.Needs.{needs}
 use native.Mathlib.Omega.{arith}
 use Rattle.planner.proofs.runs.slots_through.Statement.{statement}

@@ -1,16 +1,11 @@
 -- `planner::runs::taken_slots` meets its contract. Assumes nothing.
-use Rattle.planner.proofs.EndLaws.{taken-all, taken-more}
+use Rattle.rules.proofs.EndLaws.{taken-all, taken-more}
 use Prim.Native.Nat.{ℕ}
 use mathlib.Core.Path.{_≡_, ap, _∙_}
 use borrow.Author.Needs.{needs}
 use Rattle.planner.proofs.runs.taken_slots.Statement.{statement}
 use Rattle.planner.proofs.runs.taken_slots.Tie as tie
-use Rattle.planner.proofs.runs.taken_slots.Reads as reads
-use Rattle.planner.proofs.runs.taken_slots.Lts as lts
-use Rattle.planner.proofs.runs.capacity_for.Reads as capacity-for-reads
-use Rattle.planner.proofs.runs.natural_fill.Reads as natural-fill-reads
-use Rattle.planner.proofs.runs.title_end.Reads as title-end-reads
-use Rattle.planner.specs.Runs.{filled, natural}
+use Rattle.rules.specs.Runs.{filled, natural}
 
 shared-slice-read-capacity-for : tie.Need-shared-slice-read-capacity-for
 shared-slice-read-capacity-for c = search needs

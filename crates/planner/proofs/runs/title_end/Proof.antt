@@ -1,16 +1,13 @@
 use native.Mathlib.Omega.{arith}
 -- `planner::runs::title_end` meets its contract. Assumes nothing.
-use Rattle.planner.proofs.EndLaws.{title-holds, title-before, title-after}
-use Rattle.planner.proofs.Laws.{part, slots-part, length-part}
+use Rattle.rules.proofs.EndLaws.{title-holds, title-before, title-after}
+use Rattle.rules.proofs.Laws.{part, slots-part, length-part}
 use Prim.Native.Nat.{ℕ, _+_}
 use mathlib.Core.Path.{_≡_, ap, _∙_}
 use borrow.Author.Needs.{needs}
 use Rattle.planner.proofs.runs.title_end.Statement.{statement}
 use Rattle.planner.proofs.runs.title_end.Tie as tie
-use Rattle.planner.proofs.runs.title_end.Reads as reads
-use Rattle.planner.proofs.runs.title_end.Lts as lts
-use Rattle.planner.proofs.runs.resumed_fill.Reads as resumed-fill-reads
-use Rattle.planner.specs.Runs.{resumption}
+use Rattle.rules.specs.Runs.{resumption}
 
 enum-known-title : tie.Need-enum-known-title
 enum-known-title c = search needs

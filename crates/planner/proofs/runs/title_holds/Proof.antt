@@ -3,9 +3,7 @@ use borrow.Author.Tests.{lt-ltb, le-ltb, le-leb, lt-leb}
 use borrow.Author.Needs.{needs}
 use Rattle.planner.proofs.runs.title_holds.Statement.{statement}
 use Rattle.planner.proofs.runs.title_holds.Tie as tie
-use Rattle.planner.proofs.runs.title_holds.Reads as reads
-use Rattle.planner.proofs.runs.title_holds.Lts as lts
-use Rattle.planner.specs.Titles.{titleHolds}
+use Rattle.rules.specs.Titles.{titleHolds}
 
 enum-known-title : tie.Need-enum-known-title
 enum-known-title c = search needs

@@ -3,11 +3,11 @@ use mathlib.Core.Path.{_≡_, sym, subst, _∙_}
 use mathlib.Core.List.{List}
 use Prim.Native.Nat.{ℕ, min}
 use native.Mathlib.Omega.{arith}
-use Rattle.planner.specs.Runs.{Run, runs, firstMarked, stretch}
-use Rattle.planner.specs.Slots.{mid}
-use Rattle.planner.specs.Lent.{Room, Written, firsts, lasts, sizes, marks}
-use Rattle.planner.proofs.Laws.{part, length-part, slots-mid}
-use Rattle.planner.proofs.Lent.{put-rest}
+use Rattle.rules.specs.Runs.{Run, runs, firstMarked, stretch}
+use Rattle.rules.specs.Slots.{mid}
+use Rattle.rules.specs.Lent.{Room, Written, firsts, lasts, sizes, marks}
+use Rattle.rules.proofs.Laws.{part, length-part, slots-mid}
+use Rattle.rules.proofs.Lent.{put-rest}
 use borrow.Author.Needs.{needs}
 use Rattle.planner.proofs.runs.write_stretch.Statement.{statement}
 use Rattle.planner.proofs.runs.write_stretch.Tie as tie

@@ -5,10 +5,10 @@ use mathlib.Core.List.{List}
 use Prim.Native.Nat.{ℕ, _+_, _≤_}
 use native.Mathlib.Omega.{arith}
 use lib.ListN.{length}
-use Rattle.planner.specs.declared.runs.Frame.{Frame}
-use Rattle.planner.specs.Runs.{Run, runs}
-use Rattle.planner.specs.Scale.{runsAt, meets, spaceOf, bodyFor}
-use Rattle.planner.proofs.ScaleLaws.{no-runs, some-runs}
+use Rattle.rules.specs.declared.runs.Frame.{Frame}
+use Rattle.rules.specs.Runs.{Run, runs}
+use Rattle.rules.specs.Scale.{runsAt, meets, spaceOf, bodyFor}
+use Rattle.rules.proofs.ScaleLaws.{no-runs, some-runs}
 use borrow.Author.Needs.{needs}
 use Rattle.planner.proofs.scale.axis_passes.Statement.{statement}
 use Rattle.planner.proofs.scale.axis_passes.Tie as tie

@@ -10,7 +10,7 @@ use mir.Val.{SFits, toZ, ofZ}
 use mir.ValLaws.{toZ-pos, toZ-ofZ}
 use Rattle.geometry.specs.declared.units.Length.{Length}
 use Rattle.geometry.specs.Units.{lengthOutcome, scaleFixed}
-use Rattle.planner.specs.Scale.{atMost, fitsSide}
+use Rattle.rules.specs.Scale.{atMost, fitsSide}
 use borrow.Author.Needs.{needs}
 use Rattle.planner.proofs.scale.fits_side.Statement.{statement}
 use Rattle.planner.proofs.scale.fits_side.Tie as tie

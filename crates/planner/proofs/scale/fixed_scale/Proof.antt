@@ -1,7 +1,7 @@
 -- `planner::scale::fixed_scale` meets its contract. Assumes nothing.
 use mathlib.Core.Path.{_≡_}
 use native.Mathlib.Omega.{arith}
-use Rattle.planner.proofs.ScaleLaws.{too-small, too-large, kept}
+use Rattle.rules.proofs.ScaleLaws.{too-small, too-large, kept}
 use borrow.Author.Needs.{needs}
 use Rattle.planner.proofs.scale.fixed_scale.Statement.{statement}
 use Rattle.planner.proofs.scale.fixed_scale.Tie as tie

@@ -1,6 +1,6 @@
 -- `planner::scale::rendered` meets its contract. Assumes nothing.
 use native.Mathlib.Omega.{arith}
-use Rattle.planner.proofs.ScaleLaws.{takes-absent, takes-past, takes-before}
+use Rattle.rules.proofs.ScaleLaws.{takes-absent, takes-past, takes-before}
 use borrow.Author.Needs.{needs}
 use Rattle.planner.proofs.scale.rendered.Statement.{statement}
 use Rattle.planner.proofs.scale.rendered.Tie as tie

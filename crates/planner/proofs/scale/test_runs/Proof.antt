@@ -6,14 +6,14 @@ use Prim.Native.Nat.{ℕ, _+_, _-_, _^_, _<_, _≤_}
 use native.Mathlib.Omega.{arith}
 use lib.ListN.{length, getD, take}
 use lib.Seq.{length-take-le}
-use Rattle.planner.specs.declared.runs.RunEnd.{RunEnd}
-use Rattle.planner.specs.Slots.{Slots, sum}
-use Rattle.planner.specs.Titles.{pastTitle}
-use Rattle.planner.specs.Runs.{Run, run, runs}
-use Rattle.planner.specs.Scale.{fitsSide, allFit, rendered, spaceOf, titled}
-use Rattle.planner.proofs.Laws.{part, length-part, slots-part, small-take, turn, none}
-use Rattle.planner.proofs.TitleLaws.{small-sum}
-use Rattle.planner.proofs.ScaleLaws.{fit-more}
+use Rattle.rules.specs.declared.runs.RunEnd.{RunEnd}
+use Rattle.rules.specs.Slots.{Slots, sum}
+use Rattle.rules.specs.Titles.{pastTitle}
+use Rattle.rules.specs.Runs.{Run, run, runs}
+use Rattle.rules.specs.Scale.{fitsSide, allFit, rendered, spaceOf, titled}
+use Rattle.rules.proofs.Laws.{part, length-part, slots-part, small-take, turn, none}
+use Rattle.rules.proofs.TitleLaws.{small-sum}
+use Rattle.rules.proofs.ScaleLaws.{fit-more}
 use borrow.Author.Needs.{needs}
 use Rattle.planner.proofs.scale.test_runs.Statement.{statement}
 use Rattle.planner.proofs.scale.test_runs.Tie as tie

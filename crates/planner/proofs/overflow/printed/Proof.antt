@@ -1,0 +1,72 @@
+-- `planner::overflow::printed` meets its contract. Assumes nothing.
+use native.Mathlib.Omega.{arith}
+use Rattle.rules.specs.Scale.{spaceOf}
+use Rattle.rules.proofs.PagesCode.{printed-empty, printed-absent, printed-past, printed-before}
+use borrow.Author.Needs.{needs}
+use Rattle.planner.proofs.overflow.printed.Statement.{statement}
+use Rattle.planner.proofs.overflow.printed.Tie as tie
+
+add-result : tie.Need-add-result
+add-result c = search needs
+
+add-result-2 : tie.Need-add-result-2
+add-result-2 c = search needs
+
+returns : tie.Need-returns
+returns c =
+    let s = c .before .before .before in
+    let a = s .args in
+    (printed-empty (spaceOf (a .page)) (a .title) (a .empty) (a .first) (a .size) (c .before .before .if1 .taken), omega (arith, s .pre .0 .titles-low, s .pre .0 .headings-low, s .pre .1))
+
+enum-known-title : tie.Need-enum-known-title
+enum-known-title c = search needs
+
+enum-told : tie.Need-enum-told
+enum-told c = search needs
+
+add-result-3 : tie.Need-add-result-3
+add-result-3 c = search needs
+
+returns-2 : tie.Need-returns-2
+returns-2 c =
+    let s = c .before .before .before .before in
+    let a = s .args in
+    (printed-absent (spaceOf (a .page)) (a .title) (a .empty) (a .first) (a .size) (c .before .before .before .if1 .left) (c .before .enum-told .given .1), omega (arith, s .pre .0 .headings-low, s .pre .1))
+
+add-result-4 : tie.Need-add-result-4
+add-result-4 c = search needs
+
+add-result-5 : tie.Need-add-result-5
+add-result-5 c = search needs
+
+returns-3 : tie.Need-returns-3
+returns-3 c =
+    let s = c .before .before .before .before .before .before .before in
+    let a = s .args in
+    (printed-past (spaceOf (a .page)) (a .title) (a .empty) (a .first) (a .size) (c .before .before .before .before .before .before .if1 .left) _ _ (c .before .before .before .before .title .given .1) (c .before .before .if2 .taken), omega (arith, s .pre .0 .titles-low, s .pre .0 .headings-low, s .pre .1))
+
+add-result-6 : tie.Need-add-result-6
+add-result-6 c = search needs
+
+returns-4 : tie.Need-returns-4
+returns-4 c =
+    let s = c .before .before .before .before .before .before in
+    let a = s .args in
+    (printed-before (spaceOf (a .page)) (a .title) (a .empty) (a .first) (a .size) (c .before .before .before .before .before .if1 .left) _ _ (c .before .before .before .title .given .1) (c .before .if2 .left), omega (arith, s .pre .0 .headings-low, s .pre .1))
+
+pub printed-spec : {M : Type 1} → statement M
+printed-spec =
+    tie.close
+    (tie.spec
+    add-result
+    add-result-2
+    returns
+    enum-known-title
+    enum-told
+    add-result-3
+    returns-2
+    add-result-4
+    add-result-5
+    returns-3
+    add-result-6
+    returns-4)

@@ -1,0 +1,24 @@
+// What a title takes of a page: document 01, section "Titles".
+use crate::runs::slots_below;
+use crate::runs::total;
+use rules::Title;
+use titles::wide;
+ghost use mathlib.Core.Path.{_≡_};
+ghost use Rattle.rules.specs.Slots.{Slots};
+ghost use Rattle.rules.specs.Titles.{titleTotal};
+
+// The sum of the measured slots in the title.
+pub(crate) fn title_total(title: Title, indexes: &[u32], sizes: &[u64]) -> u64
+    requires { ⌜ Slots (now indexes) (now sizes) ⌝ }
+    ensures { λ r. ⌜ r ≡ titleTotal title (now (indexes .entry)) (now (sizes .entry)) ⌝ }
+{
+    let Title::Pair(first, last) = title else {
+        return 0;
+    };
+    let start = slots_below(indexes, wide(first));
+    let end = slots_below(indexes, wide(last) + 1);
+    if end <= start {
+        return 0;
+    }
+    total(&sizes[start..end])
+}

@@ -1,0 +1,124 @@
+-- Refusal 10, "Arithmetic above within i64?", never arises in a plan: the content's sides are given and moderate, a capacity and a scaled size
+-- of moderate lengths are given, and the questions refuse with other numbers. Assumes nothing.
+use mathlib.Core.Path.{_≡_, refl, sym, ap, _∙_}
+use mathlib.Core.Bool.{Bool, true, false, cond, _&&_}
+use Prim.Native.Nat.{ℕ, zero, suc, _+_, _*_, _/_, _^_, _≤_, _<_}
+use native.Mathlib.Omega.{arith}
+use native.Mathlib.Nat.{div-le-self, mul-le-mul, le-trans}
+use lib.Dec.{leb}
+use lib.IntN.{ℤ, pos, negsuc, negℤ, natAbs, _*ℤ_}
+use lib.Signed.{mag, quotZ}
+use lib.ListN.{length}
+use borrow.Author.Tests.{ne-eqb}
+use Rattle.geometry.specs.Outcome.{Outcome, given, refused, andThen}
+use Rattle.geometry.specs.Units.{inI64, scaleFixed, lessOf, atLeastOne, unscaledCapacity}
+use Rattle.geometry.proofs.Signs.{inside}
+use Rattle.geometry.proofs.Scaling.{scaled}
+use Rattle.geometry.proofs.Content.{paper-given, content-given}
+use Rattle.rules.specs.declared.plan.Settings.{Settings}
+use Rattle.rules.specs.Questions.{ask, equallyLong, risingWithin, allSmall}
+use Rattle.rules.specs.Scale.{units}
+use Rattle.rules.specs.Pages.{RunLists, evenLists}
+use Rattle.rules.specs.Plan.{AxisInput, Sides, Layout, contentSides, layout, formed, inGrid, roomFor, planned}
+
+-- ---- the content's sides
+
+pub sides-given : (s : Settings) → (c : Sides) × (contentSides s ≡ given c) × (mag (c .width) < 2 ^ 53) × (mag (c .height) < 2 ^ 53)
+unfolding contentSides
+sides-given s =
+    let p = paper-given (s .paper) (s .landscape) in
+    let c = content-given (p .paper .width) (p .paper .height) (s .margins) (p .wide) (p .high) in (
+      record { width = c .content .width; height = c .content .height; unknown = p .paper .unknown; invalid = c .content .invalid },
+      rw (p .is, c .is) refl,
+      c .wide,
+      c .high,
+    )
+
+-- ---- a capacity
+
+-- a length that is given and not negative is that of its units
+of-units : (o : Outcome ℤ) (n : ℕ) → o ≡ given (pos n) → o ≡ given (pos (units o))
+of-units o n e = e ∙ ap (λ (k : ℕ). given (pos k)) (sym (ap units e))
+
+-- "never under 1"
+one-pos : (o : Outcome ℤ) → atLeastOne o ≡ pos (natAbs (atLeastOne o))
+one-pos (given (pos n)) = by (leb 1 n)
+  where
+    by : (b : Bool) → cond b (pos n) (pos 1) ≡ pos (natAbs (cond b (pos n) (pos 1)))
+    by true = refl
+    by false = refl
+one-pos (given (negsuc n)) = refl
+one-pos (refused k) = refl
+
+mag-neg : (n : ℕ) → mag (negℤ (pos n)) ≤ n
+mag-neg zero = omega arith
+mag-neg (suc n) = omega arith
+
+mag-quot-neg : (x p : ℕ) → mag (quotZ (negℤ (pos x)) (pos p)) ≤ x
+mag-quot-neg zero p = div-le-self 0 p
+mag-quot-neg (suc x) p = le-trans (mag-neg (suc x / p)) (div-le-self (suc x) p)
+
+mag-quot : (side : ℤ) (p : ℕ) → mag side < 2 ^ 53 → mag (quotZ (side *ℤ pos 1000) (pos p)) < 2 ^ 63
+mag-quot (pos n) p h = omega (arith, div-le-self (n * 1000) p)
+mag-quot (negsuc n) p h = omega (arith, mag-quot-neg (suc n * 1000) p)
+
+-- the capacity, where the quotient is in range
+capacity-is : (side : ℤ) (p : ℕ) (t h q : ℤ) → 0 < p → inI64 (quotZ (side *ℤ pos 1000) (pos p)) ≡ given q
+    → unscaledCapacity side p t h ≡ given (atLeastOne (lessOf (lessOf (given q) (given t)) (given h)))
+unfolding unscaledCapacity
+capacity-is side p t h q P e = rw (ne-eqb p 0 (λ z. omega arith), e) refl
+
+pub capacity-given : (side : ℤ) (p t h : ℕ) → mag side < 2 ^ 53 → 0 < p
+    → unscaledCapacity side p (pos t) (pos h) ≡ given (pos (units (unscaledCapacity side p (pos t) (pos h))))
+capacity-given side p t h M P =
+    let q = quotZ (side *ℤ pos 1000) (pos p) in
+    let rest = lessOf (lessOf (given q) (given (pos t))) (given (pos h)) in
+    of-units (unscaledCapacity side p (pos t) (pos h)) (natAbs (atLeastOne rest))
+    (capacity-is side p (pos t) (pos h) q P (inside q (mag-quot side p M)) ∙ ap given (one-pos rest))
+
+-- ---- a scaled size
+
+pub scaled-given : (x p : ℕ) → x ≤ 2 ^ 53 → p ≤ 4000 → scaleFixed (pos x) p ≡ given (pos ((x * p + 500) / 1000))
+scaled-given x p X P =
+    let h : x * p ≤ 2 ^ 53 * 4000 = mul-le-mul X P in
+    sym (scaled (pos x) p) ∙ inside (pos ((x * p + 500) / 1000)) (omega arith)
+
+-- ---- a plan
+
+asked : {A : Type 0} (n k : ℕ) (b : Bool) (rest : Outcome A) → (n ≡ k → ⊥) → (rest ≡ refused k → ⊥) → ask n b rest ≡ refused k → ⊥
+asked n k true rest d r e = r e
+asked n k false rest d r e = let same : n ≡ k = cc in d same
+
+not-given : {A : Type 0} (a : A) (k : ℕ) → given a ≡ refused k → ⊥
+not-given a k e = let z : _≡_ {A = ℕ} 0 1 = cc in omega arith
+
+room-not-ten : (l : Layout) (row-room column-room limit : ℕ) → roomFor l row-room column-room limit ≡ refused 10 → ⊥
+unfolding roomFor
+room-not-ten l row-room column-room limit =
+    let fits = leb (length (l .rows)) row-room && leb (length (l .columns)) column-room in
+    let few = leb (l .plan .pages) limit in
+    asked 11 10 fits (ask 12 few (given l)) (λ e. omega arith) (asked 12 10 few (given l) (λ e. omega arith) (not-given l 10))
+
+after : (o : Outcome Sides) (c : Sides) (next : Sides → Outcome Layout) → o ≡ given c → (next c ≡ refused 10 → ⊥) → andThen o next ≡ refused 10 → ⊥
+after o c next g n e = n (sym (ap (λ (o : Outcome Sides). andThen o next) g) ∙ e)
+
+pub never-ten : (s : Settings) (rows columns : AxisInput) (lr lc : RunLists) → planned s rows columns lr lc ≡ refused 10 → ⊥
+unfolding planned
+never-ten s rows columns lr lc =
+    let six = formed rows (evenLists lr) && formed columns (evenLists lc) && equallyLong (rows .merge-firsts) (columns .merge-firsts) in
+    let seven = inGrid rows && inGrid columns in
+    let eight = risingWithin (rows .limit) (rows .indexes) && risingWithin (columns .limit) (columns .indexes) in
+    let nine = allSmall (rows .sizes) && allSmall (columns .sizes) in
+    let row-room = length (lr .firsts) in
+    let column-room = length (lc .firsts) in
+    let next : Sides → Outcome Layout = λ c. roomFor (layout s c rows columns) row-room column-room (s .«page_limit») in
+    let after-nine = andThen (contentSides s) next in
+    let after-eight = ask 9 nine after-nine in
+    let after-seven = ask 8 eight after-eight in
+    let after-six = ask 7 seven after-seven in
+    let c = sides-given s in
+    let plan = after (contentSides s) (c .0) next (c .1) (room-not-ten (layout s (c .0) rows columns) row-room column-room (s .«page_limit»)) in
+    asked 6 10 six after-six (λ e. omega arith)
+    (asked 7 10 seven after-seven (λ e. omega arith)
+    (asked 8 10 eight after-eight (λ e. omega arith)
+    (asked 9 10 nine after-nine (λ e. omega arith) plan)))

@@ -1,0 +1,273 @@
+-- Laws of `specs/Pages.antt`'s definitions, for the functions of `src/pages.rt`. Assumes nothing.
+use mathlib.Core.Path.{_≡_, refl, sym, ap, _∙_}
+use mathlib.Core.Bool.{Bool, true, false, cond, _&&_}
+use mathlib.Core.List.{List}
+use Prim.Native.Nat.{ℕ, _+_, _-_, _*_, _/_, _≤_, _<_, min}
+use native.Mathlib.Nat.{div-lt-iff-lt-mul}
+use native.Mathlib.Numerals.{add-one}
+use native.Mathlib.Omega.{arith}
+use lib.Dec.{leb, ltb}
+use lib.ListN.{length, getD, drop, drop-of-length-le}
+use lib.Seq.{drop-cons}
+use borrow.Author.Tests.{lt-ltb, le-ltb, le-leb, lt-leb, leb-true, eqb-true}
+use Rattle.geometry.specs.Outcome.{Outcome, given, refused}
+use Rattle.rules.specs.declared.titles.Title.{Title}
+use Rattle.rules.specs.declared.titles.Title.the-variants.{Absent, Pair}
+use Rattle.rules.specs.declared.pages.PageOrder.{PageOrder}
+use Rattle.rules.specs.declared.pages.PageOrder.the-variants.{DownThenOver, OverThenDown}
+use Rattle.rules.specs.declared.pages.PageRun.{PageRun}
+use Rattle.rules.specs.declared.pages.Page.{Page}
+use Rattle.rules.specs.declared.pages.Place.{Place}
+use Rattle.rules.specs.declared.pages.Plan.{Plan}
+use Rattle.rules.specs.Questions.{ask, equallyLong}
+use Rattle.rules.specs.Titles.{pastTitle}
+use Rattle.rules.specs.Partition.{Even, noOr}
+use Rattle.rules.specs.Scale.{Space, fitsSide}
+use Rattle.rules.specs.Pages.{printed, overflowing, RunLists, runAt, pageAt, inOrder, pagesOf, evenLists, numbered, pageNumbered, placeOf, pageAfter, hasPage, firstNo}
+use Rattle.rules.proofs.QuestionLaws.{both}
+use Rattle.rules.proofs.Division.{split}
+use Rattle.rules.proofs.PageLaws.{numbered-zero, numbered-take, numbered-take-past, verticalOf, horizontalOf, page-of, page-beyond, vertical-below, horizontal-below}
+
+-- ---- what a run takes of a page
+
+module _ (s : Space) (title : Title) (empty : Bool) (first size : ℕ) where
+  pub printed-empty : empty ≡ true → size + s .titles + s .headings ≡ printed s title empty first size
+  printed-empty e = rw e
+
+  pub printed-absent : empty ≡ false → title ≡ Absent → size + s .headings ≡ printed s title empty first size
+  unfolding pastTitle
+  printed-absent e t = rw (e, t) (omega arith)
+
+  pub printed-past : empty ≡ false → (f l : ℕ) → title ≡ Pair f l → l < first → size + s .titles + s .headings ≡ printed s title empty first size
+  unfolding pastTitle
+  printed-past e f l t h = rw (e, t, lt-ltb l first h)
+
+  pub printed-before : empty ≡ false → (f l : ℕ) → title ≡ Pair f l → first ≤ l → size + s .headings ≡ printed s title empty first size
+  unfolding pastTitle
+  printed-before e f l t h = rw (e, t, le-ltb l first h) (omega arith)
+
+-- ---- overflowing runs: the run at k, and those after it
+
+module _ (s : Space) (t : Title) (p : ℕ) (empty : Bool) (k : ℕ) (fs zs : List ℕ) where
+  overflow-next : k < length fs → k < length zs
+      → overflowing s t p empty (drop k fs) (drop k zs)
+      ≡ cond (fitsSide s p (printed s t empty (getD fs k 0) (getD zs k 0))) 0 1 + overflowing s t p empty (drop (k + 1) fs) (drop (k + 1) zs)
+  unfolding overflowing
+  overflow-next h g = rw (add-one, drop-cons fs k 0, drop-cons zs k 0)
+
+  pub overflow-fits : k < length fs → k < length zs → fitsSide s p (printed s t empty (getD fs k 0) (getD zs k 0)) ≡ true
+      → overflowing s t p empty (drop k fs) (drop k zs) ≡ overflowing s t p empty (drop (k + 1) fs) (drop (k + 1) zs)
+  overflow-fits h g e = overflow-next h g ∙ rw e (omega arith)
+
+  pub overflow-exceeds : k < length fs → k < length zs → fitsSide s p (printed s t empty (getD fs k 0) (getD zs k 0)) ≡ false
+      → overflowing s t p empty (drop k fs) (drop k zs) ≡ 1 + overflowing s t p empty (drop (k + 1) fs) (drop (k + 1) zs)
+  overflow-exceeds h g e = overflow-next h g ∙ rw e
+
+  pub overflow-end : length fs ≤ k → overflowing s t p empty (drop k fs) (drop k zs) ≡ 0
+  unfolding overflowing
+  overflow-end h = rw (drop-of-length-le fs h)
+
+-- ---- the place of a page
+
+module _ (rows columns before : ℕ) where
+  place-vertical : (order : PageOrder) → verticalOf order rows columns before ≡ placeOf order rows columns before .vertical
+  place-vertical DownThenOver = refl
+  place-vertical OverThenDown = refl
+
+  place-horizontal : (order : PageOrder) → horizontalOf order rows columns before ≡ placeOf order rows columns before .horizontal
+  place-horizontal DownThenOver = refl
+  place-horizontal OverThenDown = refl
+
+  -- it is among the runs
+  pub place-above : before < rows * columns → (order : PageOrder) → placeOf order rows columns before .vertical < rows
+  place-above h order = rw (place-vertical order) at (vertical-below rows columns before h order)
+
+  pub place-left : before < rows * columns → (order : PageOrder) → placeOf order rows columns before .horizontal < columns
+  place-left h order = rw (place-horizontal order) at (horizontal-below rows columns before h order)
+
+  -- there are runs where there is a page
+  pub some-rows : before < rows * columns → 0 < rows
+  some-rows h = split rows 0 (λ z. let e : rows ≡ 0 = omega arith in absurd (omega (arith, rw e at h))) (λ z. z)
+
+  pub some-columns : before < rows * columns → 0 < columns
+  some-columns h = split columns 0 (λ z. let e : columns ≡ 0 = omega arith in absurd (omega (arith, rw e at h))) (λ z. z)
+
+-- two runs at a place are its page
+pub page-there : (p : Plan) (rows columns : RunLists) (before : ℕ) (k : Place) (r c : PageRun) → k ≡ placeOf (p .order) (p .«row_runs») (p .«column_runs») before
+    → r ≡ runAt rows (p .«rows_empty») (k .vertical) → c ≡ runAt columns (p .«columns_empty») (k .horizontal)
+    → record { vertical = k .vertical; horizontal = k .horizontal; rows = r; columns = c } ≡ pageAfter p rows columns before
+unfolding pageAfter
+page-there p rows columns before k r c e er ec = rw (er, ec) (ap (λ (q : Place). pageAt rows columns p (q .vertical) (q .horizontal)) e)
+
+-- ---- 14
+
+module _ (p : Plan) (n : ℕ) where
+  abbrev places : ℕ
+  places = p .«row_runs» * p .«column_runs»
+
+  is-page : 1 ≤ n → n ≤ p .pages → n ≤ places → hasPage p n ≡ true
+  unfolding hasPage
+  is-page a b c = let m : n ≤ min (p .pages) places = omega arith in rw (le-leb 1 n a, le-leb n (min (p .pages) places) m)
+
+  pub no-zero : n ≡ 0 → false ≡ hasPage p n
+  unfolding hasPage
+  no-zero e = let m : n < 1 = omega arith in rw (lt-leb 1 n m)
+
+  not-upto : 1 ≤ n → min (p .pages) places < n → false ≡ hasPage p n
+  unfolding hasPage
+  not-upto a h = rw (le-leb 1 n a, lt-leb n (min (p .pages) places) h)
+
+  pub no-count : 1 ≤ n → p .pages < n → false ≡ hasPage p n
+  no-count a h = not-upto a (omega arith)
+
+  pub no-rows : 1 ≤ n → p .«row_runs» ≡ 0 → false ≡ hasPage p n
+  no-rows a e =
+      let z : 0 * p .«column_runs» ≡ 0 = omega arith in
+      let y : places ≡ 0 = ap (λ (r : ℕ). r * p .«column_runs») e ∙ z in
+      not-upto a (omega arith)
+
+  -- by division: the number of the page's column of pages in the order down, then over
+  pub by-division : 1 ≤ n → n ≤ p .pages → 0 < p .«row_runs» → ltb ((n - 1) / p .«row_runs») (p .«column_runs») ≡ hasPage p n
+  by-division a h k =
+      let q = (n - 1) / p .«row_runs» in
+      split n places
+      (λ g. let l : n - 1 < p .«column_runs» * p .«row_runs» = omega arith in lt-ltb q (p .«column_runs») (div-lt-iff-lt-mul k .1 l) ∙ sym (is-page a h g))
+      (λ g.
+      le-ltb q (p .«column_runs») (split (p .«column_runs») q (λ l. l) (λ l. absurd (omega (arith, div-lt-iff-lt-mul k .0 l))))
+      ∙ not-upto a (omega arith))
+
+  record Counted : Type 0 where
+    from-one : 1 ≤ n
+    to-count : n ≤ p .pages
+    to-last : n ≤ places
+
+  counted : hasPage p n ≡ true → Counted
+  unfolding hasPage
+  counted h =
+      let b = both (leb 1 n) (leb n (min (p .pages) places)) h in
+      let low = leb-true 1 n (b .0) in
+      let high = leb-true n (min (p .pages) places) (b .1) in
+      record { from-one = low; to-count = omega arith; to-last = omega arith }
+
+  -- the pages of the plan say the same
+  module _ (rows columns : RunLists) where
+    abbrev all : List Page
+    all = inOrder (p .order) (p .«row_runs») (p .«column_runs») (pageAt rows columns p)
+
+    page-none : hasPage p n ≡ false → numbered (pagesOf p rows columns) n ≡ refused 14
+    unfolding pagesOf
+    page-none h =
+        split 1 n
+        (λ low.
+        split n (p .pages)
+        (λ l.
+        numbered-take (p .pages) all n l
+        ∙ page-beyond (p .«row_runs») (p .«column_runs») (pageAt rows columns p) (p .order) n (split n places (λ g. let e : true ≡ false = sym (is-page low l g) ∙ h in let z : _≡_ {A = ℕ} 0 1 = cc in absurd (omega arith)) (λ g. g)))
+        (λ l. numbered-take-past (p .pages) all n l))
+        (λ z. let e : n ≡ 0 = omega arith in rw e (numbered-zero _))
+
+    page-some : hasPage p n ≡ true → numbered (pagesOf p rows columns) n ≡ given (pageAfter p rows columns (n - 1))
+    unfolding pagesOf pageAfter
+    page-some h =
+        let c = counted h in
+        numbered-take (p .pages) all n (c .to-count)
+        ∙ page-of (p .«row_runs») (p .«column_runs») (pageAt rows columns p) (p .order) n (c .from-one) (c .to-last)
+        ∙ ap given
+        (ap (λ (v : ℕ). pageAt rows columns p v (horizontalOf (p .order) (p .«row_runs») (p .«column_runs») (n - 1))) (place-vertical (p .«row_runs») (p .«column_runs») (n - 1) (p .order))
+        ∙ ap (λ (h : ℕ). pageAt rows columns p (placeOf (p .order) (p .«row_runs») (p .«column_runs») (n - 1) .vertical) h) (place-horizontal (p .«row_runs») (p .«column_runs») (n - 1) (p .order)))
+
+-- ---- 6, 11 and 14, way by way
+
+module _ (p : Plan) (n : ℕ) (even : Bool) (rows columns : ℕ) where
+  pub no-even : even ≡ false → 6 ≡ firstNo p n even rows columns
+  unfolding firstNo
+  no-even e = rw e
+
+  module _ (e : even ≡ true) where
+    pub no-row-room : rows < p .«row_runs» → 11 ≡ firstNo p n even rows columns
+    unfolding firstNo
+    no-row-room h = rw (e, lt-leb (p .«row_runs») rows h)
+
+    module _ (r : p .«row_runs» ≤ rows) where
+      pub no-column-room : columns < p .«column_runs» → 11 ≡ firstNo p n even rows columns
+      unfolding firstNo
+      no-column-room h = rw (e, le-leb (p .«row_runs») rows r, lt-leb (p .«column_runs») columns h)
+
+      module _ (c : p .«column_runs» ≤ columns) where
+        pub no-number : hasPage p n ≡ false → 14 ≡ firstNo p n even rows columns
+        unfolding firstNo
+        no-number h = rw (e, le-leb (p .«row_runs») rows r, le-leb (p .«column_runs») columns c, h)
+
+        pub no-no : hasPage p n ≡ true → 0 ≡ firstNo p n even rows columns
+        unfolding firstNo
+        no-no h = rw (e, le-leb (p .«row_runs») rows r, le-leb (p .«column_runs») columns c, h)
+
+-- ---- what the first no says of the whole
+
+-- a no refuses with its number
+stops : {A : Type 0} (a b d : Bool) (k : ℕ) (o : Outcome A) → k ≡ noOr 6 a (noOr 11 b (noOr 14 d 0)) → 0 < k → (d ≡ false → o ≡ refused 14)
+    → refused k ≡ ask 6 a (ask 11 b o)
+stops false b d k o e h f = ap refused e
+stops true false d k o e h f = ap refused e
+stops true true false k o e h f = ap refused e ∙ sym (f refl)
+stops true true true k o e h f = absurd (omega arith)
+
+-- none: every answer is yes
+goes : (a b d : Bool) → 0 ≡ noOr 6 a (noOr 11 b (noOr 14 d 0)) → (a ≡ true) × (b ≡ true) × (d ≡ true)
+goes false b d e = absurd (omega arith)
+goes true false d e = absurd (omega arith)
+goes true true false e = absurd (omega arith)
+goes true true true e = (refl, refl, refl)
+
+even-of : (l : RunLists) → evenLists l ≡ true → Even (l .firsts) (l .lasts) (l .sizes) (l .marks)
+even-of l h =
+    let three = both (equallyLong (l .firsts) (l .lasts) && equallyLong (l .firsts) (l .sizes)) (equallyLong (l .firsts) (l .marks)) h in
+    let two = both (equallyLong (l .firsts) (l .lasts)) (equallyLong (l .firsts) (l .sizes)) (three .0) in
+    record {
+      lasts-even = eqb-true (length (l .firsts)) (length (l .lasts)) (two .0);
+      sizes-even = eqb-true (length (l .firsts)) (length (l .sizes)) (two .1);
+      marks-even = eqb-true (length (l .firsts)) (length (l .marks)) (three .1);
+    }
+
+-- what `page_after` relies on, and what it answers
+pub record Answers (p : Plan) (n : ℕ) (rows columns : RunLists) : Type 0 where
+  pub rows-even : Even (rows .firsts) (rows .lasts) (rows .sizes) (rows .marks)
+  pub columns-even : Even (columns .firsts) (columns .lasts) (columns .sizes) (columns .marks)
+  pub row-room : p .«row_runs» ≤ length (rows .firsts)
+  pub column-room : p .«column_runs» ≤ length (columns .firsts)
+  pub from-one : 1 ≤ n
+  pub to-last : n - 1 < p .«row_runs» * p .«column_runs»
+  pub page-is : given (pageAfter p rows columns (n - 1)) ≡ pageNumbered p rows columns n
+
+module _ (p : Plan) (n : ℕ) (rows columns : RunLists) (a b : Bool) (k : ℕ) (ea : a ≡ evenLists rows) (eb : b ≡ evenLists columns)
+    (e : k ≡ firstNo p n (a && b) (length (rows .firsts)) (length (columns .firsts))) where
+  abbrev room : Bool
+  room = leb (p .«row_runs») (length (rows .firsts)) && leb (p .«column_runs») (length (columns .firsts))
+
+  asked : k ≡ noOr 6 (evenLists rows && evenLists columns) (noOr 11 room (noOr 14 (hasPage p n) 0))
+  unfolding firstNo
+  asked = e ∙ ap (λ (t : Bool). noOr 6 (t && b) (noOr 11 room (noOr 14 (hasPage p n) 0))) ea ∙ ap (λ (t : Bool). noOr 6 (evenLists rows && t) (noOr 11 room (noOr 14 (hasPage p n) 0))) eb
+
+  pub is-refused : 0 < k → refused k ≡ pageNumbered p rows columns n
+  unfolding pageNumbered
+  is-refused h = stops (evenLists rows && evenLists columns) room (hasPage p n) k (numbered (pagesOf p rows columns) n) asked h (page-none p n rows columns)
+
+  pub is-answered : k ≤ 0 → Answers p n rows columns
+  unfolding pageNumbered
+  is-answered h =
+      let z : 0 ≡ k = omega arith in
+      let y = goes (evenLists rows && evenLists columns) room (hasPage p n) (z ∙ asked) in
+      let two = both (evenLists rows) (evenLists columns) (y .0) in
+      let rooms = both (leb (p .«row_runs») (length (rows .firsts))) (leb (p .«column_runs») (length (columns .firsts))) (y .1) in
+      let c = counted p n (y .2) in
+      let low = c .from-one in
+      let high = c .to-last in
+      record {
+        rows-even = even-of rows (two .0);
+        columns-even = even-of columns (two .1);
+        row-room = leb-true (p .«row_runs») (length (rows .firsts)) (rooms .0);
+        column-room = leb-true (p .«column_runs») (length (columns .firsts)) (rooms .1);
+        from-one = low;
+        to-last = omega arith;
+        page-is = sym (rw (y .0, y .1) (page-some p n rows columns (y .2)));
+      }

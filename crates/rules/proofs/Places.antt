@@ -1,0 +1,82 @@
+-- "Searches stay between the cuts": what is found in the slots from p up to e is what is found in the whole axis, kept between p and e and
+-- counted from p. Assumes nothing.
+use mathlib.Core.Path.{_≡_, refl}
+use mathlib.Core.List.{List, [], _∷_}
+use Prim.Native.Nat.{ℕ, zero, suc, _-_, _≤_, _<_, min}
+use native.Mathlib.Omega.{arith}
+use lib.ListN.{take, drop, length-take}
+use lib.Seq.{getD-take}
+use borrow.Author.Tests.{lt-ltb, le-ltb, le-leb, lt-leb}
+use Rattle.rules.specs.Slots.{below, through, mid}
+use Rattle.rules.specs.Division.{Rising}
+use Rattle.rules.proofs.Division.{split}
+use Rattle.rules.proofs.OneRun.{rising-drop}
+
+pub rising-take : (n : ℕ) (xs : List ℕ) → Rising xs → Rising (take n xs)
+rising-take n xs r j k h q =
+    let l = length-take n xs in rw (getD-take n xs j 0 (omega arith), getD-take n xs k 0 (omega arith)) (r j k h (omega arith))
+
+-- ---- one slot
+
+module _ (k i : ℕ) (is : List ℕ) where
+  below-in : i < k → below k (i ∷ is) ≡ suc (below k is)
+  unfolding below
+  below-in h = rw (lt-ltb i k h)
+
+  below-out : k ≤ i → below k (i ∷ is) ≡ 0
+  unfolding below
+  below-out h = rw (le-ltb i k h)
+
+  through-in : i ≤ k → through k (i ∷ is) ≡ suc (through k is)
+  unfolding through
+  through-in h =
+      split (through k is) 0 (λ z. let e : through k is ≡ 0 = omega arith in rw (e, le-leb i k h)) (λ l. rw (lt-ltb 0 (through k is) l))
+
+  through-out : through k is ≡ 0 → k < i → through k (i ∷ is) ≡ 0
+  unfolding through
+  through-out e h = rw (e, lt-leb i k h)
+
+-- past a slot that is not below, none is
+below-past : (k i : ℕ) (is : List ℕ) → Rising (i ∷ is) → k ≤ i → below k is ≡ 0
+unfolding below
+below-past k i [] r h = refl
+below-past k i (j ∷ is) r h = below-out k j is (omega (arith, r 0 1 (omega arith) (omega arith)))
+
+-- ---- places in rising indexes
+
+-- the last slot at or below an index stands before the first one not below the next index
+pub through-below : (k : ℕ) (is : List ℕ) → Rising is → through k is ≡ below (suc k) is
+unfolding through below
+through-below k [] r = refl
+through-below k (i ∷ is) r =
+    let rest = through-below k is (rising-drop 1 (i ∷ is) r) in
+    split i k (λ h. omega (arith, rest, through-in k i is h, below-in (suc k) i is (omega arith)))
+    (λ h. omega (arith, through-out k i is (omega (arith, rest, below-past (suc k) i is r h)) h, below-out (suc k) i is h))
+
+below-drop : (k p : ℕ) (is : List ℕ) → Rising is → below k (drop p is) ≡ below k is - p
+unfolding below
+below-drop k zero is r = omega arith
+below-drop k (suc p) [] r = omega arith
+below-drop k (suc p) (i ∷ is) r =
+    let rest = below-drop k p is (rising-drop 1 (i ∷ is) r) in
+    split k i (λ h. omega (arith, rest, below-past k i is r h, below-out k i is h)) (λ h. omega (arith, rest, below-in k i is h))
+
+below-take : (k n : ℕ) (is : List ℕ) → below k (take n is) ≡ min n (below k is)
+unfolding below
+below-take k zero is = omega arith
+below-take k (suc n) [] = omega arith
+below-take k (suc n) (i ∷ is) =
+    split k i (λ h. omega (arith, below-out k i is h, below-out k i (take n is) h))
+    (λ h. omega (arith, below-take k n is, below-in k i is h, below-in k i (take n is) h))
+
+pub below-mid : (k p e : ℕ) (is : List ℕ) → Rising is → below k (mid p e is) ≡ min (below k is) e - p
+below-mid k p e is r = omega (arith, below-take k (e - p) (drop p is), below-drop k p is r)
+
+pub through-mid : (k p e : ℕ) (is : List ℕ) → Rising is → through k (mid p e is) ≡ min (through k is) e - p
+through-mid k p e is r =
+    omega (
+      arith,
+      through-below k (mid p e is) (rising-take (e - p) (drop p is) (rising-drop p is r)),
+      below-mid (suc k) p e is r,
+      through-below k is r,
+    )

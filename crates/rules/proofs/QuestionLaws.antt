@@ -1,0 +1,147 @@
+-- Laws of `specs/Questions.antt`'s definitions: for the loops of `src/questions.rt`, and what a "yes" says of every item. Assumes nothing.
+use mathlib.Core.Path.{_≡_, refl}
+use mathlib.Core.Bool.{Bool, true, false, _&&_}
+use mathlib.Core.List.{List, [], _∷_}
+use Prim.Native.Nat.{ℕ, zero, suc, _+_, _-_, _≤_, _<_, _^_, min}
+use native.Mathlib.Nat.{lt-of-not-le}
+use native.Mathlib.Decide.{decLe}
+use native.Mathlib.Numerals.{add-one}
+use native.Mathlib.Omega.{arith}
+use lib.Dec.{leb, ltb}
+use lib.ListN.{length, getD, drop, drop-of-length-le}
+use lib.Seq.{drop-cons}
+use borrow.Author.Tests.{lt-ltb, le-ltb, le-leb, lt-leb, leb-true, ltb-true}
+use Rattle.rules.specs.Slots.{Slots}
+use Rattle.rules.specs.Questions.{allOrdered, allWithin, rising, risingWithin, allSmall}
+use Rattle.rules.proofs.Laws.{drop-back}
+
+-- ---- the loops: the item at n decides, or none is left
+
+none-below : (fs : List ℕ) → allOrdered fs [] ≡ true
+unfolding allOrdered
+none-below [] = refl
+none-below (f ∷ fs) = refl
+
+module _ (n : ℕ) (fs ls : List ℕ) where
+  pub ordered-yes : n < length fs → n < length ls → getD fs n 0 ≤ getD ls n 0
+      → allOrdered (drop n fs) (drop n ls) ≡ allOrdered (drop (n + 1) fs) (drop (n + 1) ls)
+  unfolding allOrdered
+  ordered-yes h k p = rw (add-one, drop-cons fs n 0, drop-cons ls n 0, le-leb (getD fs n 0) (getD ls n 0))
+
+  pub ordered-no : n < length fs → n < length ls → getD ls n 0 < getD fs n 0 → allOrdered (drop n fs) (drop n ls) ≡ false
+  unfolding allOrdered
+  ordered-no h k p = rw (drop-cons fs n 0, drop-cons ls n 0, lt-leb (getD fs n 0) (getD ls n 0))
+
+  pub ordered-end : min (length fs) (length ls) ≤ n → allOrdered (drop n fs) (drop n ls) ≡ true
+  unfolding allOrdered
+  ordered-end h =
+      elim (decLe (length fs) n) [
+        | yes p ↦ rw (drop-of-length-le fs p)
+        | no p ↦ let short : length ls ≤ n = omega (arith, lt-of-not-le p) in rw (drop-of-length-le ls short) (none-below (drop n fs))
+      ]
+
+module _ (limit n : ℕ) (l : List ℕ) where
+  pub within-yes : n < length l → getD l n 0 ≤ limit → allWithin limit (drop n l) ≡ allWithin limit (drop (n + 1) l)
+  unfolding allWithin
+  within-yes h p = rw (add-one, drop-cons l n 0, le-leb (getD l n 0) limit)
+
+  pub within-no : n < length l → limit < getD l n 0 → allWithin limit (drop n l) ≡ false
+  unfolding allWithin
+  within-no h p = rw (drop-cons l n 0, lt-leb (getD l n 0) limit)
+
+  pub within-end : length l ≤ n → allWithin limit (drop n l) ≡ true
+  unfolding allWithin
+  within-end h = rw (drop-of-length-le l h)
+
+module _ (n : ℕ) (l : List ℕ) where
+  pub rising-yes : 0 < n → n < length l → getD l (n - 1) 0 < getD l n 0 → rising (drop (n - 1) l) ≡ rising (drop ((n + 1) - 1) l)
+  unfolding rising
+  rising-yes h k p =
+      let e : (n + 1) - 1 ≡ n = omega arith in
+      let m : n ≤ length l = omega arith in
+      rw (e, drop-back l n 0, drop-cons l n 0, lt-ltb (getD l (n - 1) 0) (getD l n 0))
+
+  pub rising-no : 0 < n → n < length l → getD l n 0 ≤ getD l (n - 1) 0 → rising (drop (n - 1) l) ≡ false
+  unfolding rising
+  rising-no h k p =
+      let m : n ≤ length l = omega arith in
+      rw (drop-back l n 0, drop-cons l n 0, le-ltb (getD l (n - 1) 0) (getD l n 0))
+
+-- none or one is left
+pub rising-end : (n : ℕ) (l : List ℕ) → length l ≤ n + 1 → rising (drop n l) ≡ true
+unfolding rising
+rising-end zero [] h = refl
+rising-end zero (i ∷ []) h = refl
+rising-end zero (i ∷ (j ∷ is)) h = absurd (omega arith)
+rising-end (suc n) [] h = refl
+rising-end (suc n) (i ∷ is) h = rising-end n is (omega arith)
+
+-- ---- what a "yes" says
+
+pub both : (a b : Bool) → (a && b) ≡ true → (a ≡ true) × (b ≡ true)
+both true b h = (refl, h)
+both false b h = (h, cc)
+
+pub ordered-each : (fs ls : List ℕ) → allOrdered fs ls ≡ true → (k : ℕ) → k < length fs → k < length ls → getD fs k 0 ≤ getD ls k 0
+unfolding allOrdered
+ordered-each [] ls h k p q = absurd (omega arith)
+ordered-each (f ∷ fs) [] h k p q = absurd (omega arith)
+ordered-each (f ∷ fs) (l ∷ ls) h zero p q = leb-true f l (both (leb f l) (allOrdered fs ls) h .0)
+ordered-each (f ∷ fs) (l ∷ ls) h (suc k) p q = ordered-each fs ls (both (leb f l) (allOrdered fs ls) h .1) k (omega arith) (omega arith)
+
+pub within-each : (limit : ℕ) (l : List ℕ) → allWithin limit l ≡ true → (k : ℕ) → getD l k 0 ≤ limit
+unfolding allWithin
+within-each limit [] h k = omega arith
+within-each limit (x ∷ l) h zero = leb-true x limit (both (leb x limit) (allWithin limit l) h .0)
+within-each limit (x ∷ l) h (suc k) = within-each limit l (both (leb x limit) (allWithin limit l) h .1) k
+
+rising-tail : (i : ℕ) (is : List ℕ) → rising (i ∷ is) ≡ true → rising is ≡ true
+unfolding rising
+rising-tail i [] h = refl
+rising-tail i (j ∷ is) h = both (ltb i j) (rising (j ∷ is)) h .1
+
+rising-head : (i : ℕ) (is : List ℕ) → rising (i ∷ is) ≡ true → (k : ℕ) → k < length is → i < getD is k 0
+unfolding rising
+rising-head i [] h k p = absurd (omega arith)
+rising-head i (j ∷ is) h zero p = ltb-true i j (both (ltb i j) (rising (j ∷ is)) h .0)
+rising-head i (j ∷ is) h (suc k) p =
+    let b = both (ltb i j) (rising (j ∷ is)) h in
+    omega (arith, ltb-true i j (b .0), rising-head j is (b .1) k (omega arith))
+
+-- of two places the later has the greater index
+pub rises : (is : List ℕ) → rising is ≡ true → (j k : ℕ) → j < k → k < length is → getD is j 0 < getD is k 0
+rises [] h j k p q = absurd (omega arith)
+rises (i ∷ is) h j zero p q = absurd (omega arith)
+rises (i ∷ is) h zero (suc k) p q = rising-head i is h k (omega arith)
+rises (i ∷ is) h (suc j) (suc k) p q = rises is (rising-tail i is h) j k (omega arith) (omega arith)
+
+-- an index is at least its place
+pub place-le : (is : List ℕ) → rising is ≡ true → (k : ℕ) → k < length is → k ≤ getD is k 0
+place-le is h zero q = omega arith
+place-le is h (suc k) q = omega (arith, place-le is h k (omega arith), rises is h k (suc k) (omega arith) q)
+
+-- so there are no more slots than indexes
+pub few : (limit : ℕ) (is : List ℕ) → risingWithin limit is ≡ true → length is ≤ limit + 1
+unfolding risingWithin
+few limit is h =
+    let b = both (rising is) (allWithin limit is) h in
+    elim (decLe (length is) 0) [
+      | yes p ↦ omega arith
+      | no p ↦ omega (arith, lt-of-not-le p, place-le is (b .0) (length is - 1) (omega (arith, lt-of-not-le p)), within-each limit is (b .1) (length is - 1))
+    ]
+
+pub rising-of : (limit : ℕ) (is : List ℕ) → risingWithin limit is ≡ true → (j k : ℕ) → j < k → k < length is → getD is j 0 < getD is k 0
+unfolding risingWithin
+rising-of limit is h = rises is (both (rising is) (allWithin limit is) h .0)
+
+pub within-of : (limit : ℕ) (is : List ℕ) → risingWithin limit is ≡ true → (k : ℕ) → getD is k 0 ≤ limit
+unfolding risingWithin
+within-of limit is h = within-each limit is (both (rising is) (allWithin limit is) h .1)
+
+pub small-each : (ss : List ℕ) → allSmall ss ≡ true → (k : ℕ) → getD ss k 0 < 2 ^ 30
+unfolding allSmall
+small-each ss h k = omega (arith, within-each 1073741823 ss h k)
+
+-- after questions 6, 8 and 9 the slots of an axis are what the private functions rely on
+pub slots-of : (limit : ℕ) (is ss : List ℕ) → limit ≤ 1048575 → length is ≡ length ss → risingWithin limit is ≡ true → allSmall ss ≡ true → Slots is ss
+slots-of limit is ss h e r s = record { even = e; small = record { few = omega (arith, few limit is r); each = small-each ss s } }

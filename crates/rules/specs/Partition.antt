@@ -1,0 +1,94 @@
+-- The call that cuts an axis into lent lists: the body of a range (document 01, "Titles"), its runs ("Runs") and what is asked first
+-- ("Questions in order"). Assumes nothing.
+use mathlib.Core.Path.{_≡_}
+use mathlib.Core.Bool.{Bool, true, false, _&&_}
+use mathlib.Core.List.{List}
+use Prim.Native.Nat.{ℕ, _+_}
+use lib.Dec.{leb}
+use lib.ListN.{length}
+use Rattle.geometry.specs.Outcome.{Outcome, given, refused}
+use Rattle.rules.specs.declared.runs.Frame.{Frame}
+use Rattle.rules.specs.declared.runs.Tally.{Tally}
+use Rattle.rules.specs.declared.partition.AxisSetup.{AxisSetup}
+use Rattle.rules.specs.declared.partition.Partition.{Partition}
+use Rattle.rules.specs.declared.partition.Partition.the-variants.{Value, Refused}
+use Rattle.rules.specs.Slots.{below, mid, written}
+use Rattle.rules.specs.Questions.{ask, equallyLong, allOrdered, allWithin, risingWithin, allSmall}
+use Rattle.rules.specs.Titles.{bodyStart}
+use Rattle.rules.specs.Runs.{Run, axisRuns, axisTally}
+use Rattle.rules.specs.Lent.{firsts, lasts, sizes, marks}
+
+-- merges are clipped to "the stretch from the body's start to the range's last index"
+abbrev pub frameOf : AxisSetup → Frame
+frameOf s = record { untitled = s .untitled; titled = s .titled; title = s .title; lo = bodyStart (s .title) (s .first); hi = s .last }
+
+-- of a list that goes with the indexes: "The body is the measured slots from there to the range's last."
+abbrev pub bodyOf : AxisSetup → List ℕ → List ℕ → List ℕ
+bodyOf s is xs = mid (below (bodyStart (s .title) (s .first)) is) (below (s .last + 1) is) xs
+
+unfoldable pub bodyRuns : AxisSetup → List ℕ → List ℕ → List ℕ → List ℕ → List ℕ → List Run
+bodyRuns s is ss fs ls bs = axisRuns (frameOf s) fs ls (bodyOf s is is) (bodyOf s is ss) 0 bs
+
+unfoldable pub bodyTally : AxisSetup → List ℕ → List ℕ → List ℕ → List ℕ → List ℕ → Tally
+bodyTally s is ss fs ls bs = axisTally (frameOf s) fs ls (bodyOf s is is) (bodyOf s is ss) bs
+
+-- 6 of an axis: its slots, its merges and the four lent lists, by their lengths, and the range
+unfoldable pub shaped : AxisSetup → List ℕ → List ℕ → List ℕ → List ℕ → Bool → Bool
+shaped s is ss fs ls even-lent = equallyLong is ss && equallyLong fs ls && even-lent && leb (s .first) (s .last)
+
+-- "Items read, and row and column runs, fit their lent lists?", then what was counted
+abbrev pub roomFor : List Run → Tally → ℕ → Outcome Tally
+roomFor rs t room = ask 11 (leb (length rs) room) (given t)
+
+abbrev pub fits : AxisSetup → List ℕ → List ℕ → List ℕ → List ℕ → List ℕ → ℕ → Outcome Tally
+fits s is ss fs ls bs room = roomFor (bodyRuns s is ss fs ls bs) (bodyTally s is ss fs ls bs) room
+
+-- the lent lists are equally long
+abbrev pub lentEven : List ℕ → List ℕ → List ℕ → List ℕ → Bool
+lentEven f l s m = equallyLong f l && equallyLong f s && equallyLong f m
+
+-- questions 6, 7, 8, 9 and 11 in order, then how many runs, expansions and shifts; f, l, z and m are the lent lists
+unfoldable pub partition : ℕ → AxisSetup → List ℕ → List ℕ → List ℕ → List ℕ → List ℕ → List ℕ → List ℕ → List ℕ → List ℕ → Outcome Tally
+partition limit s is ss fs ls bs f l z m =
+    ask 6 (shaped s is ss fs ls (lentEven f l z m) && allOrdered fs ls)
+    (ask 7 (leb (s .last) limit && allWithin limit ls)
+    (ask 8 (risingWithin limit is)
+    (ask 9 (allSmall ss)
+    (fits s is ss fs ls bs (length f)))))
+
+-- the value or the number that each case of `Partition` stands for
+abbrev pub partitionOutcome : Partition → Outcome Tally
+partitionOutcome (Value t) = given t
+partitionOutcome (Refused n) = refused n
+
+-- a lent list after the call: the values and what stood behind them, or, where the call is refused, the list as it was
+abbrev pub lent : {A : Type 0} → Outcome A → List ℕ → List ℕ → List ℕ
+lent (given a) values old = written values old
+lent (refused n) values old = old
+
+-- the answer r and the four lent lists, which were f₀, l₀, s₀, m₀, where the outcome is o and the runs are rs
+pub record Answered (o : Outcome Tally) (rs : List Run) (r : Partition) (f₀ l₀ s₀ m₀ f l s m : List ℕ) : Type 0 where
+  pub answer : partitionOutcome r ≡ o
+  pub firsts-are : f ≡ lent o (firsts rs) f₀
+  pub lasts-are : l ≡ lent o (lasts rs) l₀
+  pub sizes-are : s ≡ lent o (sizes rs) s₀
+  pub marks-are : m ≡ lent o (marks rs) m₀
+
+-- ---- for the private functions
+
+-- the lent lists are equally long
+pub record Even (f l s m : List ℕ) : Type 0 where
+  pub lasts-even : length f ≡ length l
+  pub sizes-even : length f ≡ length s
+  pub marks-even : length f ≡ length m
+
+-- the number of a question whose answer is no, or what comes after it
+abbrev pub noOr : ℕ → Bool → ℕ → ℕ
+noOr n true rest = rest
+noOr n false rest = n
+
+-- the first of the questions 6 to 9 with the answer no, or 0
+unfoldable pub firstNo : ℕ → AxisSetup → List ℕ → List ℕ → List ℕ → List ℕ → Bool → ℕ
+firstNo limit s is ss fs ls even-lent =
+    noOr 6 (shaped s is ss fs ls even-lent && allOrdered fs ls)
+    (noOr 7 (leb (s .last) limit && allWithin limit ls) (noOr 8 (risingWithin limit is) (noOr 9 (allSmall ss) 0)))

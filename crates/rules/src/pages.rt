@@ -1,0 +1,60 @@
+// Pages: document 01, section "Pages".
+
+pub enum PageOrder {
+    DownThenOver,
+    OverThenDown,
+}
+
+// How often each of the nine things happened that a reader of the plan is told.
+pub struct Notes {
+    pub unknown_paper: u64,
+    pub invalid_margins: u64,
+    pub scale_clamped: u64,
+    pub fit_unreachable: u64,
+    pub titles_ignored: u64,
+    pub titles_expanded: u64,
+    pub merge_expansions: u64,
+    pub break_shifts: u64,
+    pub overflowing_runs: u64,
+}
+
+// A finished plan. Its runs stand in the lists that were lent to it.
+pub struct Plan {
+    pub permille: u16,
+    pub row_runs: usize,
+    pub column_runs: usize,
+    pub rows_empty: bool,
+    pub columns_empty: bool,
+    pub pages: u64,
+    pub order: PageOrder,
+    pub notes: Notes,
+}
+
+// A run of rows or columns of a page.
+pub struct PageRun {
+    pub first: u32,
+    pub last: u32,
+    pub size: u64,
+    pub empty_body: bool,
+    pub manual_break: bool,
+}
+
+// A page: the numbers of its two runs, from 0, and the runs.
+pub struct Page {
+    pub vertical: usize,
+    pub horizontal: usize,
+    pub rows: PageRun,
+    pub columns: PageRun,
+}
+
+// What `page_numbered` answers: the page, or a refusal with its number.
+pub enum PageAnswer {
+    Value(Page),
+    Refused(u8),
+}
+
+// Where a page stands: the numbers of its two runs, from 0.
+pub struct Place {
+    pub vertical: usize,
+    pub horizontal: usize,
+}

@@ -1,0 +1,142 @@
+-- `titles::expand_repeat_for_merges` meets its contract. The inner loop's invariant: what is left of the pass makes of the span what
+-- the whole pass makes of the one before it. The outer loop's: the passes that are left give what all give, and there is a merge within the
+-- span for each note, so that there are no more notes than merges. Assumes nothing.
+use mathlib.Core.Path.{_≡_, refl, sym, _∙_}
+use mathlib.Core.Bool.{Bool, true, false}
+use Prim.Native.Nat.{_-_, _≤_}
+use lib.ListN.{length, drop}
+use Rattle.rules.specs.Titles.{pass, still, passes, expand}
+use Rattle.rules.proofs.TitleLaws.{pass-step, pass-end, inside, inside-le, still-of, turn-count, turn-less, turn-passes, turn-ends}
+use borrow.Author.Needs.{needs}
+use native.Mathlib.Omega.{arith}
+use Rattle.titles.proofs.expand_repeat_for_merges.Statement.{statement}
+use Rattle.titles.proofs.expand_repeat_for_merges.Tie as tie
+
+abbrev Inv-loop2 : tie.InvT-loop2
+Inv-loop2 first last firsts lasts end span₀ expanded previous i₀ span i =
+    (i ≤ length firsts) × (i ≤ length lasts) × (pass (drop i firsts) (drop i lasts) span ≡ pass firsts lasts previous)
+
+abbrev μ-loop2 : tie.MeasureT-loop2
+μ-loop2 first last firsts lasts end span₀ expanded previous i₀ span i = length firsts - i
+
+abbrev Inv-loop : tie.InvT-loop
+Inv-loop first last firsts lasts end span₀ expanded₀ span expanded =
+    (expanded ≤ inside span firsts lasts)
+    × (passes firsts lasts (length firsts - expanded) (still firsts lasts span) span expanded ≡ expand firsts lasts first last)
+
+abbrev μ-loop : tie.MeasureT-loop
+μ-loop first last firsts lasts end span₀ expanded₀ span expanded = length firsts - inside span firsts lasts
+
+shorter-requires : tie.Need-shorter-requires Inv-loop2 μ-loop2 Inv-loop μ-loop
+shorter-requires c κs = search needs
+
+loop-holds : tie.Need-loop-holds Inv-loop2 μ-loop2 Inv-loop μ-loop
+unfolding expand
+loop-holds c =
+    let a = c .before .before .before .args in
+    let z : length (a .firsts .now) - 0 ≡ length (a .firsts .now) = omega arith in
+    (search needs, rw z)
+
+loop2-holds : tie.Need-loop2-holds Inv-loop2 μ-loop2 Inv-loop μ-loop
+loop2-holds c = (search needs, search needs, refl)
+
+mul-widen-to : tie.Need-mul-widen-to Inv-loop2 μ-loop2 Inv-loop μ-loop
+mul-widen-to c = search needs
+
+shared-slice-read-widen-to : tie.Need-shared-slice-read-widen-to Inv-loop2 μ-loop2 Inv-loop μ-loop
+shared-slice-read-widen-to c = search needs
+
+mul-widen-to-2 : tie.Need-mul-widen-to-2 Inv-loop2 μ-loop2 Inv-loop μ-loop
+mul-widen-to-2 c = search needs
+
+shared-slice-read-widen-to-2 :
+    tie.Need-shared-slice-read-widen-to-2 Inv-loop2 μ-loop2 Inv-loop μ-loop
+shared-slice-read-widen-to-2 c = search needs
+
+widen-to-requires : tie.Need-widen-to-requires Inv-loop2 μ-loop2 Inv-loop μ-loop
+widen-to-requires c κs = search needs
+
+add-i : tie.Need-add-i Inv-loop2 μ-loop2 Inv-loop μ-loop
+add-i c = search needs
+
+loop2-less : tie.Need-loop2-less Inv-loop2 μ-loop2 Inv-loop μ-loop
+loop2-less c = search needs
+
+loop2-again : tie.Need-loop2-again Inv-loop2 μ-loop2 Inv-loop μ-loop
+loop2-again c =
+    let l = c .before .before .before .before .loop2 in
+    let a = c .before .before .before .before .before .before .before .before .before .args in
+    let step = pass-step (l .i) (a .firsts .now) (a .lasts .now) (l .span) (search needs) (search needs) in
+    (search needs, search needs, rw (c .widen-to .ensures) (sym step ∙ l .inv .2))
+
+same-span-requires : tie.Need-same-span-requires Inv-loop2 μ-loop2 Inv-loop μ-loop
+same-span-requires c κs = search needs
+
+-- after a pass: what it made of the span, and what its test says of that
+passed :
+    (c : tie.After-same-span Inv-loop2 μ-loop2 Inv-loop μ-loop) →
+    c .before .before .loop2 .span ≡ pass (c .before .before .before .before .before .before .before .args .firsts .now) (c .before .before .before .before .before .before .before .args .lasts .now) (c .before .before .before .loop .span)
+passed c =
+    let l = c .before .before .loop2 in
+    let a = c .before .before .before .before .before .before .before .args in
+    sym (pass-end (l .i) (a .firsts .now) (a .lasts .now) (l .span) (omega (arith, c .before .loop2-test .left, c .before .before .before .before .shorter .ensures))) ∙ l .inv .2
+
+said :
+    (c : tie.After-same-span Inv-loop2 μ-loop2 Inv-loop μ-loop) (b : Bool) → c .same-span .result ≡ b
+    → still (c .before .before .before .before .before .before .before .args .firsts .now) (c .before .before .before .before .before .before .before .args .lasts .now) (c .before .before .before .loop .span) ≡ b
+said c b h =
+    let a = c .before .before .before .before .before .before .before .args in
+    still-of (a .firsts .now) (a .lasts .now) (c .before .before .before .loop .span) _ (passed c) _ b (c .same-span .ensures) h
+
+add-expanded : tie.Need-add-expanded Inv-loop2 μ-loop2 Inv-loop μ-loop
+add-expanded c =
+    let a = c .before .before .before .before .before .before .before .before .args in
+    let l = c .before .before .before .before .loop in
+    omega (arith, inside-le (l .span) (a .firsts .now) (a .lasts .now), c .before .before .before .before .before .before .before .before .good)
+
+loop-less : tie.Need-loop-less Inv-loop2 μ-loop2 Inv-loop μ-loop
+loop-less c =
+    let l = c .before .before .before .before .loop in
+    let a = c .before .before .before .before .before .before .before .before .args in
+    turn-less (a .firsts .now) (a .lasts .now) (l .span) _ (passed (c .before)) (said (c .before) false (c .if1 .left))
+
+loop-again : tie.Need-loop-again Inv-loop2 μ-loop2 Inv-loop μ-loop
+loop-again c =
+    let l = c .before .before .before .before .loop in
+    let a = c .before .before .before .before .before .before .before .before .args in
+    let f = said (c .before) false (c .if1 .left) in (
+      turn-count (a .firsts .now) (a .lasts .now) (l .span) _ (passed (c .before)) (l .expanded) f (l .inv .0),
+      turn-passes (a .firsts .now) (a .lasts .now) (l .span) _ (passed (c .before)) (l .expanded) f (l .inv .0) ∙ l .inv .1,
+    )
+
+returns : tie.Need-returns Inv-loop2 μ-loop2 Inv-loop μ-loop
+returns c =
+    let l = c .before .before .before .before .loop in
+    let a = c .before .before .before .before .before .before .before .before .args in
+    turn-ends (a .firsts .now) (a .lasts .now) (l .span) _ (passed (c .before)) (length (a .firsts .now) - l .expanded) (l .expanded) (said (c .before) true (c .if1 .taken))
+    ∙ l .inv .1
+
+pub expand-repeat-for-merges-spec : {M : Type 1} → statement M
+expand-repeat-for-merges-spec =
+    tie.close
+    (tie.spec
+    Inv-loop2
+    μ-loop2
+    Inv-loop
+    μ-loop
+    shorter-requires
+    loop-holds
+    loop2-holds
+    mul-widen-to
+    shared-slice-read-widen-to
+    mul-widen-to-2
+    shared-slice-read-widen-to-2
+    widen-to-requires
+    add-i
+    loop2-less
+    loop2-again
+    same-span-requires
+    add-expanded
+    loop-less
+    loop-again
+    returns)
