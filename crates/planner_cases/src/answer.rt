@@ -2,9 +2,9 @@
 use crate::numbers::wide;
 use crate::numbers::wider;
 use crate::text::word;
-use planner::Partition;
-use planner::Title;
-use planner::Widening;
+use rules::Partition;
+use rules::Title;
+use rules::Widening;
 
 // The bytes that a line has room for.
 pub const LINE: usize = 4096;

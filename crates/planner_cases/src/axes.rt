@@ -12,7 +12,7 @@ use crate::lists::read_numbers;
 use crate::lists::read_sizes;
 use crate::lists::sizes_from;
 use libc::STDIN_FILENO;
-use planner::Partition;
+use rules::Partition;
 
 fn title(
     line: &[u8; HEAD],
@@ -26,7 +26,7 @@ fn title(
     let l = &lasts[..];
     let axis = head::axis(line);
     let given = head::title(line);
-    answer::widening(out, planner::widen_title(axis, given, &f[0..n], &l[0..m]))
+    answer::widening(out, titles::widen_title(axis, given, &f[0..n], &l[0..m]))
 }
 
 // Reads a title and its merges, and answers it.

@@ -8,9 +8,9 @@
 use crate::lists::MOST;
 use crate::numbers::low;
 use lines::bits;
-use planner::Axis;
-use planner::AxisSetup;
-use planner::Title;
+use rules::Axis;
+use rules::AxisSetup;
+use rules::Title;
 ghost use Prim.Native.Nat.{_≤_, _<_};
 
 // The bytes of a head.

@@ -7,19 +7,19 @@ mod lists;
 mod numbered;
 mod numbers;
 mod page_head;
-mod pages;
+mod page_text;
 mod plan_cases;
 mod plan_head;
 mod plans;
 mod replay;
 mod runs;
 mod text;
-mod titles;
+mod title_cases;
 
 use text::word;
 
 fn main() {
-    titles::all_cases();
+    title_cases::all_cases();
     runs::all_cases();
     plan_cases::all_cases();
     word(b"list\n");

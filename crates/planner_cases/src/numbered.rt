@@ -7,7 +7,7 @@ use crate::lists::sizes_from;
 use crate::page_head as head;
 use crate::page_head::HEAD;
 use crate::page_head::length;
-use crate::pages;
+use crate::page_text;
 use libc::STDIN_FILENO;
 
 // Cuts the lists of the columns to their lengths, and answers the page.
@@ -31,7 +31,7 @@ fn with_columns(
     let b = length(line, 5);
     let c = length(line, 6);
     let d = length(line, 7);
-    let answer = planner::page_numbered(
+    let answer = pages::page_numbered(
         head::plan(line),
         head::number(line),
         row_firsts,
@@ -43,7 +43,7 @@ fn with_columns(
         &s[0..c],
         &m[0..d],
     );
-    pages::paged(out, 0, answer)
+    page_text::paged(out, 0, answer)
 }
 
 // Cuts the lists of the rows to their lengths.

@@ -6,9 +6,9 @@
 //     16  row runs, column runs, pages, and the number of the page
 use crate::lists::MOST;
 use lines::bits;
-use planner::Notes;
-use planner::PageOrder;
-use planner::Plan;
+use rules::Notes;
+use rules::PageOrder;
+use rules::Plan;
 ghost use Prim.Native.Nat.{_≤_, _<_};
 
 // The bytes of a head.

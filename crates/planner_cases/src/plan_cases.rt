@@ -1,14 +1,14 @@
 // Worked cases of document 01, sections "Scale" and "Jobs": Letter, the range 0,0 to 2,1, three rows and two columns of 400,000.
 use crate::answer;
 use crate::answer::LINE;
-use crate::pages;
+use crate::page_text;
 use crate::text::say;
 use geometry::MarginSetting;
 use geometry::Setting;
-use planner::PageOrder;
-use planner::PrintRange;
-use planner::Settings;
-use planner::Title;
+use rules::PageOrder;
+use rules::PrintRange;
+use rules::Settings;
+use rules::Title;
 
 fn settings(percent: Setting) -> Settings {
     Settings {
@@ -69,7 +69,7 @@ fn gives(percent: Setting, expected: &[u8]) -> bool {
         &mut column_marks,
     );
     let mut out = [0u8; LINE];
-    let end = pages::answered(
+    let end = page_text::answered(
         &mut out,
         planning,
         &row_firsts,

@@ -13,10 +13,10 @@ use crate::numbers::lower;
 use geometry::MarginSetting;
 use geometry::Setting;
 use lines::bits;
-use planner::PageOrder;
-use planner::PrintRange;
-use planner::Settings;
-use planner::Title;
+use rules::PageOrder;
+use rules::PrintRange;
+use rules::Settings;
+use rules::Title;
 ghost use Prim.Native.Nat.{_≤_, _<_};
 
 // The bytes of a head.

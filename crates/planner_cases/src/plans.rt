@@ -7,7 +7,7 @@ use crate::lists::numbers_from;
 use crate::lists::read_numbers;
 use crate::lists::read_sizes;
 use crate::lists::sizes_from;
-use crate::pages;
+use crate::page_text;
 use crate::plan_head as head;
 use crate::plan_head::HEAD;
 use crate::plan_head::length;
@@ -15,8 +15,8 @@ use geometry::MarginSetting;
 use geometry::Margins;
 use libc::STDIN_FILENO;
 use lines::float;
-use planner::Planning;
-use planner::Settings;
+use rules::Planning;
+use rules::Settings;
 
 fn margins(read: &[u64; MOST]) -> Margins {
     Margins {
@@ -61,7 +61,7 @@ fn held(
     let b = length(line, 15);
     let c = length(line, 16);
     let d = length(line, 17);
-    pages::answered(
+    page_text::answered(
         out,
         planning,
         row_firsts,

@@ -3,10 +3,10 @@
 use crate::answer;
 use crate::answer::LINE;
 use crate::text::say;
-use planner::Axis;
-use planner::AxisSetup;
-use planner::Partition;
-use planner::Title;
+use rules::Axis;
+use rules::AxisSetup;
+use rules::Partition;
+use rules::Title;
 ghost use Prim.Native.Nat.{_≤_};
 
 // The places of each lent list.

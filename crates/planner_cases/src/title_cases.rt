@@ -2,13 +2,13 @@
 use crate::answer;
 use crate::answer::LINE;
 use crate::text::say;
-use planner::Axis;
-use planner::Title;
+use rules::Axis;
+use rules::Title;
 
 // Whether a title, with these merges, gives this answer.
 fn gives(axis: Axis, title: Title, firsts: &[u32], lasts: &[u32], expected: &[u8]) -> bool {
     let mut out = [0u8; LINE];
-    let end = answer::widening(&mut out, planner::widen_title(axis, title, firsts, lasts));
+    let end = answer::widening(&mut out, titles::widen_title(axis, title, firsts, lasts));
     answer::is(&out, end, expected)
 }
 

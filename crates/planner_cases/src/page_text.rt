@@ -8,13 +8,13 @@ use crate::answer::refusal;
 use crate::answer::run_lists;
 use crate::answer::text;
 use crate::numbers::wide;
-use planner::Notes;
-use planner::Page;
-use planner::PageAnswer;
-use planner::PageOrder;
-use planner::PageRun;
-use planner::Plan;
-use planner::Planning;
+use rules::Notes;
+use rules::Page;
+use rules::PageAnswer;
+use rules::PageOrder;
+use rules::PageRun;
+use rules::Plan;
+use rules::Planning;
 
 // The most pages of which each is asked for.
 const FEW: u64 = 12;
@@ -132,7 +132,7 @@ fn each_page(
     let mut k = 0;
     while k < count {
         let n = asked_at(p.pages, k);
-        let answer = planner::page_numbered(
+        let answer = pages::page_numbered(
             p,
             n,
             row_firsts,

@@ -1,8 +1,8 @@
--- `planner_cases::pages::each_page` is safe and ends. The measure is how many pages are left to be asked for. Assumes nothing.
+-- `planner_cases::page_text::each_page` is safe and ends. The measure is how many pages are left to be asked for. Assumes nothing.
 use Prim.Native.Nat.{_-_}
 use borrow.Author.Needs.{needs}
-use Rattle.planner_cases.proofs.pages.each_page.Statement.{statement}
-use Rattle.planner_cases.proofs.pages.each_page.Tie as tie
+use Rattle.planner_cases.proofs.page_text.each_page.Statement.{statement}
+use Rattle.planner_cases.proofs.page_text.each_page.Tie as tie
 
 abbrev Inv-loop : tie.InvT-loop
 Inv-loop out₀ at p row-firsts row-lasts row-sizes row-marks column-firsts column-lasts column-sizes column-marks count next₀ k₀ out next k = Unit {0}
