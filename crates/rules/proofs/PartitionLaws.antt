@@ -63,7 +63,7 @@ module _ (limit : ℕ) (s : AxisSetup) (is ss fs ls : List ℕ) (e : Bool) where
 -- ---- what the first no says of the whole
 
 -- a no refuses with its number
-stops : (a b c d : Bool) (n : ℕ) (o : Outcome Tally) → n ≡ noOr 6 a (noOr 7 b (noOr 8 c (noOr 9 d 0))) → 0 < n
+pub stops : {A : Type 0} (a b c d : Bool) (n : ℕ) (o : Outcome A) → n ≡ noOr 6 a (noOr 7 b (noOr 8 c (noOr 9 d 0))) → 0 < n
     → ask 6 a (ask 7 b (ask 8 c (ask 9 d o))) ≡ refused n
 stops false b c d n o e h = ap refused (sym e)
 stops true false c d n o e h = ap refused (sym e)
@@ -72,7 +72,7 @@ stops true true true false n o e h = ap refused (sym e)
 stops true true true true n o e h = absurd (omega arith)
 
 -- none: every answer is yes
-goes : (a b c d : Bool) → 0 ≡ noOr 6 a (noOr 7 b (noOr 8 c (noOr 9 d 0))) → (a ≡ true) × (b ≡ true) × (c ≡ true) × (d ≡ true)
+pub goes : (a b c d : Bool) → 0 ≡ noOr 6 a (noOr 7 b (noOr 8 c (noOr 9 d 0))) → (a ≡ true) × (b ≡ true) × (c ≡ true) × (d ≡ true)
 goes false b c d e = absurd (omega arith)
 goes true false c d e = absurd (omega arith)
 goes true true false d e = absurd (omega arith)

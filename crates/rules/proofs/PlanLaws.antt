@@ -33,6 +33,7 @@ use Rattle.rules.specs.Scale.{Scale, Space, spaceOf, bodyFor, frameFor, 
 use Rattle.rules.specs.Pages.{RunLists, runLists, evenLists, none, orEmpty, printed, overflowing, Moderate}
 use Rattle.rules.specs.Plan.{AxisInput, rowsOf, columnsOf, AreRows, AreColumns, Sides, titleOf, startOf, bodyPart, bodyOf, spaceOn, lookedAt, contentSides, chosenScale, cutRuns, cutShifts, pageRuns, overflows, Layout, planOf, layoutAt, layout, RunsLent, roomFor, planned, formed, inGrid, firstNo, Planned, axisFor, Fine, ReadyFor, within, readyFrame, readyRuns, readyShifts, cutOf, Cuttable}
 use Rattle.rules.proofs.QuestionLaws.{both, slots-of}
+use Rattle.rules.proofs.PartitionLaws.{stops, goes}
 use Rattle.rules.proofs.Laws.{either}
 use Rattle.rules.proofs.EndLaws.{below-le}
 use Rattle.rules.specs.Division.{pieces}
@@ -41,23 +42,6 @@ use Rattle.rules.proofs.Lent.{front-written, long-written}
 use Rattle.rules.proofs.Whole.{axis-tells}
 
 -- ---- the first no
-
--- a no refuses with its number
-stops : {A : Type 0} (a b c d : Bool) (n : ℕ) (o : Outcome A) → n ≡ noOr 6 a (noOr 7 b (noOr 8 c (noOr 9 d 0))) → 0 < n
-    → ask 6 a (ask 7 b (ask 8 c (ask 9 d o))) ≡ refused n
-stops false b c d n o e h = ap refused (sym e)
-stops true false c d n o e h = ap refused (sym e)
-stops true true false d n o e h = ap refused (sym e)
-stops true true true false n o e h = ap refused (sym e)
-stops true true true true n o e h = absurd (omega arith)
-
--- none: every answer is yes
-goes : (a b c d : Bool) → 0 ≡ noOr 6 a (noOr 7 b (noOr 8 c (noOr 9 d 0))) → (a ≡ true) × (b ≡ true) × (c ≡ true) × (d ≡ true)
-goes false b c d e = absurd (omega arith)
-goes true false c d e = absurd (omega arith)
-goes true true false d e = absurd (omega arith)
-goes true true true false e = absurd (omega arith)
-goes true true true true e = (refl, refl, refl, refl)
 
 -- four answers, one after another
 pub no-six : (a b c d : Bool) → a ≡ false → 6 ≡ noOr 6 a (noOr 7 b (noOr 8 c (noOr 9 d 0)))

@@ -1,4 +1,4 @@
--- Laws of `specs/Questions.antt`'s definitions: for the loops of `src/questions.rt`, and what a "yes" says of every item. Assumes nothing.
+-- Laws of `specs/Questions.antt`'s definitions: for the loops of crate `questions`, and what a "yes" says of every item. Assumes nothing.
 use mathlib.Core.Path.{_≡_, refl}
 use mathlib.Core.Bool.{Bool, true, false, _&&_}
 use mathlib.Core.List.{List, [], _∷_}
