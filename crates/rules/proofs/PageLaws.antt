@@ -8,7 +8,7 @@ use lib.ListN.{length, take, length-take, length-append}
 use Rattle.geometry.specs.Outcome.{given, refused}
 use Rattle.rules.specs.declared.pages.PageOrder.{PageOrder}
 use Rattle.rules.specs.declared.pages.PageOrder.the-variants.{DownThenOver, OverThenDown}
-use Rattle.rules.specs.Pages.{upFrom, joined, inOrder, numbered}
+use Rattle.rules.specs.Pages.{upFrom, joined, inOrder, numbered, placeOf}
 use Rattle.rules.proofs.Division.{split}
 
 -- ---- one of a list by its number
@@ -99,13 +99,11 @@ module _ {A : Type 0} where
 
 -- of the page that has so many pages before it, where there are so many rows and columns of pages: the number of its run of rows, from 0
 abbrev pub verticalOf : PageOrder → ℕ → ℕ → ℕ → ℕ
-verticalOf DownThenOver rows columns before = before % rows
-verticalOf OverThenDown rows columns before = before / columns
+verticalOf order rows columns before = placeOf order rows columns before .vertical
 
 -- and of its run of columns
 abbrev pub horizontalOf : PageOrder → ℕ → ℕ → ℕ → ℕ
-horizontalOf DownThenOver rows columns before = before / rows
-horizontalOf OverThenDown rows columns before = before % columns
+horizontalOf order rows columns before = placeOf order rows columns before .horizontal
 
 -- how many pages stand before the page of two runs
 abbrev pub beforeOf : PageOrder → ℕ → ℕ → ℕ → ℕ → ℕ

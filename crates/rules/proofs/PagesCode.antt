@@ -26,7 +26,7 @@ use Rattle.rules.specs.Scale.{Space, fitsSide}
 use Rattle.rules.specs.Pages.{printed, overflowing, RunLists, runAt, pageAt, inOrder, pagesOf, evenLists, numbered, pageNumbered, placeOf, pageAfter, hasPage, firstNo}
 use Rattle.rules.proofs.QuestionLaws.{both}
 use Rattle.rules.proofs.Division.{split}
-use Rattle.rules.proofs.PageLaws.{numbered-zero, numbered-take, numbered-take-past, verticalOf, horizontalOf, page-of, page-beyond, vertical-below, horizontal-below}
+use Rattle.rules.proofs.PageLaws.{numbered-zero, numbered-take, numbered-take-past, page-of, page-beyond}
 
 -- ---- what a run takes of a page
 
@@ -70,21 +70,6 @@ module _ (s : Space) (t : Title) (p : ℕ) (empty : Bool) (k : ℕ) (fs zs : Lis
 -- ---- the place of a page
 
 module _ (rows columns before : ℕ) where
-  place-vertical : (order : PageOrder) → verticalOf order rows columns before ≡ placeOf order rows columns before .vertical
-  place-vertical DownThenOver = refl
-  place-vertical OverThenDown = refl
-
-  place-horizontal : (order : PageOrder) → horizontalOf order rows columns before ≡ placeOf order rows columns before .horizontal
-  place-horizontal DownThenOver = refl
-  place-horizontal OverThenDown = refl
-
-  -- it is among the runs
-  pub place-above : before < rows * columns → (order : PageOrder) → placeOf order rows columns before .vertical < rows
-  place-above h order = rw (place-vertical order) at (vertical-below rows columns before h order)
-
-  pub place-left : before < rows * columns → (order : PageOrder) → placeOf order rows columns before .horizontal < columns
-  place-left h order = rw (place-horizontal order) at (horizontal-below rows columns before h order)
-
   -- there are runs where there is a page
   pub some-rows : before < rows * columns → 0 < rows
   some-rows h = split rows 0 (λ z. let e : rows ≡ 0 = omega arith in absurd (omega (arith, rw e at h))) (λ z. z)
@@ -172,9 +157,6 @@ module _ (p : Plan) (n : ℕ) where
         let c = counted h in
         numbered-take (p .pages) all n (c .to-count)
         ∙ page-of (p .«row_runs») (p .«column_runs») (pageAt rows columns p) (p .order) n (c .from-one) (c .to-last)
-        ∙ ap given
-        (ap (λ (v : ℕ). pageAt rows columns p v (horizontalOf (p .order) (p .«row_runs») (p .«column_runs») (n - 1))) (place-vertical (p .«row_runs») (p .«column_runs») (n - 1) (p .order))
-        ∙ ap (λ (h : ℕ). pageAt rows columns p (placeOf (p .order) (p .«row_runs») (p .«column_runs») (n - 1) .vertical) h) (place-horizontal (p .«row_runs») (p .«column_runs») (n - 1) (p .order)))
 
 -- ---- 6, 11 and 14, way by way
 

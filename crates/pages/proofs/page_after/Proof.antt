@@ -3,7 +3,8 @@ use mathlib.Core.Path.{ap}
 use native.Mathlib.Omega.{arith}
 use Rattle.rules.specs.declared.pages.Place.{Place}
 use Rattle.rules.specs.Pages.{runLists}
-use Rattle.rules.proofs.PagesCode.{place-above, place-left, some-rows, some-columns, page-there}
+use Rattle.rules.proofs.PageLaws.{vertical-below, horizontal-below}
+use Rattle.rules.proofs.PagesCode.{some-rows, some-columns, page-there}
 use borrow.Author.Needs.{needs}
 use Rattle.pages.proofs.page_after.Statement.{statement}
 use Rattle.pages.proofs.page_after.Tie as tie
@@ -19,13 +20,13 @@ run-at-requires : tie.Need-run-at-requires
 run-at-requires c κs =
     let s = c .before .before .before .before .before .before .before .before .before in
     let p = s .args .plan in
-    (s .pre .0, omega (arith, ap (λ (k : Place). k .vertical) (c .place-of .ensures), place-above (p .«row_runs») (p .«column_runs») (s .args .before) (s .pre .1 .1 .1 .1) (p .order), s .pre .1 .1 .0))
+    (s .pre .0, omega (arith, ap (λ (k : Place). k .vertical) (c .place-of .ensures), vertical-below (p .«row_runs») (p .«column_runs») (s .args .before) (s .pre .1 .1 .1 .1) (p .order), s .pre .1 .1 .0))
 
 run-at-requires-2 : tie.Need-run-at-requires-2
 run-at-requires-2 c κs =
     let s = c .before .before .before .before .before .before .before .before .before .before in
     let p = s .args .plan in
-    (s .pre .1 .0, omega (arith, ap (λ (k : Place). k .horizontal) (c .before .place-of .ensures), place-left (p .«row_runs») (p .«column_runs») (s .args .before) (s .pre .1 .1 .1 .1) (p .order), s .pre .1 .1 .1 .0))
+    (s .pre .1 .0, omega (arith, ap (λ (k : Place). k .horizontal) (c .before .place-of .ensures), horizontal-below (p .«row_runs») (p .«column_runs») (s .args .before) (s .pre .1 .1 .1 .1) (p .order), s .pre .1 .1 .1 .0))
 
 returns : tie.Need-returns
 returns c =
