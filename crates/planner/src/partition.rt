@@ -2,10 +2,7 @@
 use crate::runs::count_axis;
 use crate::runs::slots_below;
 use crate::runs::write_axis;
-use questions::all_small;
-use questions::all_within;
-use questions::pairs_ordered;
-use questions::rising_within;
+use questions::partition_refusal;
 use rules::Axis;
 use rules::AxisSetup;
 use rules::Frame;
@@ -19,53 +16,6 @@ ghost use Rattle.rules.specs.Slots.{Slots};
 ghost use Rattle.rules.specs.Titles.{limitOf};
 ghost use Rattle.rules.specs.Runs.{axisRuns, axisTally};
 ghost use Rattle.rules.specs.Partition as call;
-
-// 6, but for the order of the merges: lists that go together are equally long, and the range's first is not above its last.
-fn well_shaped(
-    setup: AxisSetup,
-    indexes: &[u32],
-    sizes: &[u64],
-    merge_firsts: &[u32],
-    merge_lasts: &[u32],
-    lent_even: bool,
-) -> bool
-    ensures { λ r. ⌜ r ≡ call.shaped setup (now (indexes .entry)) (now (sizes .entry)) (now («merge_firsts» .entry)) (now («merge_lasts» .entry)) «lent_even» ⌝ }
-{
-    (indexes.len() == sizes.len())
-        & (merge_firsts.len() == merge_lasts.len())
-        & lent_even
-        & (setup.first <= setup.last)
-}
-
-// The first of the questions 6 to 9 whose answer is no, or 0.
-fn first_no(
-    limit: u32,
-    setup: AxisSetup,
-    indexes: &[u32],
-    sizes: &[u64],
-    merge_firsts: &[u32],
-    merge_lasts: &[u32],
-    lent_even: bool,
-) -> u8
-    ensures { λ r. ⌜ r ≡ call.firstNo limit setup (now (indexes .entry)) (now (sizes .entry)) (now («merge_firsts» .entry)) (now («merge_lasts» .entry)) «lent_even» ⌝ }
-{
-    if !well_shaped(setup, indexes, sizes, merge_firsts, merge_lasts, lent_even) {
-        return 6;
-    }
-    if !pairs_ordered(merge_firsts, merge_lasts) {
-        return 6;
-    }
-    if setup.last > limit {
-        return 7;
-    }
-    if !all_within(merge_lasts, limit) {
-        return 7;
-    }
-    if !rising_within(indexes, limit) {
-        return 8;
-    }
-    if all_small(sizes) { 0 } else { 9 }
-}
 
 // Cuts slots into runs, counted before any is written.
 fn partition_slots(
@@ -177,7 +127,7 @@ pub fn partition_axis_with_breaks(
         & (run_firsts.len() == run_sizes.len())
         & (run_firsts.len() == run_marks.len());
     let limit = axis.limit();
-    let refusal = first_no(
+    let refusal = partition_refusal(
         limit,
         setup,
         indexes,

@@ -5,16 +5,9 @@ use crate::runs::slots_below;
 use crate::runs::write_axis;
 use crate::scale::capacity_at;
 use crate::scale::fit_scale;
-use crate::scale::fixed_scale;
-use crate::scale::or_else;
 use crate::title::title_total;
-use geometry::Content;
 use geometry::Fixed;
-use questions::all_small;
-use questions::all_within;
-use questions::pairs_ordered;
-use questions::rising_within;
-use rules::Axis;
+use questions::plan_refusal;
 use rules::AxisRange;
 use rules::ChosenScale;
 use rules::ContentSides;
@@ -31,6 +24,11 @@ use rules::Settings;
 use rules::SidesFound;
 use rules::Stretch;
 use rules::Title;
+use setup::column_range;
+use setup::content_sides;
+use setup::fixed_scale;
+use setup::looked_at;
+use setup::row_range;
 use titles::body_start;
 use titles::wide;
 use titles::widened_title;
@@ -38,19 +36,17 @@ ghost use mathlib.Core.Path.{_≡_};
 ghost use mathlib.Core.Bool.{cond, _&&_};
 ghost use mathlib.Core.List.{[]};
 ghost use Prim.Native.Nat.{_+_, _≤_, _^_, max};
-ghost use lib.Dec.{leb};
 ghost use lib.ListN.{length};
-ghost use Rattle.rules.specs.Questions.{equallyLong, allOrdered, allWithin};
 ghost use Rattle.rules.specs.Slots.{Slots};
 ghost use Rattle.rules.specs.Runs.{axisRuns};
 ghost use Rattle.rules.specs.Lent.{Room, Written};
-ghost use Rattle.rules.specs.Lent as lists;
-ghost use Rattle.rules.specs.Partition.{Even, noOr};
+ghost use Rattle.rules.specs.Partition.{Even};
 ghost use Rattle.rules.specs.Scale.{fixedScale, fitScale, spaceOf, scaleOf, fitPasses, Low};
 ghost use Rattle.rules.specs.Pages.{none, orEmpty, overflowing};
+ghost use Rattle.rules.specs.Demand.{CoversPairs, FewestPlan, LargestPlan};
+ghost use Rattle.rules.specs.Lent as lists;
 ghost use Rattle.rules.specs.Pages as pages;
 ghost use Rattle.rules.specs.Plan as call;
-ghost use Rattle.rules.specs.Demand.{CoversPairs, FewestPlan, LargestPlan};
 
 // Widens the title of an axis and finds the body.
 fn ready_axis(
@@ -537,158 +533,6 @@ fn plan_axes(
     )
 }
 
-fn content_sides(settings: Settings) -> SidesFound
-    ensures { λ r. ⌜ call.sidesOutcome r ≡ call.contentSides settings ⌝ }
-{
-    let code = settings.paper;
-    let margins = settings.margins;
-    let paper = geometry::paper_geometry(code, settings.landscape);
-    let sheet = paper.geometry;
-    let found = geometry::content_geometry(sheet, margins);
-    let Content::Value(placed) = found else {
-        return SidesFound::CoordinateOverflow;
-    };
-    let content = placed.content;
-    let width = content.width;
-    let height = content.height;
-    SidesFound::Value(ContentSides {
-        width,
-        height,
-        unknown: paper.unknown_paper,
-        invalid: placed.invalid_margins,
-    })
-}
-
-fn headings_of(on: bool, size: u64) -> u64
-    ensures { λ r. ⌜ r ≡ cond on size 0 ⌝ }
-{
-    if on { size } else { 0 }
-}
-
-fn row_range(settings: Settings, range: PrintRange, title: Title) -> AxisRange
-    ensures { λ r. ⌜ call.AreRows r settings range title ⌝ }
-{
-    let target = settings.fit_height;
-    AxisRange {
-        limit: Axis::Rows.limit(),
-        first: range.first_row,
-        last: range.last_row,
-        title,
-        headings: headings_of(settings.headings, 17_408),
-        target: or_else(target, 1),
-    }
-}
-
-fn column_range(settings: Settings, range: PrintRange, title: Title) -> AxisRange
-    ensures { λ r. ⌜ call.AreColumns r settings range title ⌝ }
-{
-    let target = settings.fit_width;
-    AxisRange {
-        limit: Axis::Columns.limit(),
-        first: range.first_column,
-        last: range.last_column,
-        title,
-        headings: headings_of(settings.headings, 38_912),
-        target: or_else(target, 1),
-    }
-}
-
-// The breaks that are looked at: with fit on, none.
-fn looked_at(fit: bool, breaks: usize) -> usize
-    ensures { λ r. ⌜ r ≡ cond fit 0 breaks ⌝ }
-{
-    if fit { 0 } else { breaks }
-}
-
-// 6 of an axis: its lists are equally long, and no first is above its last.
-fn formed(
-    first: u32,
-    last: u32,
-    lent_even: bool,
-    indexes: &[u32],
-    sizes: &[u64],
-    merge_firsts: &[u32],
-    merge_lasts: &[u32],
-) -> bool
-    ensures { λ r. ⌜ r ≡ (equallyLong (now (indexes .entry)) (now (sizes .entry)) && equallyLong (now («merge_firsts» .entry)) (now («merge_lasts» .entry)) && «lent_even» && leb first last && allOrdered (now («merge_firsts» .entry)) (now («merge_lasts» .entry))) ⌝ }
-{
-    (indexes.len() == sizes.len())
-        & (merge_firsts.len() == merge_lasts.len())
-        & lent_even
-        & (first <= last)
-        & pairs_ordered(merge_firsts, merge_lasts)
-}
-
-// 7 of an axis: the range and every merge are inside the grid.
-fn in_grid(limit: u32, last: u32, merge_lasts: &[u32]) -> bool
-    ensures { λ r. ⌜ r ≡ (leb last limit && allWithin limit (now («merge_lasts» .entry))) ⌝ }
-{
-    if last > limit {
-        return false;
-    }
-    all_within(merge_lasts, limit)
-}
-
-// The first of the questions 6 to 9 whose answer is no, or 0.
-fn first_no(
-    row_axis: AxisRange,
-    column_axis: AxisRange,
-    lent_rows_even: bool,
-    lent_columns_even: bool,
-    row_indexes: &[u32],
-    row_sizes: &[u64],
-    column_indexes: &[u32],
-    column_sizes: &[u64],
-    merge_first_rows: &[u32],
-    merge_first_columns: &[u32],
-    merge_last_rows: &[u32],
-    merge_last_columns: &[u32],
-) -> u8
-    ensures { λ r. ⌜ r ≡ call.firstNo (call.axisFor «row_axis» (now («row_indexes» .entry)) (now («row_sizes» .entry)) (now («merge_first_rows» .entry)) (now («merge_last_rows» .entry)) []) (call.axisFor «column_axis» (now («column_indexes» .entry)) (now («column_sizes» .entry)) (now («merge_first_columns» .entry)) (now («merge_last_columns» .entry)) []) «lent_rows_even» «lent_columns_even» ⌝ }
-{
-    let six = formed(
-        row_axis.first,
-        row_axis.last,
-        lent_rows_even,
-        row_indexes,
-        row_sizes,
-        merge_first_rows,
-        merge_last_rows,
-    )
-        & formed(
-            column_axis.first,
-            column_axis.last,
-            lent_columns_even,
-            column_indexes,
-            column_sizes,
-            merge_first_columns,
-            merge_last_columns,
-        )
-        & (merge_first_rows.len() == merge_first_columns.len());
-    let seven = in_grid(row_axis.limit, row_axis.last, merge_last_rows)
-        & in_grid(column_axis.limit, column_axis.last, merge_last_columns);
-    let eight = rising_within(row_indexes, row_axis.limit)
-        & rising_within(column_indexes, column_axis.limit);
-    let nine = all_small(row_sizes) & all_small(column_sizes);
-    first_refused(six, seven, eight, nine)
-}
-
-// The number of the first question whose answer is no, or 0.
-fn first_refused(six: bool, seven: bool, eight: bool, nine: bool) -> u8
-    ensures { λ r. ⌜ r ≡ noOr 6 six (noOr 7 seven (noOr 8 eight (noOr 9 nine 0))) ⌝ }
-{
-    if !six {
-        return 6;
-    }
-    if !seven {
-        return 7;
-    }
-    if !eight {
-        return 8;
-    }
-    if nine { 0 } else { 9 }
-}
-
 // Plans the pages of a range: the scale, the runs of rows and columns, which go to the fronts of eight lent lists, and the notes.
 pub fn plan_pages(
     settings: Settings,
@@ -727,7 +571,7 @@ pub fn plan_pages(
         & (column_run_firsts.len() == column_run_marks.len());
     let rows = row_range(settings, range, row_title);
     let columns = column_range(settings, range, column_title);
-    let refusal = first_no(
+    let refusal = plan_refusal(
         rows,
         columns,
         lent_rows_even,

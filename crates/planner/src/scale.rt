@@ -3,7 +3,6 @@ use crate::runs::run_end;
 use crate::runs::total;
 use geometry::Fixed;
 use geometry::Length;
-use geometry::Setting;
 use rules::ChosenScale;
 use rules::Fit;
 use rules::Frame;
@@ -18,43 +17,7 @@ ghost use lib.ListN.{length};
 ghost use Rattle.rules.specs.Slots.{Slots};
 ghost use Rattle.rules.specs.Titles.{pastTitle};
 ghost use Rattle.rules.specs.Runs.{runs};
-ghost use Rattle.rules.specs.Scale.{orElse, fixedScale, capacityOf, fitsSide, allFit, meets, axisPasses, halve, fitScale, spaceOf, scaleOf, bodyFor, titled, Low, fitPasses, Fitted};
-
-// A setting, or what its absence means.
-pub(crate) fn or_else(setting: Setting, absent: u16) -> u16
-    ensures { λ r. ⌜ r ≡ orElse setting absent ⌝ }
-{
-    match setting {
-        Setting::Absent => absent,
-        Setting::Given(n) => n,
-    }
-}
-
-// The scale of a percent, clamped.
-pub(crate) fn fixed_scale(percent: Setting) -> ChosenScale
-    ensures { λ r. ⌜ scaleOf r ≡ fixedScale percent ⌝ }
-{
-    let asked = or_else(percent, 100);
-    if asked < 10 {
-        return ChosenScale {
-            permille: 100,
-            clamp: 1,
-            unreachable: 0,
-        };
-    }
-    if asked > 400 {
-        return ChosenScale {
-            permille: 4000,
-            clamp: 1,
-            unreachable: 0,
-        };
-    }
-    ChosenScale {
-        permille: asked * 10,
-        clamp: 0,
-        unreachable: 0,
-    }
-}
+ghost use Rattle.rules.specs.Scale.{capacityOf, fitsSide, allFit, meets, axisPasses, halve, fitScale, spaceOf, scaleOf, bodyFor, titled, Low, fitPasses, Fitted};
 
 // The capacity at a permille beside so many units of titles.
 pub(crate) fn capacity_at(page: PageSide, permille: u16, titles: u64) -> u64

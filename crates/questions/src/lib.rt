@@ -1,7 +1,15 @@
 // What is asked of lists before a call answers: document 01, section "Questions in order".
+use rules::AxisRange;
+use rules::AxisSetup;
 ghost use mathlib.Core.Path.{_≡_};
 ghost use Prim.Native.Nat.{min};
-ghost use Rattle.rules.specs.Questions.{allOrdered, allWithin, rising, risingWithin, allSmall};
+ghost use Rattle.rules.specs.Questions.{allOrdered, allWithin, rising, risingWithin, allSmall, equallyLong};
+ghost use mathlib.Core.Bool.{_&&_};
+ghost use mathlib.Core.List.{[]};
+ghost use lib.Dec.{leb};
+ghost use Rattle.rules.specs.Partition.{noOr};
+ghost use Rattle.rules.specs.Plan as call;
+ghost use Rattle.rules.specs.Partition as partition;
 
 const LARGEST_SIZE: u64 = 1_073_741_823;
 
@@ -77,4 +85,140 @@ pub fn all_small(sizes: &[u64]) -> bool
         n += 1;
     }
     true
+}
+
+// 6, but for the order of the merges: lists that go together are equally long, and the range's first is not above its last.
+fn well_shaped(
+    setup: AxisSetup,
+    indexes: &[u32],
+    sizes: &[u64],
+    merge_firsts: &[u32],
+    merge_lasts: &[u32],
+    lent_even: bool,
+) -> bool
+    ensures { λ r. ⌜ r ≡ partition.shaped setup (now (indexes .entry)) (now (sizes .entry)) (now («merge_firsts» .entry)) (now («merge_lasts» .entry)) «lent_even» ⌝ }
+{
+    (indexes.len() == sizes.len())
+        & (merge_firsts.len() == merge_lasts.len())
+        & lent_even
+        & (setup.first <= setup.last)
+}
+
+// The first of the questions 6 to 9 whose answer is no, or 0.
+pub fn partition_refusal(
+    limit: u32,
+    setup: AxisSetup,
+    indexes: &[u32],
+    sizes: &[u64],
+    merge_firsts: &[u32],
+    merge_lasts: &[u32],
+    lent_even: bool,
+) -> u8
+    ensures { λ r. ⌜ r ≡ partition.firstNo limit setup (now (indexes .entry)) (now (sizes .entry)) (now («merge_firsts» .entry)) (now («merge_lasts» .entry)) «lent_even» ⌝ }
+{
+    if !well_shaped(setup, indexes, sizes, merge_firsts, merge_lasts, lent_even) {
+        return 6;
+    }
+    if !pairs_ordered(merge_firsts, merge_lasts) {
+        return 6;
+    }
+    if setup.last > limit {
+        return 7;
+    }
+    if !all_within(merge_lasts, limit) {
+        return 7;
+    }
+    if !rising_within(indexes, limit) {
+        return 8;
+    }
+    if all_small(sizes) { 0 } else { 9 }
+}
+
+// 6 of an axis: its lists are equally long, and no first is above its last.
+fn formed(
+    first: u32,
+    last: u32,
+    lent_even: bool,
+    indexes: &[u32],
+    sizes: &[u64],
+    merge_firsts: &[u32],
+    merge_lasts: &[u32],
+) -> bool
+    ensures { λ r. ⌜ r ≡ (equallyLong (now (indexes .entry)) (now (sizes .entry)) && equallyLong (now («merge_firsts» .entry)) (now («merge_lasts» .entry)) && «lent_even» && leb first last && allOrdered (now («merge_firsts» .entry)) (now («merge_lasts» .entry))) ⌝ }
+{
+    (indexes.len() == sizes.len())
+        & (merge_firsts.len() == merge_lasts.len())
+        & lent_even
+        & (first <= last)
+        & pairs_ordered(merge_firsts, merge_lasts)
+}
+
+// 7 of an axis: the range and every merge are inside the grid.
+fn in_grid(limit: u32, last: u32, merge_lasts: &[u32]) -> bool
+    ensures { λ r. ⌜ r ≡ (leb last limit && allWithin limit (now («merge_lasts» .entry))) ⌝ }
+{
+    if last > limit {
+        return false;
+    }
+    all_within(merge_lasts, limit)
+}
+
+// The first of the questions 6 to 9 whose answer is no, or 0.
+pub fn plan_refusal(
+    row_axis: AxisRange,
+    column_axis: AxisRange,
+    lent_rows_even: bool,
+    lent_columns_even: bool,
+    row_indexes: &[u32],
+    row_sizes: &[u64],
+    column_indexes: &[u32],
+    column_sizes: &[u64],
+    merge_first_rows: &[u32],
+    merge_first_columns: &[u32],
+    merge_last_rows: &[u32],
+    merge_last_columns: &[u32],
+) -> u8
+    ensures { λ r. ⌜ r ≡ call.firstNo (call.axisFor «row_axis» (now («row_indexes» .entry)) (now («row_sizes» .entry)) (now («merge_first_rows» .entry)) (now («merge_last_rows» .entry)) []) (call.axisFor «column_axis» (now («column_indexes» .entry)) (now («column_sizes» .entry)) (now («merge_first_columns» .entry)) (now («merge_last_columns» .entry)) []) «lent_rows_even» «lent_columns_even» ⌝ }
+{
+    let six = formed(
+        row_axis.first,
+        row_axis.last,
+        lent_rows_even,
+        row_indexes,
+        row_sizes,
+        merge_first_rows,
+        merge_last_rows,
+    )
+        & formed(
+            column_axis.first,
+            column_axis.last,
+            lent_columns_even,
+            column_indexes,
+            column_sizes,
+            merge_first_columns,
+            merge_last_columns,
+        )
+        & (merge_first_rows.len() == merge_first_columns.len());
+    let seven = in_grid(row_axis.limit, row_axis.last, merge_last_rows)
+        & in_grid(column_axis.limit, column_axis.last, merge_last_columns);
+    let eight = rising_within(row_indexes, row_axis.limit)
+        & rising_within(column_indexes, column_axis.limit);
+    let nine = all_small(row_sizes) & all_small(column_sizes);
+    first_refused(six, seven, eight, nine)
+}
+
+// The number of the first question whose answer is no, or 0.
+fn first_refused(six: bool, seven: bool, eight: bool, nine: bool) -> u8
+    ensures { λ r. ⌜ r ≡ noOr 6 six (noOr 7 seven (noOr 8 eight (noOr 9 nine 0))) ⌝ }
+{
+    if !six {
+        return 6;
+    }
+    if !seven {
+        return 7;
+    }
+    if !eight {
+        return 8;
+    }
+    if nine { 0 } else { 9 }
 }

@@ -22,29 +22,29 @@ grid Rows = lit≤ tt
 grid Columns = lit≤ tt
 
 -- the first no, at the axis' limit
-asked : (d : tie.After-first-no) → let a = d .before .before .before .before .before .before .before .before .before .before .before .args in
-    d .first-no .result ≡ firstNo (limitOf (a .axis)) (a .setup) (a .indexes .now) (a .sizes .now) (a .merge-firsts .now) (a .merge-lasts .now) (lentEven (a .run-firsts .now) (a .run-lasts .now) (a .run-sizes .now) (a .run-marks .now))
+asked : (d : tie.After-partition-refusal) → let a = d .before .before .before .before .before .before .before .before .before .before .before .args in
+    d .partition-refusal .result ≡ firstNo (limitOf (a .axis)) (a .setup) (a .indexes .now) (a .sizes .now) (a .merge-firsts .now) (a .merge-lasts .now) (lentEven (a .run-firsts .now) (a .run-lasts .now) (a .run-sizes .now) (a .run-marks .now))
 asked d =
     let a = d .before .before .before .before .before .before .before .before .before .before .before .args in
-    d .first-no .ensures
+    d .partition-refusal .ensures
     ∙ ap (λ (n : ℕ). firstNo n (a .setup) (a .indexes .now) (a .sizes .now) (a .merge-firsts .now) (a .merge-lasts .now) (lentEven (a .run-firsts .now) (a .run-lasts .now) (a .run-sizes .now) (a .run-marks .now))) (d .before .limit .ensures)
 
 limit-requires : tie.Need-limit-requires
 limit-requires c κs = search needs
 
-first-no-requires : tie.Need-first-no-requires
-first-no-requires c κs = search needs
+partition-refusal-requires : tie.Need-partition-refusal-requires
+partition-refusal-requires c κs = search needs
 
 returns : tie.Need-returns
 returns c =
     let a = c .before .before .before .before .before .before .before .before .before .before .before .before .args in
-    refuses _ (bodyRuns (a .setup) (a .indexes .now) (a .sizes .now) (a .merge-firsts .now) (a .merge-lasts .now) (a .breaks .now)) (c .before .first-no .result) (a .run-firsts .now) (a .run-lasts .now) (a .run-sizes .now) (a .run-marks .now) (is-refused (limitOf (a .axis)) (a .setup) (a .indexes .now) (a .sizes .now) (a .merge-firsts .now) (a .merge-lasts .now) (a .breaks .now) (a .run-firsts .now) (a .run-lasts .now) (a .run-sizes .now) (a .run-marks .now) (c .before .first-no .result) (asked (c .before)) (c .if1 .taken))
+    refuses _ (bodyRuns (a .setup) (a .indexes .now) (a .sizes .now) (a .merge-firsts .now) (a .merge-lasts .now) (a .breaks .now)) (c .before .partition-refusal .result) (a .run-firsts .now) (a .run-lasts .now) (a .run-sizes .now) (a .run-marks .now) (is-refused (limitOf (a .axis)) (a .setup) (a .indexes .now) (a .sizes .now) (a .merge-firsts .now) (a .merge-lasts .now) (a .breaks .now) (a .run-firsts .now) (a .run-lasts .now) (a .run-sizes .now) (a .run-marks .now) (c .before .partition-refusal .result) (asked (c .before)) (c .if1 .taken))
 
 partition-body-requires : tie.Need-partition-body-requires
 partition-body-requires c κs =
     let a = c .before .before .before .before .before .before .before .before .before .before .before .before .before .before .before .before .args in
     let d = c .before .before .before .before .before in
-    let y = is-asked (limitOf (a .axis)) (a .setup) (a .indexes .now) (a .sizes .now) (a .merge-firsts .now) (a .merge-lasts .now) (a .breaks .now) (a .run-firsts .now) (a .run-lasts .now) (a .run-sizes .now) (a .run-marks .now) (d .first-no .result) (asked d) (c .before .before .before .before .if1 .left) (grid (a .axis)) in
+    let y = is-asked (limitOf (a .axis)) (a .setup) (a .indexes .now) (a .sizes .now) (a .merge-firsts .now) (a .merge-lasts .now) (a .breaks .now) (a .run-firsts .now) (a .run-lasts .now) (a .run-sizes .now) (a .run-marks .now) (d .partition-refusal .result) (asked d) (c .before .before .before .before .if1 .left) (grid (a .axis)) in
     (y .merges, (y .slots, y .lists))
 
 same-length : tie.Need-same-length
@@ -64,7 +64,7 @@ returns-2 c =
     let a = c .before .before .before .before .before .before .before .before .before .before .before .before .before .before .before .before .before .before .before .before .before .before .before .before .before .args in
     let d = c .before .before .before .before .before .before .before .before .before .before .before .before .before .before in
     let p = c .before .before .before .before .before .before .before .before .partition-body in
-    let y = is-asked (limitOf (a .axis)) (a .setup) (a .indexes .now) (a .sizes .now) (a .merge-firsts .now) (a .merge-lasts .now) (a .breaks .now) (a .run-firsts .now) (a .run-lasts .now) (a .run-sizes .now) (a .run-marks .now) (d .first-no .result) (asked d) (c .before .before .before .before .before .before .before .before .before .before .before .before .before .if1 .left) (grid (a .axis)) in
+    let y = is-asked (limitOf (a .axis)) (a .setup) (a .indexes .now) (a .sizes .now) (a .merge-firsts .now) (a .merge-lasts .now) (a .breaks .now) (a .run-firsts .now) (a .run-lasts .now) (a .run-sizes .now) (a .run-marks .now) (d .partition-refusal .result) (asked d) (c .before .before .before .before .before .before .before .before .before .before .before .before .before .if1 .left) (grid (a .axis)) in
     rw (y .goes-on) (p .ensures)
 
 pub partition-axis-with-breaks-spec : {M : Type 1} → statement M
@@ -72,7 +72,7 @@ partition-axis-with-breaks-spec =
     tie.close
     (tie.spec
     limit-requires
-    first-no-requires
+    partition-refusal-requires
     returns
     partition-body-requires
     same-length

@@ -15,10 +15,10 @@ use Rattle.planner.proofs.plan.plan_pages.Statement.{statement}
 use Rattle.planner.proofs.plan.plan_pages.Tie as tie
 
 -- the first no, of both axes as the settings make them
-asked : (d : tie.After-first-no) → let a = d .before .before .before .before .before .before .before .before .before .before .before .before .before .before .before .before .before .before .before .before .before .args in d .first-no .result ≡ firstNo (rowsOf (a .settings) (a .range) (a .row-title) (a .row-indexes .now) (a .row-sizes .now) (a .merge-first-rows .now) (a .merge-last-rows .now) (a .row-breaks .now)) (columnsOf (a .settings) (a .range) (a .column-title) (a .column-indexes .now) (a .column-sizes .now) (a .merge-first-columns .now) (a .merge-last-columns .now) (a .column-breaks .now)) (evenLists (runLists (a .row-run-firsts .now) (a .row-run-lasts .now) (a .row-run-sizes .now) (a .row-run-marks .now))) (evenLists (runLists (a .column-run-firsts .now) (a .column-run-lasts .now) (a .column-run-sizes .now) (a .column-run-marks .now)))
+asked : (d : tie.After-plan-refusal) → let a = d .before .before .before .before .before .before .before .before .before .before .before .before .before .before .before .before .before .before .before .before .before .args in d .plan-refusal .result ≡ firstNo (rowsOf (a .settings) (a .range) (a .row-title) (a .row-indexes .now) (a .row-sizes .now) (a .merge-first-rows .now) (a .merge-last-rows .now) (a .row-breaks .now)) (columnsOf (a .settings) (a .range) (a .column-title) (a .column-indexes .now) (a .column-sizes .now) (a .merge-first-columns .now) (a .merge-last-columns .now) (a .column-breaks .now)) (evenLists (runLists (a .row-run-firsts .now) (a .row-run-lasts .now) (a .row-run-sizes .now) (a .row-run-marks .now))) (evenLists (runLists (a .column-run-firsts .now) (a .column-run-lasts .now) (a .column-run-sizes .now) (a .column-run-marks .now)))
 asked d =
     let a = d .before .before .before .before .before .before .before .before .before .before .before .before .before .before .before .before .before .before .before .before .before .args in
-    d .first-no .ensures
+    d .plan-refusal .ensures
     ∙ no-breaks (d .before .before .row-range .result) (d .before .column-range .result) (a .row-indexes .now) (a .row-sizes .now) (a .merge-first-rows .now) (a .merge-last-rows .now) (lookedAt (a .settings .fit) (a .row-breaks .now)) (a .column-indexes .now) (a .column-sizes .now) (a .merge-first-columns .now) (a .merge-last-columns .now) (lookedAt (a .settings .fit) (a .column-breaks .now)) (evenLists (runLists (a .row-run-firsts .now) (a .row-run-lasts .now) (a .row-run-sizes .now) (a .row-run-marks .now))) (evenLists (runLists (a .column-run-firsts .now) (a .column-run-lasts .now) (a .column-run-sizes .now) (a .column-run-marks .now)))
     ∙ ap₂ (λ (x y : AxisInput). firstNo x y (evenLists (runLists (a .row-run-firsts .now) (a .row-run-lasts .now) (a .row-run-sizes .now) (a .row-run-marks .now))) (evenLists (runLists (a .column-run-firsts .now) (a .column-run-lasts .now) (a .column-run-sizes .now) (a .column-run-marks .now)))) (d .before .before .row-range .ensures (a .row-indexes .now) (a .row-sizes .now) (a .merge-first-rows .now) (a .merge-last-rows .now) (a .row-breaks .now)) (d .before .column-range .ensures (a .column-indexes .now) (a .column-sizes .now) (a .merge-first-columns .now) (a .merge-last-columns .now) (a .column-breaks .now))
 
@@ -28,14 +28,14 @@ row-range-requires c κs = search needs
 column-range-requires : tie.Need-column-range-requires
 column-range-requires c κs = search needs
 
-first-no-requires : tie.Need-first-no-requires
-first-no-requires c κs = search needs
+plan-refusal-requires : tie.Need-plan-refusal-requires
+plan-refusal-requires c κs = search needs
 
 returns : tie.Need-returns
 returns c =
     let d = c .before in
     let a = d .before .before .before .before .before .before .before .before .before .before .before .before .before .before .before .before .before .before .before .before .before .args in
-    clauses (a .settings) (rowsOf (a .settings) (a .range) (a .row-title) (a .row-indexes .now) (a .row-sizes .now) (a .merge-first-rows .now) (a .merge-last-rows .now) (a .row-breaks .now)) (columnsOf (a .settings) (a .range) (a .column-title) (a .column-indexes .now) (a .column-sizes .now) (a .merge-first-columns .now) (a .merge-last-columns .now) (a .column-breaks .now)) (runLists (a .row-run-firsts .now) (a .row-run-lasts .now) (a .row-run-sizes .now) (a .row-run-marks .now)) (runLists (a .column-run-firsts .now) (a .column-run-lasts .now) (a .column-run-sizes .now) (a .column-run-marks .now)) _ _ _ (refuses-plan _ (d .first-no .result) (runLists (a .row-run-firsts .now) (a .row-run-lasts .now) (a .row-run-sizes .now) (a .row-run-marks .now)) (runLists (a .column-run-firsts .now) (a .column-run-lasts .now) (a .column-run-sizes .now) (a .column-run-marks .now)) (is-refused (a .settings) (rowsOf (a .settings) (a .range) (a .row-title) (a .row-indexes .now) (a .row-sizes .now) (a .merge-first-rows .now) (a .merge-last-rows .now) (a .row-breaks .now)) (columnsOf (a .settings) (a .range) (a .column-title) (a .column-indexes .now) (a .column-sizes .now) (a .merge-first-columns .now) (a .merge-last-columns .now) (a .column-breaks .now)) (runLists (a .row-run-firsts .now) (a .row-run-lasts .now) (a .row-run-sizes .now) (a .row-run-marks .now)) (runLists (a .column-run-firsts .now) (a .column-run-lasts .now) (a .column-run-sizes .now) (a .column-run-marks .now)) (d .first-no .result) (asked d) (c .if1 .taken)))
+    clauses (a .settings) (rowsOf (a .settings) (a .range) (a .row-title) (a .row-indexes .now) (a .row-sizes .now) (a .merge-first-rows .now) (a .merge-last-rows .now) (a .row-breaks .now)) (columnsOf (a .settings) (a .range) (a .column-title) (a .column-indexes .now) (a .column-sizes .now) (a .merge-first-columns .now) (a .merge-last-columns .now) (a .column-breaks .now)) (runLists (a .row-run-firsts .now) (a .row-run-lasts .now) (a .row-run-sizes .now) (a .row-run-marks .now)) (runLists (a .column-run-firsts .now) (a .column-run-lasts .now) (a .column-run-sizes .now) (a .column-run-marks .now)) _ _ _ (refuses-plan _ (d .plan-refusal .result) (runLists (a .row-run-firsts .now) (a .row-run-lasts .now) (a .row-run-sizes .now) (a .row-run-marks .now)) (runLists (a .column-run-firsts .now) (a .column-run-lasts .now) (a .column-run-sizes .now) (a .column-run-marks .now)) (is-refused (a .settings) (rowsOf (a .settings) (a .range) (a .row-title) (a .row-indexes .now) (a .row-sizes .now) (a .merge-first-rows .now) (a .merge-last-rows .now) (a .row-breaks .now)) (columnsOf (a .settings) (a .range) (a .column-title) (a .column-indexes .now) (a .column-sizes .now) (a .merge-first-columns .now) (a .merge-last-columns .now) (a .column-breaks .now)) (runLists (a .row-run-firsts .now) (a .row-run-lasts .now) (a .row-run-sizes .now) (a .row-run-marks .now)) (runLists (a .column-run-firsts .now) (a .column-run-lasts .now) (a .column-run-sizes .now) (a .column-run-marks .now)) (d .plan-refusal .result) (asked d) (c .if1 .taken)))
 
 content-sides-requires : tie.Need-content-sides-requires
 content-sides-requires c κs = search needs
@@ -51,7 +51,7 @@ returns-2 c =
     let d = c .before .before .before .before in
     let a = d .before .before .before .before .before .before .before .before .before .before .before .before .before .before .before .before .before .before .before .before .before .args in
     let t : contentSides (a .settings) ≡ refused 10 = sym (c .before .before .content-sides .ensures) ∙ ap sidesOutcome (c .enum-told .given .1) in
-    clauses (a .settings) (rowsOf (a .settings) (a .range) (a .row-title) (a .row-indexes .now) (a .row-sizes .now) (a .merge-first-rows .now) (a .merge-last-rows .now) (a .row-breaks .now)) (columnsOf (a .settings) (a .range) (a .column-title) (a .column-indexes .now) (a .column-sizes .now) (a .merge-first-columns .now) (a .merge-last-columns .now) (a .column-breaks .now)) (runLists (a .row-run-firsts .now) (a .row-run-lasts .now) (a .row-run-sizes .now) (a .row-run-marks .now)) (runLists (a .column-run-firsts .now) (a .column-run-lasts .now) (a .column-run-sizes .now) (a .column-run-marks .now)) _ _ _ (refuses-plan _ 10 (runLists (a .row-run-firsts .now) (a .row-run-lasts .now) (a .row-run-sizes .now) (a .row-run-marks .now)) (runLists (a .column-run-firsts .now) (a .column-run-lasts .now) (a .column-run-sizes .now) (a .column-run-marks .now)) (ten-of (a .settings) (rowsOf (a .settings) (a .range) (a .row-title) (a .row-indexes .now) (a .row-sizes .now) (a .merge-first-rows .now) (a .merge-last-rows .now) (a .row-breaks .now)) (columnsOf (a .settings) (a .range) (a .column-title) (a .column-indexes .now) (a .column-sizes .now) (a .merge-first-columns .now) (a .merge-last-columns .now) (a .column-breaks .now)) (runLists (a .row-run-firsts .now) (a .row-run-lasts .now) (a .row-run-sizes .now) (a .row-run-marks .now)) (runLists (a .column-run-firsts .now) (a .column-run-lasts .now) (a .column-run-sizes .now) (a .column-run-marks .now)) (d .first-no .result) (asked d) (is-asked (a .settings) (rowsOf (a .settings) (a .range) (a .row-title) (a .row-indexes .now) (a .row-sizes .now) (a .merge-first-rows .now) (a .merge-last-rows .now) (a .row-breaks .now)) (columnsOf (a .settings) (a .range) (a .column-title) (a .column-indexes .now) (a .column-sizes .now) (a .merge-first-columns .now) (a .merge-last-columns .now) (a .column-breaks .now)) (runLists (a .row-run-firsts .now) (a .row-run-lasts .now) (a .row-run-sizes .now) (a .row-run-marks .now)) (runLists (a .column-run-firsts .now) (a .column-run-lasts .now) (a .column-run-sizes .now) (a .column-run-marks .now)) (d .first-no .result) (asked d) (c .before .before .before .if1 .left)) t))
+    clauses (a .settings) (rowsOf (a .settings) (a .range) (a .row-title) (a .row-indexes .now) (a .row-sizes .now) (a .merge-first-rows .now) (a .merge-last-rows .now) (a .row-breaks .now)) (columnsOf (a .settings) (a .range) (a .column-title) (a .column-indexes .now) (a .column-sizes .now) (a .merge-first-columns .now) (a .merge-last-columns .now) (a .column-breaks .now)) (runLists (a .row-run-firsts .now) (a .row-run-lasts .now) (a .row-run-sizes .now) (a .row-run-marks .now)) (runLists (a .column-run-firsts .now) (a .column-run-lasts .now) (a .column-run-sizes .now) (a .column-run-marks .now)) _ _ _ (refuses-plan _ 10 (runLists (a .row-run-firsts .now) (a .row-run-lasts .now) (a .row-run-sizes .now) (a .row-run-marks .now)) (runLists (a .column-run-firsts .now) (a .column-run-lasts .now) (a .column-run-sizes .now) (a .column-run-marks .now)) (ten-of (a .settings) (rowsOf (a .settings) (a .range) (a .row-title) (a .row-indexes .now) (a .row-sizes .now) (a .merge-first-rows .now) (a .merge-last-rows .now) (a .row-breaks .now)) (columnsOf (a .settings) (a .range) (a .column-title) (a .column-indexes .now) (a .column-sizes .now) (a .merge-first-columns .now) (a .merge-last-columns .now) (a .column-breaks .now)) (runLists (a .row-run-firsts .now) (a .row-run-lasts .now) (a .row-run-sizes .now) (a .row-run-marks .now)) (runLists (a .column-run-firsts .now) (a .column-run-lasts .now) (a .column-run-sizes .now) (a .column-run-marks .now)) (d .plan-refusal .result) (asked d) (is-asked (a .settings) (rowsOf (a .settings) (a .range) (a .row-title) (a .row-indexes .now) (a .row-sizes .now) (a .merge-first-rows .now) (a .merge-last-rows .now) (a .row-breaks .now)) (columnsOf (a .settings) (a .range) (a .column-title) (a .column-indexes .now) (a .column-sizes .now) (a .merge-first-columns .now) (a .merge-last-columns .now) (a .column-breaks .now)) (runLists (a .row-run-firsts .now) (a .row-run-lasts .now) (a .row-run-sizes .now) (a .row-run-marks .now)) (runLists (a .column-run-firsts .now) (a .column-run-lasts .now) (a .column-run-sizes .now) (a .column-run-marks .now)) (d .plan-refusal .result) (asked d) (c .before .before .before .if1 .left)) t))
 
 looked-at-requires : tie.Need-looked-at-requires
 looked-at-requires c κs = search needs
@@ -75,7 +75,7 @@ plan-axes-requires : tie.Need-plan-axes-requires
 plan-axes-requires c κs =
     let d = c .before .before .before .before .before .before .before .before .before .before .before .before .before .before .before .before .before in
     let a = d .before .before .before .before .before .before .before .before .before .before .before .before .before .before .before .before .before .before .before .before .before .args in
-    let y = is-asked (a .settings) (rowsOf (a .settings) (a .range) (a .row-title) (a .row-indexes .now) (a .row-sizes .now) (a .merge-first-rows .now) (a .merge-last-rows .now) (a .row-breaks .now)) (columnsOf (a .settings) (a .range) (a .column-title) (a .column-indexes .now) (a .column-sizes .now) (a .merge-first-columns .now) (a .merge-last-columns .now) (a .column-breaks .now)) (runLists (a .row-run-firsts .now) (a .row-run-lasts .now) (a .row-run-sizes .now) (a .row-run-marks .now)) (runLists (a .column-run-firsts .now) (a .column-run-lasts .now) (a .column-run-sizes .now) (a .column-run-marks .now)) (d .first-no .result) (asked d) (c .before .before .before .before .before .before .before .before .before .before .before .before .before .before .before .before .if1 .left) in
+    let y = is-asked (a .settings) (rowsOf (a .settings) (a .range) (a .row-title) (a .row-indexes .now) (a .row-sizes .now) (a .merge-first-rows .now) (a .merge-last-rows .now) (a .row-breaks .now)) (columnsOf (a .settings) (a .range) (a .column-title) (a .column-indexes .now) (a .column-sizes .now) (a .merge-first-columns .now) (a .merge-last-columns .now) (a .column-breaks .now)) (runLists (a .row-run-firsts .now) (a .row-run-lasts .now) (a .row-run-sizes .now) (a .row-run-marks .now)) (runLists (a .column-run-firsts .now) (a .column-run-lasts .now) (a .column-run-sizes .now) (a .column-run-marks .now)) (d .plan-refusal .result) (asked d) (c .before .before .before .before .before .before .before .before .before .before .before .before .before .before .before .before .if1 .left) in
     (rows-fine (d .before .before .row-range .result) (a .settings) (a .range) (a .row-title) (a .row-indexes .now) (a .row-sizes .now) (a .merge-first-rows .now) (a .merge-last-rows .now) (a .row-breaks .now) _ (d .before .before .row-range .ensures) (y .rows-yes), (columns-fine (d .before .column-range .result) (a .settings) (a .range) (a .column-title) (a .column-indexes .now) (a .column-sizes .now) (a .merge-first-columns .now) (a .merge-last-columns .now) (a .column-breaks .now) _ (d .before .column-range .ensures) (y .columns-yes), (even-of (a .row-run-firsts .now) (a .row-run-lasts .now) (a .row-run-sizes .now) (a .row-run-marks .now) (formed-of _ _ (y .rows-yes .is-formed) .lent-even), even-of (a .column-run-firsts .now) (a .column-run-lasts .now) (a .column-run-sizes .now) (a .column-run-marks .now) (formed-of _ _ (y .columns-yes .is-formed) .lent-even))))
 
 same-length : tie.Need-same-length
@@ -106,11 +106,11 @@ returns-3 : tie.Need-returns-3
 returns-3 c =
     let d = c .before .before .before .before .before .before .before .before .before .before .before .before .before .before .before .before .before .before .before .before .before .before .before .before .before .before .before .before .before .before .before .before .before .before in
     let a = d .before .before .before .before .before .before .before .before .before .before .before .before .before .before .before .before .before .before .before .before .before .args in
-    let y = is-asked (a .settings) (rowsOf (a .settings) (a .range) (a .row-title) (a .row-indexes .now) (a .row-sizes .now) (a .merge-first-rows .now) (a .merge-last-rows .now) (a .row-breaks .now)) (columnsOf (a .settings) (a .range) (a .column-title) (a .column-indexes .now) (a .column-sizes .now) (a .merge-first-columns .now) (a .merge-last-columns .now) (a .column-breaks .now)) (runLists (a .row-run-firsts .now) (a .row-run-lasts .now) (a .row-run-sizes .now) (a .row-run-marks .now)) (runLists (a .column-run-firsts .now) (a .column-run-lasts .now) (a .column-run-sizes .now) (a .column-run-marks .now)) (d .first-no .result) (asked d) (c .before .before .before .before .before .before .before .before .before .before .before .before .before .before .before .before .before .before .before .before .before .before .before .before .before .before .before .before .before .before .before .before .before .if1 .left) in
+    let y = is-asked (a .settings) (rowsOf (a .settings) (a .range) (a .row-title) (a .row-indexes .now) (a .row-sizes .now) (a .merge-first-rows .now) (a .merge-last-rows .now) (a .row-breaks .now)) (columnsOf (a .settings) (a .range) (a .column-title) (a .column-indexes .now) (a .column-sizes .now) (a .merge-first-columns .now) (a .merge-last-columns .now) (a .column-breaks .now)) (runLists (a .row-run-firsts .now) (a .row-run-lasts .now) (a .row-run-sizes .now) (a .row-run-marks .now)) (runLists (a .column-run-firsts .now) (a .column-run-lasts .now) (a .column-run-sizes .now) (a .column-run-marks .now)) (d .plan-refusal .result) (asked d) (c .before .before .before .before .before .before .before .before .before .before .before .before .before .before .before .before .before .before .before .before .before .before .before .before .before .before .before .before .before .before .before .before .before .if1 .left) in
     let t : contentSides (a .settings) ≡ given _ = sym (c .before .before .before .before .before .before .before .before .before .before .before .before .before .before .before .before .before .before .before .before .before .before .before .before .before .before .before .before .before .before .before .before .content-sides .ensures) ∙ ap sidesOutcome (c .before .before .before .before .before .before .before .before .before .before .before .before .before .before .before .before .before .before .before .before .before .before .before .before .before .before .before .before .before .before .sides .given .1) in
     let ea = ap (λ (bs : List ℕ). axisFor (d .before .before .row-range .result) (a .row-indexes .now) (a .row-sizes .now) (a .merge-first-rows .now) (a .merge-last-rows .now) bs) (looked (a .settings .fit) (a .row-breaks .now) _ (c .before .before .before .before .before .before .before .before .before .before .before .before .before .before .before .before .before .before .before .before .before .before .before .before .before .before .before .before .looked-at .ensures)) ∙ d .before .before .row-range .ensures (a .row-indexes .now) (a .row-sizes .now) (a .merge-first-rows .now) (a .merge-last-rows .now) (a .row-breaks .now) in
     let eb = ap (λ (bs : List ℕ). axisFor (d .before .column-range .result) (a .column-indexes .now) (a .column-sizes .now) (a .merge-first-columns .now) (a .merge-last-columns .now) bs) (looked (a .settings .fit) (a .column-breaks .now) _ (c .before .before .before .before .before .before .before .before .before .before .before .before .before .before .before .before .before .before .before .before .before .before .before .before .before .before .before .looked-at2 .ensures)) ∙ d .before .column-range .ensures (a .column-indexes .now) (a .column-sizes .now) (a .merge-first-columns .now) (a .merge-last-columns .now) (a .column-breaks .now) in
-    clauses (a .settings) (rowsOf (a .settings) (a .range) (a .row-title) (a .row-indexes .now) (a .row-sizes .now) (a .merge-first-rows .now) (a .merge-last-rows .now) (a .row-breaks .now)) (columnsOf (a .settings) (a .range) (a .column-title) (a .column-indexes .now) (a .column-sizes .now) (a .merge-first-columns .now) (a .merge-last-columns .now) (a .column-breaks .now)) (runLists (a .row-run-firsts .now) (a .row-run-lasts .now) (a .row-run-sizes .now) (a .row-run-marks .now)) (runLists (a .column-run-firsts .now) (a .column-run-lasts .now) (a .column-run-sizes .now) (a .column-run-marks .now)) _ _ _ (relay-call (a .settings) _ (rowsOf (a .settings) (a .range) (a .row-title) (a .row-indexes .now) (a .row-sizes .now) (a .merge-first-rows .now) (a .merge-last-rows .now) (a .row-breaks .now)) (columnsOf (a .settings) (a .range) (a .column-title) (a .column-indexes .now) (a .column-sizes .now) (a .merge-first-columns .now) (a .merge-last-columns .now) (a .column-breaks .now)) _ _ (runLists (a .row-run-firsts .now) (a .row-run-lasts .now) (a .row-run-sizes .now) (a .row-run-marks .now)) (runLists (a .column-run-firsts .now) (a .column-run-lasts .now) (a .column-run-sizes .now) (a .column-run-marks .now)) _ _ _ ea eb (sides-of (a .settings) (rowsOf (a .settings) (a .range) (a .row-title) (a .row-indexes .now) (a .row-sizes .now) (a .merge-first-rows .now) (a .merge-last-rows .now) (a .row-breaks .now)) (columnsOf (a .settings) (a .range) (a .column-title) (a .column-indexes .now) (a .column-sizes .now) (a .merge-first-columns .now) (a .merge-last-columns .now) (a .column-breaks .now)) (runLists (a .row-run-firsts .now) (a .row-run-lasts .now) (a .row-run-sizes .now) (a .row-run-marks .now)) (runLists (a .column-run-firsts .now) (a .column-run-lasts .now) (a .column-run-sizes .now) (a .column-run-marks .now)) (d .first-no .result) (asked d) y _ t) (c .before .before .before .before .before .before .before .before .before .before .before .before .before .before .before .before .plan-axes .ensures))
+    clauses (a .settings) (rowsOf (a .settings) (a .range) (a .row-title) (a .row-indexes .now) (a .row-sizes .now) (a .merge-first-rows .now) (a .merge-last-rows .now) (a .row-breaks .now)) (columnsOf (a .settings) (a .range) (a .column-title) (a .column-indexes .now) (a .column-sizes .now) (a .merge-first-columns .now) (a .merge-last-columns .now) (a .column-breaks .now)) (runLists (a .row-run-firsts .now) (a .row-run-lasts .now) (a .row-run-sizes .now) (a .row-run-marks .now)) (runLists (a .column-run-firsts .now) (a .column-run-lasts .now) (a .column-run-sizes .now) (a .column-run-marks .now)) _ _ _ (relay-call (a .settings) _ (rowsOf (a .settings) (a .range) (a .row-title) (a .row-indexes .now) (a .row-sizes .now) (a .merge-first-rows .now) (a .merge-last-rows .now) (a .row-breaks .now)) (columnsOf (a .settings) (a .range) (a .column-title) (a .column-indexes .now) (a .column-sizes .now) (a .merge-first-columns .now) (a .merge-last-columns .now) (a .column-breaks .now)) _ _ (runLists (a .row-run-firsts .now) (a .row-run-lasts .now) (a .row-run-sizes .now) (a .row-run-marks .now)) (runLists (a .column-run-firsts .now) (a .column-run-lasts .now) (a .column-run-sizes .now) (a .column-run-marks .now)) _ _ _ ea eb (sides-of (a .settings) (rowsOf (a .settings) (a .range) (a .row-title) (a .row-indexes .now) (a .row-sizes .now) (a .merge-first-rows .now) (a .merge-last-rows .now) (a .row-breaks .now)) (columnsOf (a .settings) (a .range) (a .column-title) (a .column-indexes .now) (a .column-sizes .now) (a .merge-first-columns .now) (a .merge-last-columns .now) (a .column-breaks .now)) (runLists (a .row-run-firsts .now) (a .row-run-lasts .now) (a .row-run-sizes .now) (a .row-run-marks .now)) (runLists (a .column-run-firsts .now) (a .column-run-lasts .now) (a .column-run-sizes .now) (a .column-run-marks .now)) (d .plan-refusal .result) (asked d) y _ t) (c .before .before .before .before .before .before .before .before .before .before .before .before .before .before .before .before .plan-axes .ensures))
 
 pub plan-pages-spec : {M : Type 1} → statement M
 plan-pages-spec =
@@ -118,7 +118,7 @@ plan-pages-spec =
     (tie.spec
     row-range-requires
     column-range-requires
-    first-no-requires
+    plan-refusal-requires
     returns
     content-sides-requires
     enum-known-sides

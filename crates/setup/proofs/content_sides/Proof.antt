@@ -1,8 +1,8 @@
--- `planner::plan::content_sides` meets its contract. Assumes nothing.
+-- `setup::content_sides` meets its contract. Assumes nothing.
 use Rattle.rules.specs.Plan.{contentSides}
 use borrow.Author.Needs.{needs}
-use Rattle.planner.proofs.plan.content_sides.Statement.{statement}
-use Rattle.planner.proofs.plan.content_sides.Tie as tie
+use Rattle.setup.proofs.content_sides.Statement.{statement}
+use Rattle.setup.proofs.content_sides.Tie as tie
 
 paper-geometry-requires : tie.Need-paper-geometry-requires
 paper-geometry-requires c κs = search needs

@@ -1,8 +1,8 @@
--- `planner::plan::first_refused` meets its contract. Assumes nothing.
+-- `questions::first_refused` meets its contract. Assumes nothing.
 use borrow.Author.Tests.{not-true, not-false}
 use Rattle.rules.proofs.PlanLaws.{no-six, no-seven, no-eight, no-nine, no-none}
-use Rattle.planner.proofs.plan.first_refused.Statement.{statement}
-use Rattle.planner.proofs.plan.first_refused.Tie as tie
+use Rattle.questions.proofs.first_refused.Statement.{statement}
+use Rattle.questions.proofs.first_refused.Tie as tie
 
 returns : tie.Need-returns
 returns c =

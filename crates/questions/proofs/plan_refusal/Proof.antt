@@ -1,9 +1,9 @@
--- `planner::plan::first_no` meets its contract. Assumes nothing.
+-- `questions::plan_refusal` meets its contract. Assumes nothing.
 use mathlib.Core.Path.{_∙_}
 use Rattle.rules.specs.Plan.{formed, inGrid, firstNo}
 use borrow.Author.Needs.{needs}
-use Rattle.planner.proofs.plan.first_no.Statement.{statement}
-use Rattle.planner.proofs.plan.first_no.Tie as tie
+use Rattle.questions.proofs.plan_refusal.Statement.{statement}
+use Rattle.questions.proofs.plan_refusal.Tie as tie
 
 formed-requires : tie.Need-formed-requires
 formed-requires c κs = search needs
@@ -39,8 +39,8 @@ returns c =
     c .first-refused .ensures
     ∙ rw (f .all-small2 .ensures, f .before .all-small .ensures, f .before .before .rising-within2 .ensures, f .before .before .before .rising-within .ensures, f .before .before .before .before .in-grid2 .ensures, f .before .before .before .before .before .in-grid .ensures, f .before .before .before .before .before .before .formed2 .ensures, f .before .before .before .before .before .before .before .formed .ensures)
 
-pub first-no-spec : {M : Type 1} → statement M
-first-no-spec =
+pub plan-refusal-spec : {M : Type 1} → statement M
+plan-refusal-spec =
     tie.close
     (tie.spec
     formed-requires

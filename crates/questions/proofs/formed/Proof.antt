@@ -1,7 +1,7 @@
--- `planner::plan::formed` meets its contract. Assumes nothing.
+-- `questions::formed` meets its contract. Assumes nothing.
 use borrow.Author.Needs.{needs}
-use Rattle.planner.proofs.plan.formed.Statement.{statement}
-use Rattle.planner.proofs.plan.formed.Tie as tie
+use Rattle.questions.proofs.formed.Statement.{statement}
+use Rattle.questions.proofs.formed.Tie as tie
 
 pairs-ordered-requires : tie.Need-pairs-ordered-requires
 pairs-ordered-requires c κs = search needs

@@ -1,8 +1,8 @@
--- `planner::partition::well_shaped` meets its contract. Assumes nothing.
+-- `questions::well_shaped` meets its contract. Assumes nothing.
 use mathlib.Core.Path.{refl}
 use Rattle.rules.specs.Partition.{shaped}
-use Rattle.planner.proofs.partition.well_shaped.Statement.{statement}
-use Rattle.planner.proofs.partition.well_shaped.Tie as tie
+use Rattle.questions.proofs.well_shaped.Statement.{statement}
+use Rattle.questions.proofs.well_shaped.Tie as tie
 
 returns : tie.Need-returns
 unfolding shaped

@@ -1,7 +1,7 @@
--- `planner::plan::row_range` meets its contract. Assumes nothing.
+-- `setup::column_range` meets its contract. Assumes nothing.
 use borrow.Author.Needs.{needs}
-use Rattle.planner.proofs.plan.row_range.Statement.{statement}
-use Rattle.planner.proofs.plan.row_range.Tie as tie
+use Rattle.setup.proofs.column_range.Statement.{statement}
+use Rattle.setup.proofs.column_range.Tie as tie
 
 limit-requires : tie.Need-limit-requires
 limit-requires c κs = search needs
@@ -16,5 +16,6 @@ returns : tie.Need-returns
 returns c =
     λ is ss fs ls bs. rw (c .before .before .limit .ensures, c .before .headings-of .ensures, c .or-else .ensures)
 
-pub row-range-spec : {M : Type 1} → statement M
-row-range-spec = tie.close (tie.spec limit-requires headings-of-requires or-else-requires returns)
+pub column-range-spec : {M : Type 1} → statement M
+column-range-spec =
+    tie.close (tie.spec limit-requires headings-of-requires or-else-requires returns)

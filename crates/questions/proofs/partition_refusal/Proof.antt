@@ -1,10 +1,10 @@
--- `planner::partition::first_no` meets its contract: each way out knows the answers up to its own. Assumes nothing.
+-- `questions::partition_refusal` meets its contract: each way out knows the answers up to its own. Assumes nothing.
 use mathlib.Core.Path.{sym, _∙_}
 use borrow.Author.Tests.{not-true, not-false}
 use Rattle.rules.proofs.PartitionLaws.{no-shape, no-order, no-range, no-grid, no-rise, no-size, no-no}
 use borrow.Author.Needs.{needs}
-use Rattle.planner.proofs.partition.first_no.Statement.{statement}
-use Rattle.planner.proofs.partition.first_no.Tie as tie
+use Rattle.questions.proofs.partition_refusal.Statement.{statement}
+use Rattle.questions.proofs.partition_refusal.Tie as tie
 
 well-shaped-requires : tie.Need-well-shaped-requires
 well-shaped-requires c κs = search needs
@@ -56,8 +56,8 @@ returns-7 c =
     let a = c .before .before .before .before .before .before .before .before .before .before .before .before .before .before .before .before .args in
     no-size (a .limit) (a .setup) (a .indexes .now) (a .sizes .now) (a .merge-firsts .now) (a .merge-lasts .now) (a .lent-even) (sym (c .before .before .before .before .before .before .before .before .before .before .before .well-shaped .ensures) ∙ not-false (c .before .before .before .before .before .before .before .before .before .before .before .well-shaped .result) (c .before .before .before .before .before .before .before .before .before .before .if1 .left)) (sym (c .before .before .before .before .before .before .before .before .before .pairs-ordered .ensures) ∙ not-false (c .before .before .before .before .before .before .before .before .before .pairs-ordered .result) (c .before .before .before .before .before .before .before .before .if2 .left)) (c .before .before .before .before .before .before .if3 .left) (sym (c .before .before .before .before .before .all-within .ensures) ∙ not-false (c .before .before .before .before .before .all-within .result) (c .before .before .before .before .if4 .left)) (sym (c .before .before .before .rising-within .ensures) ∙ not-false (c .before .before .before .rising-within .result) (c .before .before .if5 .left)) (sym (c .before .all-small .ensures) ∙ c .if6 .left)
 
-pub first-no-spec : {M : Type 1} → statement M
-first-no-spec =
+pub partition-refusal-spec : {M : Type 1} → statement M
+partition-refusal-spec =
     tie.close
     (tie.spec
     well-shaped-requires

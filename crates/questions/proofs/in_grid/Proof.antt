@@ -1,8 +1,8 @@
--- `planner::plan::in_grid` meets its contract. Assumes nothing.
+-- `questions::in_grid` meets its contract. Assumes nothing.
 use borrow.Author.Tests.{lt-leb, le-leb}
 use borrow.Author.Needs.{needs}
-use Rattle.planner.proofs.plan.in_grid.Statement.{statement}
-use Rattle.planner.proofs.plan.in_grid.Tie as tie
+use Rattle.questions.proofs.in_grid.Statement.{statement}
+use Rattle.questions.proofs.in_grid.Tie as tie
 
 returns : tie.Need-returns
 returns c =

@@ -1,10 +1,10 @@
--- `planner::scale::fixed_scale` meets its contract. Assumes nothing.
+-- `setup::fixed_scale` meets its contract. Assumes nothing.
 use mathlib.Core.Path.{_≡_}
 use native.Mathlib.Omega.{arith}
 use Rattle.rules.proofs.ScaleLaws.{too-small, too-large, kept}
 use borrow.Author.Needs.{needs}
-use Rattle.planner.proofs.scale.fixed_scale.Statement.{statement}
-use Rattle.planner.proofs.scale.fixed_scale.Tie as tie
+use Rattle.setup.proofs.fixed_scale.Statement.{statement}
+use Rattle.setup.proofs.fixed_scale.Tie as tie
 
 or-else-requires : tie.Need-or-else-requires
 or-else-requires c κs = search needs
