@@ -10,6 +10,8 @@ use rules::PageSide;
 use rules::Stretch;
 use rules::Tested;
 use rules::Title;
+use setup::meets_target;
+use setup::middle_of;
 ghost use mathlib.Core.Path.{_≡_};
 ghost use mathlib.Core.Bool.{cond, _&&_};
 ghost use Prim.Native.Nat.{_+_, _≤_, _^_};
@@ -17,7 +19,7 @@ ghost use lib.ListN.{length};
 ghost use Rattle.rules.specs.Slots.{Slots};
 ghost use Rattle.rules.specs.Titles.{pastTitle};
 ghost use Rattle.rules.specs.Runs.{runs};
-ghost use Rattle.rules.specs.Scale.{capacityOf, fitsSide, allFit, meets, axisPasses, halve, fitScale, spaceOf, scaleOf, bodyFor, titled, Low, fitPasses, Fitted};
+ghost use Rattle.rules.specs.Scale.{capacityOf, fitsSide, allFit, axisPasses, halve, fitScale, spaceOf, scaleOf, bodyFor, titled, Low, fitPasses, Fitted};
 
 // The capacity at a permille beside so many units of titles.
 pub(crate) fn capacity_at(page: PageSide, permille: u16, titles: u64) -> u64
@@ -97,16 +99,6 @@ fn test_runs(
         count += 1;
     }
     Tested { runs: count, fit }
-}
-
-// A target of 0 bounds nothing.
-fn meets_target(target: u16, runs: usize) -> bool
-    ensures { λ r. ⌜ r ≡ meets target runs ⌝ }
-{
-    if target == 0 {
-        return true;
-    }
-    runs <= target as usize
 }
 
 // Whether an axis passes at a permille: its runs, cut without breaks, fit the page and meet the target.
@@ -211,7 +203,7 @@ fn halved_permille(
     let mut low: u16 = 100;
     let mut high: u16 = 1000;
     while low < high {
-        let middle = low + (high - low + 1) / 2;
+        let middle = middle_of(low, high);
         if both_pass(
             rows,
             columns,

@@ -1,6 +1,6 @@
 -- The halving of `specs/Scale.antt`: what a turn does, for any test; and that it finds the largest number at which a test passes, for a test
 -- that passes below where it passes. Assumes nothing.
-use mathlib.Core.Path.{_≡_, refl, sym, _∙_}
+use mathlib.Core.Path.{_≡_, refl, sym, _∙_, subst}
 use mathlib.Core.Logic.{_↔_}
 use mathlib.Core.Bool.{Bool, true, false, true≢false}
 use Prim.Native.Nat.{ℕ, zero, suc, _-_, _^_, _≤_, _<_}
@@ -60,6 +60,14 @@ module _ (t : ℕ → Bool) (goal : ℕ) where
       go : (f : ℕ) → high - low < 2 ^ f → halve t f low high ≡ goal → Halving t goal low (middle low high - 1)
       go zero k e = absurd (omega arith)
       go (suc f) k e = record { turns = f; enough = omega arith; same = sym (halve-down t f low high h n) ∙ e }
+
+  -- of a number that is the middle
+  module _ (low high m : ℕ) (h : low < high) (e : m ≡ middle low high) (g : Halving t goal low high) where
+    pub up-at : t m ≡ true → Halving t goal m high
+    up-at y = rw e (halving-up low high h (subst (λ (p : ℕ). t p ≡ true) e y) g)
+
+    pub down-at : t m ≡ false → Halving t goal low (m - 1)
+    down-at n = rw e (halving-down low high h (subst (λ (p : ℕ). t p ≡ false) e n) g)
 
 -- ---- from lo to hi the test passes below where it passes
 

@@ -11,7 +11,7 @@ use rules::SidesFound;
 use rules::Title;
 ghost use mathlib.Core.Path.{_≡_};
 ghost use mathlib.Core.Bool.{cond};
-ghost use Rattle.rules.specs.Scale.{orElse, fixedScale, scaleOf};
+ghost use Rattle.rules.specs.Scale.{orElse, fixedScale, meets, middle, scaleOf};
 ghost use Rattle.rules.specs.Plan as call;
 
 // A setting, or what its absence means.
@@ -111,4 +111,24 @@ pub fn content_sides(settings: Settings) -> SidesFound
         unknown: paper.unknown_paper,
         invalid: placed.invalid_margins,
     })
+}
+
+// A target of 0 bounds nothing.
+pub fn meets_target(target: u16, runs: usize) -> bool
+    ensures { λ r. ⌜ r ≡ meets target runs ⌝ }
+{
+    if target == 0 {
+        return true;
+    }
+    runs <= target as usize
+}
+
+// The Rust's middle: low + (high - low) / 2, rounded up.
+pub fn middle_of(low: u16, high: u16) -> u16
+    ensures { λ r. ⌜ r ≡ middle low high ⌝ }
+{
+    if high <= low {
+        return low;
+    }
+    high - (high - low) / 2
 }

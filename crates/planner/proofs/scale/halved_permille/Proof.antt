@@ -7,7 +7,7 @@ use native.Mathlib.Omega.{arith}
 use lib.Dec.{lit<}
 use Rattle.rules.specs.declared.scale.Fit.{Fit}
 use Rattle.rules.specs.Scale.{fitPasses, middle, halve}
-use Rattle.rules.proofs.Halving.{Halving, halving-stop, halving-up, halving-down}
+use Rattle.rules.proofs.Halving.{Halving, halving-stop, up-at, down-at}
 use borrow.Author.Needs.{needs}
 use Rattle.planner.proofs.scale.halved_permille.Statement.{statement}
 use Rattle.planner.proofs.scale.halved_permille.Tie as tie
@@ -26,49 +26,59 @@ abbrev μ-loop : tie.MeasureT-loop
 loop-holds : tie.Need-loop-holds Inv-loop μ-loop
 loop-holds c = (omega arith, omega arith, omega arith, record { turns = 10; enough = lit< tt; same = refl })
 
-sub-middle : tie.Need-sub-middle Inv-loop μ-loop
-sub-middle c = search needs
-
-add-middle : tie.Need-add-middle Inv-loop μ-loop
-add-middle c = search needs
-
-add-middle-2 : tie.Need-add-middle-2 Inv-loop μ-loop
-add-middle-2 c = search needs
+middle-of-requires : tie.Need-middle-of-requires Inv-loop μ-loop
+middle-of-requires c κs = search needs
 
 both-pass-requires : tie.Need-both-pass-requires Inv-loop μ-loop
 both-pass-requires c κs = search needs
 
 loop-less : tie.Need-loop-less Inv-loop μ-loop
-loop-less c = search needs
+unfolding middle
+loop-less c =
+    let l = c .before .before .before .before .loop in
+    let m : c .before .before .middle-of .result ≡ l .low + (l .high - l .low + 1) / 2 = c .before .before .middle-of .ensures in
+    omega (arith, m, c .before .before .before .loop-test .taken)
 
 loop-again : tie.Need-loop-again Inv-loop μ-loop
 unfolding middle
 loop-again c =
-    let l = c .before .before .before .loop in
-    let a = c .before .before .before .before .before .before .before .before .before .before .before .before .args in
-    let taken = c .before .before .loop-test .taken in (
-      omega (arith, taken, l .inv .0),
+    let l = c .before .before .before .before .loop in
+    let a = c .before .before .before .before .before .before .before .before .before .before .before .before .before .args in
+    let taken = c .before .before .before .loop-test .taken in
+    let e = c .before .before .middle-of .ensures in
+    let m : c .before .before .middle-of .result ≡ l .low + (l .high - l .low + 1) / 2 = e in (
+      omega (arith, taken, m, l .inv .0),
       l .inv .1,
-      omega (arith, taken),
-      halving-up (test (a .rows) (a .columns) (a .rfirsts .now) (a .rlasts .now) (a .rindexes .now) (a .rsizes .now) (a .cfirsts .now) (a .clasts .now) (a .cindexes .now) (a .csizes .now)) (halve (test (a .rows) (a .columns) (a .rfirsts .now) (a .rlasts .now) (a .rindexes .now) (a .rsizes .now) (a .cfirsts .now) (a .clasts .now) (a .cindexes .now) (a .csizes .now)) 10 100 1000) (l .low) (l .high) taken (sym (c .before .both-pass .ensures) ∙ c .if1 .taken) (l .inv .3),
+      omega (arith, taken, m),
+      up-at (test (a .rows) (a .columns) (a .rfirsts .now) (a .rlasts .now) (a .rindexes .now) (a .rsizes .now) (a .cfirsts .now) (a .clasts .now) (a .cindexes .now) (a .csizes .now)) (halve (test (a .rows) (a .columns) (a .rfirsts .now) (a .rlasts .now) (a .rindexes .now) (a .rsizes .now) (a .cfirsts .now) (a .clasts .now) (a .cindexes .now) (a .csizes .now)) 10 100 1000) (l .low) (l .high) _ taken e (l .inv .3) (sym (c .before .both-pass .ensures) ∙ c .if1 .taken),
     )
 
 sub-high : tie.Need-sub-high Inv-loop μ-loop
-sub-high c = search needs
+unfolding middle
+sub-high c =
+    let l = c .before .before .before .before .loop in
+    let m : c .before .before .middle-of .result ≡ l .low + (l .high - l .low + 1) / 2 = c .before .before .middle-of .ensures in
+    omega (arith, m, c .before .before .before .loop-test .taken)
 
 loop-less-2 : tie.Need-loop-less-2 Inv-loop μ-loop
-loop-less-2 c = search needs
+unfolding middle
+loop-less-2 c =
+    let l = c .before .before .before .before .loop in
+    let m : c .before .before .middle-of .result ≡ l .low + (l .high - l .low + 1) / 2 = c .before .before .middle-of .ensures in
+    omega (arith, m, c .before .before .before .loop-test .taken)
 
 loop-again-2 : tie.Need-loop-again-2 Inv-loop μ-loop
 unfolding middle
 loop-again-2 c =
-    let l = c .before .before .before .loop in
-    let a = c .before .before .before .before .before .before .before .before .before .before .before .before .args in
-    let taken = c .before .before .loop-test .taken in (
+    let l = c .before .before .before .before .loop in
+    let a = c .before .before .before .before .before .before .before .before .before .before .before .before .before .args in
+    let taken = c .before .before .before .loop-test .taken in
+    let e = c .before .before .middle-of .ensures in
+    let m : c .before .before .middle-of .result ≡ l .low + (l .high - l .low + 1) / 2 = e in (
       l .inv .0,
-      omega (arith, taken, l .inv .1),
-      omega (arith, taken),
-      halving-down (test (a .rows) (a .columns) (a .rfirsts .now) (a .rlasts .now) (a .rindexes .now) (a .rsizes .now) (a .cfirsts .now) (a .clasts .now) (a .cindexes .now) (a .csizes .now)) (halve (test (a .rows) (a .columns) (a .rfirsts .now) (a .rlasts .now) (a .rindexes .now) (a .rsizes .now) (a .cfirsts .now) (a .clasts .now) (a .cindexes .now) (a .csizes .now)) 10 100 1000) (l .low) (l .high) taken (sym (c .before .both-pass .ensures) ∙ c .if1 .left) (l .inv .3),
+      omega (arith, taken, m, l .inv .1),
+      omega (arith, taken, m),
+      down-at (test (a .rows) (a .columns) (a .rfirsts .now) (a .rlasts .now) (a .rindexes .now) (a .rsizes .now) (a .cfirsts .now) (a .clasts .now) (a .cindexes .now) (a .csizes .now)) (halve (test (a .rows) (a .columns) (a .rfirsts .now) (a .rlasts .now) (a .rindexes .now) (a .rsizes .now) (a .cfirsts .now) (a .clasts .now) (a .cindexes .now) (a .csizes .now)) 10 100 1000) (l .low) (l .high) _ taken e (l .inv .3) (sym (c .before .both-pass .ensures) ∙ c .if1 .left),
     )
 
 returns : tie.Need-returns Inv-loop μ-loop
@@ -84,9 +94,7 @@ halved-permille-spec =
     Inv-loop
     μ-loop
     loop-holds
-    sub-middle
-    add-middle
-    add-middle-2
+    middle-of-requires
     both-pass-requires
     loop-less
     loop-again

@@ -1,8 +1,8 @@
--- `planner::scale::meets_target` meets its contract. Assumes nothing.
+-- `setup::meets_target` meets its contract. Assumes nothing.
 use mathlib.Core.Path.{refl}
 use borrow.Author.Tests.{eq-eqb, ne-eqb}
-use Rattle.planner.proofs.scale.meets_target.Statement.{statement}
-use Rattle.planner.proofs.scale.meets_target.Tie as tie
+use Rattle.setup.proofs.meets_target.Statement.{statement}
+use Rattle.setup.proofs.meets_target.Tie as tie
 
 returns : tie.Need-returns
 returns c = rw (eq-eqb (c .before .args .target) 0 (c .if1 .taken))
