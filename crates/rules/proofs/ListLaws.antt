@@ -1,8 +1,9 @@
 -- Laws of the whole list of pages: how many there are, what stands in the lent list, and that the list and the page by number agree. Assumes nothing.
 use mathlib.Core.Path.{_≡_, refl, sym, ap, _∙_}
 use mathlib.Core.Bool.{Bool, true, false, _&&_}
+use mathlib.Core.WellFounded.{Acc, Acc·intro, WellFounded}
 use mathlib.Core.List.{List, [], _∷_, _++_}
-use Prim.Native.Nat.{ℕ, zero, suc, _+_, _-_, _*_, _/_, _≤_, _<_, min, zero-le}
+use Prim.Native.Nat.{ℕ, zero, suc, _+_, _-_, _*_, _/_, _≤_, _<_, _^_, min, zero-le}
 use native.Mathlib.Nat.{div-lt-iff-lt-mul, le-refl}
 use native.Mathlib.Numerals.{add-one}
 use native.Mathlib.Omega.{arith}
@@ -138,6 +139,18 @@ module _ {A : Type 0} where
   pub filled-more : (i : ℕ) (xs ys : List A) (x : A) → numbered xs (suc i) ≡ given x → i < length ys → set (take i xs ++ drop i ys) i x ≡ take (i + 1) xs ++ drop (i + 1) ys
   filled-more i xs ys x e h = rw add-one (filled-suc i xs ys x e h)
 
+-- the offset of an element of 64 bytes fits
+pub offset-fits : (n m : ℕ) → n < m → m * 64 < 2 ^ 63 → n * 64 < 2 ^ 64
+offset-fits n m h k = omega (arith, h, k)
+
+-- an order by a measure ends
+acc-of : {X : Type 0} (μ : X → ℕ) (k : ℕ) (x : X) → μ x < k → Acc (λ a b. μ a < μ b) x
+acc-of μ zero x h = absurd (omega arith)
+acc-of μ (suc k) x h = Acc·intro x (λ y hy. acc-of μ k y (omega arith))
+
+pub measured : {X : Type 0} (μ : X → ℕ) → WellFounded {α = X} (λ a b. μ a < μ b)
+measured μ = record { apply = λ x. acc-of μ (suc (μ x)) x (omega arith) }
+
 -- ---- what the questions say of the count
 
 abbrev three : Bool → Bool → Bool → ℕ → Outcome ℕ
@@ -178,15 +191,15 @@ module _ (p : Plan) (rows columns : RunLists) (room : ℕ) where
 
   -- what `page_after` relies on for the page that has i pages before it
   pub page-asked : (i : ℕ) → i < count
-      → Even (rows .firsts) (rows .lasts) (rows .sizes) (rows .marks) × Even (columns .firsts) (columns .lasts) (columns .sizes) (columns .marks)
-      × (p .«row_runs» ≤ length (rows .firsts)) × (p .«column_runs» ≤ length (columns .firsts)) × (i < p .«row_runs» * p .«column_runs»)
+      → Even (rows .firsts) (rows .lasts) (rows .sizes) (rows .marks) × (Even (columns .firsts) (columns .lasts) (columns .sizes) (columns .marks)
+      × ((p .«row_runs» ≤ length (rows .firsts)) × ((p .«column_runs» ≤ length (columns .firsts)) × (i < p .«row_runs» * p .«column_runs»))))
   unfolding listPages
   page-asked i h =
       let y = all-yes (evenLists rows && evenLists columns) (leb (p .«row_runs») (length (rows .firsts)) && leb (p .«column_runs») (length (columns .firsts))) (leb (length pages) room) (length pages) i h in
       let two = both (evenLists rows) (evenLists columns) (y .0) in
       let rooms = both (leb (p .«row_runs») (length (rows .firsts))) (leb (p .«column_runs») (length (columns .firsts))) (y .1) in
       let low = y .3 in
-      (even-of rows (two .0), even-of columns (two .1), leb-true (p .«row_runs») (length (rows .firsts)) (rooms .0), leb-true (p .«column_runs») (length (columns .firsts)) (rooms .1), omega (arith, low, list-length p rows columns))
+      (even-of rows (two .0), (even-of columns (two .1), (leb-true (p .«row_runs») (length (rows .firsts)) (rooms .0), (leb-true (p .«column_runs») (length (columns .firsts)) (rooms .1), omega (arith, low, list-length p rows columns)))))
 
   -- that page is the next of the list
   pub page-next : (i : ℕ) → i < count → numbered pages (suc i) ≡ given (pageAfter p rows columns i)
