@@ -1,4 +1,5 @@
 // Pages of a plan: document 01, section "Pages".
+use rules::Listing;
 use rules::Page;
 use rules::PageAnswer;
 use rules::PageOrder;
@@ -52,8 +53,8 @@ fn run_at(
 
 // The page that has so many pages before it.
 fn page_after(
-    plan: Plan,
     before: usize,
+    plan: Plan,
     rfirsts: &[u32],
     rlasts: &[u32],
     rsizes: &[u64],
@@ -153,8 +154,8 @@ pub fn page_numbered(
         return PageAnswer::Refused(refusal);
     }
     PageAnswer::Value(page_after(
-        plan,
         (number - 1) as usize,
+        plan,
         row_firsts,
         row_lasts,
         row_sizes,
@@ -164,4 +165,121 @@ pub fn page_numbered(
         column_sizes,
         column_marks,
     ))
+}
+
+// The first of the questions 6 and 11 whose answer is no, or 0.
+fn lists_no(plan: Plan, even: bool, row_room: usize, column_room: usize) -> u8
+    ensures { λ r. ⌜ r ≡ section.listsNo plan even «row_room» «column_room» ⌝ }
+{
+    if !even {
+        return 6;
+    }
+    if plan.row_runs > row_room {
+        return 11;
+    }
+    if plan.column_runs > column_room {
+        return 11;
+    }
+    0
+}
+
+// How many pages a plan has: by division, for the product of the run counts may be too large for a number.
+fn page_count(plan: Plan) -> u64
+    ensures { λ r. ⌜ r ≡ section.pageCount plan ⌝ }
+{
+    if plan.row_runs == 0 {
+        return 0;
+    }
+    if (plan.pages as usize) / plan.row_runs < plan.column_runs {
+        return plan.pages;
+    }
+    (plan.row_runs * plan.column_runs) as u64
+}
+
+// What `list_pages` answers where so many pages have room.
+fn listing(
+    room: usize,
+    plan: Plan,
+    row_firsts: &[u32],
+    row_lasts: &[u32],
+    row_sizes: &[u64],
+    row_marks: &[u8],
+    column_firsts: &[u32],
+    column_lasts: &[u32],
+    column_sizes: &[u64],
+    column_marks: &[u8],
+) -> Listing
+    ensures { λ r. ⌜ section.listOutcome r ≡ section.listPages plan (section.runLists (now («row_firsts» .entry)) (now («row_lasts» .entry)) (now («row_sizes» .entry)) (now («row_marks» .entry))) (section.runLists (now («column_firsts» .entry)) (now («column_lasts» .entry)) (now («column_sizes» .entry)) (now («column_marks» .entry))) room ⌝ }
+{
+    let even = even_lists(row_firsts, row_lasts, row_sizes, row_marks)
+        & even_lists(column_firsts, column_lasts, column_sizes, column_marks);
+    let refusal = lists_no(plan, even, row_firsts.len(), column_firsts.len());
+    if refusal > 0 {
+        return Listing::Refused(refusal);
+    }
+    let count = page_count(plan);
+    if count > room as u64 {
+        return Listing::Refused(13);
+    }
+    Listing::Value(count)
+}
+
+// How many pages are written.
+fn count_in(answer: Listing) -> usize
+    ensures { λ r. ⌜ r ≡ section.countIn (section.listOutcome answer) ⌝ }
+{
+    match answer {
+        Listing::Value(n) => n as usize,
+        Listing::Refused(_) => 0,
+    }
+}
+
+// Writes the pages of a plan, in order, to the front of a lent list, over the run lists that were lent to the plan. It answers how many, or
+// refuses and writes nothing.
+pub fn list_pages(
+    pages: &mut [Page],
+    plan: Plan,
+    row_firsts: &[u32],
+    row_lasts: &[u32],
+    row_sizes: &[u64],
+    row_marks: &[u8],
+    column_firsts: &[u32],
+    column_lasts: &[u32],
+    column_sizes: &[u64],
+    column_marks: &[u8],
+) -> Listing
+    ensures { λ r. ⌜ (section.listOutcome r ≡ section.listPages plan (section.runLists (now («row_firsts» .entry)) (now («row_lasts» .entry)) (now («row_sizes» .entry)) (now («row_marks» .entry))) (section.runLists (now («column_firsts» .entry)) (now («column_lasts» .entry)) (now («column_sizes» .entry)) (now («column_marks» .entry))) (length (now (pages .entry)))) ×
+        (now (pages .exit) ≡ section.pagesLent (section.listPages plan (section.runLists (now («row_firsts» .entry)) (now («row_lasts» .entry)) (now («row_sizes» .entry)) (now («row_marks» .entry))) (section.runLists (now («column_firsts» .entry)) (now («column_lasts» .entry)) (now («column_sizes» .entry)) (now («column_marks» .entry))) (length (now (pages .entry))))
+        (section.pagesOf plan (section.runLists (now («row_firsts» .entry)) (now («row_lasts» .entry)) (now («row_sizes» .entry)) (now («row_marks» .entry))) (section.runLists (now («column_firsts» .entry)) (now («column_lasts» .entry)) (now («column_sizes» .entry)) (now («column_marks» .entry)))) (now (pages .entry))) ⌝ }
+{
+    let answer = listing(
+        pages.len(),
+        plan,
+        row_firsts,
+        row_lasts,
+        row_sizes,
+        row_marks,
+        column_firsts,
+        column_lasts,
+        column_sizes,
+        column_marks,
+    );
+    let count = count_in(answer);
+    let mut i = 0;
+    while i < count {
+        pages[i] = page_after(
+            i,
+            plan,
+            row_firsts,
+            row_lasts,
+            row_sizes,
+            row_marks,
+            column_firsts,
+            column_lasts,
+            column_sizes,
+            column_marks,
+        );
+        i = i + 1;
+    }
+    answer
 }

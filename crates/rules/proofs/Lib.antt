@@ -11,6 +11,7 @@ pub mod ScaleLaws
 pub mod PlanLaws
 pub mod PagesCode
 pub mod PageLaws
+pub mod ListLaws
 pub mod Division
 pub mod Cuts
 pub mod Whole

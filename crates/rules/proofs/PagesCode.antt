@@ -90,7 +90,7 @@ module _ (p : Plan) (n : ℕ) where
   abbrev places : ℕ
   places = p .«row_runs» * p .«column_runs»
 
-  is-page : 1 ≤ n → n ≤ p .pages → n ≤ places → hasPage p n ≡ true
+  pub is-page : 1 ≤ n → n ≤ p .pages → n ≤ places → hasPage p n ≡ true
   unfolding hasPage
   is-page a b c = let m : n ≤ min (p .pages) places = omega arith in rw (le-leb 1 n a, le-leb n (min (p .pages) places) m)
 
@@ -151,7 +151,7 @@ module _ (p : Plan) (n : ℕ) where
         (λ l. numbered-take-past (p .pages) all n l))
         (λ z. let e : n ≡ 0 = omega arith in rw e (numbered-zero _))
 
-    page-some : hasPage p n ≡ true → numbered (pagesOf p rows columns) n ≡ given (pageAfter p rows columns (n - 1))
+    pub page-some : hasPage p n ≡ true → numbered (pagesOf p rows columns) n ≡ given (pageAfter p rows columns (n - 1))
     unfolding pagesOf pageAfter
     page-some h =
         let c = counted h in
@@ -201,7 +201,7 @@ goes true false d e = absurd (omega arith)
 goes true true false e = absurd (omega arith)
 goes true true true e = (refl, refl, refl)
 
-even-of : (l : RunLists) → evenLists l ≡ true → Even (l .firsts) (l .lasts) (l .sizes) (l .marks)
+pub even-of : (l : RunLists) → evenLists l ≡ true → Even (l .firsts) (l .lasts) (l .sizes) (l .marks)
 even-of l h =
     let three = both (equallyLong (l .firsts) (l .lasts) && equallyLong (l .firsts) (l .sizes)) (equallyLong (l .firsts) (l .marks)) h in
     let two = both (equallyLong (l .firsts) (l .lasts)) (equallyLong (l .firsts) (l .sizes)) (three .0) in

@@ -4,7 +4,7 @@ use mathlib.Core.Bool.{Bool, true, false, cond, _&&_, _||_}
 use mathlib.Core.List.{List, [], _∷_, _++_, map}
 use Prim.Native.Nat.{ℕ, zero, suc, _+_, _*_, _/_, _%_, _^_, _≤_, min}
 use lib.Dec.{leb, ltb}
-use lib.ListN.{length, getD, take}
+use lib.ListN.{length, getD, take, drop}
 use Rattle.geometry.specs.Outcome.{Outcome, given, refused}
 use Rattle.rules.specs.declared.titles.Title.{Title}
 use Rattle.rules.specs.declared.pages.PageOrder.{PageOrder}
@@ -15,6 +15,8 @@ use Rattle.rules.specs.declared.pages.Place.{Place}
 use Rattle.rules.specs.declared.pages.Plan.{Plan}
 use Rattle.rules.specs.declared.pages.PageAnswer.{PageAnswer}
 use Rattle.rules.specs.declared.pages.PageAnswer.the-variants.{Value, Refused}
+use Rattle.rules.specs.declared.pages.Listing.{Listing}
+use Rattle.rules.specs.declared.pages.Listing.the-variants as listing
 use Rattle.rules.specs.Questions.{ask}
 use Rattle.rules.specs.Titles.{pastTitle}
 use Rattle.rules.specs.Runs.{Run}
@@ -113,7 +115,42 @@ abbrev pub pageOutcome : PageAnswer → Outcome Page
 pageOutcome (Value p) = given p
 pageOutcome (Refused n) = refused n
 
+-- ---- the whole list
+
+-- 6, 11, and 13: "Pages fit the lent list of page records?", of which there is so much room; and how many they are
+unfoldable pub listPages : Plan → RunLists → RunLists → ℕ → Outcome ℕ
+unfolding pagesOf
+listPages p rows columns room =
+    ask 6 (evenLists rows && evenLists columns)
+    (ask 11 (leb (p .«row_runs») (length (rows .firsts)) && leb (p .«column_runs») (length (columns .firsts)))
+    (ask 13 (leb (length (pagesOf p rows columns)) room)
+    (given (length (pagesOf p rows columns)))))
+
+-- the number that each case of `Listing` stands for
+abbrev pub listOutcome : Listing → Outcome ℕ
+listOutcome (listing.Value n) = given n
+listOutcome (listing.Refused n) = refused n
+
+-- "The whole list can be written to a lent list": the pages, followed by what stood there before; and "A "no" returns the number and changes nothing lent."
+abbrev pub pagesLent : Outcome ℕ → List Page → List Page → List Page
+pagesLent (given n) pages old = pages ++ drop (length pages) old
+pagesLent (refused n) pages old = old
+
 -- ---- for the private functions
+
+-- how many pages are written
+abbrev pub countIn : Outcome ℕ → ℕ
+countIn (given n) = n
+countIn (refused n) = 0
+
+-- how many pages a plan has, where no count goes past the places that the runs make
+abbrev pub pageCount : Plan → ℕ
+pageCount p = min (p .pages) (p .«row_runs» * p .«column_runs»)
+
+-- the first of the questions 6 and 11 whose answer is no, or 0; of the lists, whether they are equally long and how long those of rows and
+-- of columns are
+unfoldable pub listsNo : Plan → Bool → ℕ → ℕ → ℕ
+listsNo p even rows columns = noOr 6 even (noOr 11 (leb (p .«row_runs») rows && leb (p .«column_runs») columns) 0)
 
 -- sizes of runs
 abbrev pub Moderate : List ℕ → Type 0

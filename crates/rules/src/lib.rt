@@ -6,6 +6,7 @@ mod runs;
 mod scale;
 mod titles;
 
+pub use pages::Listing;
 pub use pages::Notes;
 pub use pages::Page;
 pub use pages::PageAnswer;

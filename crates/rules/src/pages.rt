@@ -53,6 +53,12 @@ pub enum PageAnswer {
     Refused(u8),
 }
 
+// What `list_pages` answers: how many pages were written, or a refusal with its number.
+pub enum Listing {
+    Value(u64),
+    Refused(u8),
+}
+
 // Where a page stands: the numbers of its two runs, from 0.
 pub struct Place {
     pub vertical: usize,

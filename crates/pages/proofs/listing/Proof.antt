@@ -1,0 +1,56 @@
+-- `pages::listing` meets its contract: its first no refuses, and else there is the count. Assumes nothing.
+use Rattle.rules.specs.Pages.{RunLists, runLists}
+use Rattle.rules.proofs.ListLaws.{list-refused, list-long, list-fits}
+use borrow.Author.Needs.{needs}
+use Rattle.pages.proofs.listing.Statement.{statement}
+use Rattle.pages.proofs.listing.Tie as tie
+
+abbrev rows : tie.After-lists-no → RunLists
+rows f = let a = f .before .before .before .before .before .before .before .before .before .before .before .args in runLists (a .row-firsts .now) (a .row-lasts .now) (a .row-sizes .now) (a .row-marks .now)
+
+abbrev columns : tie.After-lists-no → RunLists
+columns f = let a = f .before .before .before .before .before .before .before .before .before .before .before .args in runLists (a .column-firsts .now) (a .column-lasts .now) (a .column-sizes .now) (a .column-marks .now)
+
+even-lists-requires : tie.Need-even-lists-requires
+even-lists-requires c κs = search needs
+
+even-lists-requires-2 : tie.Need-even-lists-requires-2
+even-lists-requires-2 c κs = search needs
+
+lists-no-requires : tie.Need-lists-no-requires
+lists-no-requires c κs = search needs
+
+returns : tie.Need-returns
+returns c =
+    let f = c .before in
+    let a = f .before .before .before .before .before .before .before .before .before .before .before .args in
+    list-refused (a .plan) (a .room) (rows f) (columns f) (f .before .before .even-lists .result) (f .before .even-lists2 .result) (f .lists-no .result) (f .before .before .even-lists .ensures) (f .before .even-lists2 .ensures) (f .lists-no .ensures) (c .if1 .taken)
+
+page-count-requires : tie.Need-page-count-requires
+page-count-requires c κs = search needs
+
+returns-2 : tie.Need-returns-2
+returns-2 c =
+    let f = c .before .before .before in
+    let a = f .before .before .before .before .before .before .before .before .before .before .before .args in
+    list-long (a .plan) (a .room) (rows f) (columns f) (f .before .before .even-lists .result) (f .before .even-lists2 .result) (f .lists-no .result) (f .before .before .even-lists .ensures) (f .before .even-lists2 .ensures) (f .lists-no .ensures)
+    (c .before .before .if1 .left) (c .before .page-count .result) (c .before .page-count .ensures) (c .if2 .taken)
+
+returns-3 : tie.Need-returns-3
+returns-3 c =
+    let f = c .before .before .before in
+    let a = f .before .before .before .before .before .before .before .before .before .before .before .args in
+    list-fits (a .plan) (a .room) (rows f) (columns f) (f .before .before .even-lists .result) (f .before .even-lists2 .result) (f .lists-no .result) (f .before .before .even-lists .ensures) (f .before .even-lists2 .ensures) (f .lists-no .ensures)
+    (c .before .before .if1 .left) (c .before .page-count .result) (c .before .page-count .ensures) (c .if2 .left)
+
+pub listing-spec : {M : Type 1} → statement M
+listing-spec =
+    tie.close
+    (tie.spec
+    even-lists-requires
+    even-lists-requires-2
+    lists-no-requires
+    returns
+    page-count-requires
+    returns-2
+    returns-3)
