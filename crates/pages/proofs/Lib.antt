@@ -1,2 +1,2 @@
--- What the walk of `list_pages` shares with no one.
+-- What the walk of `list_pages` needs beside the kit.
 mod Twice
