@@ -1,0 +1,42 @@
+use native.Mathlib.Omega.{arith}
+use borrow.Author.Needs.{needs}
+use Rattle.job.proofs.questions.count.Statement.{statement}
+use Rattle.job.proofs.questions.count.Tie as tie
+use Rattle.job.proofs.questions.count.Reads as reads
+use Rattle.job.proofs.questions.count.Lts as lts
+use Rattle.job.proofs.questions.one_more.Reads as one-more-reads
+
+-- src/questions.rt:246:15
+one-more-requires : tie.Need-one-more-requires
+one-more-requires c κs = search needs
+
+-- src/questions.rt:247:18
+one-more-requires-2 : tie.Need-one-more-requires-2
+one-more-requires-2 c κs = search needs
+
+-- src/questions.rt:248:17
+one-more-requires-3 : tie.Need-one-more-requires-3
+one-more-requires-3 c κs = search needs
+
+-- src/questions.rt:249:21
+one-more-requires-4 : tie.Need-one-more-requires-4
+one-more-requires-4 c κs = search needs
+
+-- src/questions.rt:250:24
+one-more-requires-5 : tie.Need-one-more-requires-5
+one-more-requires-5 c κs = search needs
+
+-- src/questions.rt:241:1
+returns : tie.Need-returns
+returns c = rw (c .one-more5 .ensures, c .before .one-more4 .ensures, c .before .before .one-more3 .ensures, c .before .before .before .one-more2 .ensures, c .before .before .before .before .one-more .ensures)
+
+pub count-spec : {M : Type 1} → statement M
+count-spec =
+    tie.close
+    (tie.spec
+    one-more-requires
+    one-more-requires-2
+    one-more-requires-3
+    one-more-requires-4
+    one-more-requires-5
+    returns)

@@ -1,0 +1,48 @@
+use Rattle.job.specs.Pass.{answer}
+use Rattle.job.proofs.PassLaws.{no-here, yes-here, none-no}
+use borrow.Author.Tests.{not-true, not-false}
+use borrow.Author.Needs.{needs}
+use native.Mathlib.Omega.{arith}
+use Rattle.job.proofs.questions.first_no.Statement.{statement}
+use Rattle.job.proofs.questions.first_no.Tie as tie
+use Rattle.job.proofs.questions.first_no.Reads as reads
+use Rattle.job.proofs.questions.first_no.Lts as lts
+
+-- src/questions.rt:311:9
+returns : tie.Need-returns
+unfolding answer
+returns c = no-here _ _ _ (not-true _ (c .if1 .taken))
+
+-- src/questions.rt:314:9
+returns-2 : tie.Need-returns-2
+unfolding answer
+returns-2 c = yes-here _ _ _ _ (not-false _ (c .before .before .if1 .left)) (no-here _ _ _ (not-true _ (c .if2 .taken)))
+
+-- src/questions.rt:317:9
+returns-3 : tie.Need-returns-3
+unfolding answer
+returns-3 c = yes-here _ _ _ _ (not-false _ (c .before .before .before .before .if1 .left)) (yes-here _ _ _ _ (not-false _ (c .before .before .if2 .left)) (no-here _ _ _ (not-true _ (c .if3 .taken))))
+
+-- src/questions.rt:320:9
+returns-4 : tie.Need-returns-4
+unfolding answer
+returns-4 c = yes-here _ _ _ _ (not-false _ (c .before .before .before .before .before .before .if1 .left)) (yes-here _ _ _ _ (not-false _ (c .before .before .before .before .if2 .left)) (yes-here _ _ _ _ (not-false _ (c .before .before .if3 .left)) (no-here _ _ _ (not-true _ (c .if4 .taken)))))
+
+-- src/questions.rt:323:9
+returns-5 : tie.Need-returns-5
+unfolding answer
+returns-5 c = yes-here _ _ _ _ (not-false _ (c .before .before .before .before .before .before .before .before .if1 .left)) (yes-here _ _ _ _ (not-false _ (c .before .before .before .before .before .before .if2 .left)) (yes-here _ _ _ _ (not-false _ (c .before .before .before .before .if3 .left)) (yes-here _ _ _ _ (not-false _ (c .before .before .if4 .left)) (no-here _ _ _ (not-true _ (c .if5 .taken))))))
+
+-- src/questions.rt:326:9
+returns-6 : tie.Need-returns-6
+unfolding answer
+returns-6 c = yes-here _ _ _ _ (not-false _ (c .before .before .before .before .before .before .before .before .before .before .if1 .left)) (yes-here _ _ _ _ (not-false _ (c .before .before .before .before .before .before .before .before .if2 .left)) (yes-here _ _ _ _ (not-false _ (c .before .before .before .before .before .before .if3 .left)) (yes-here _ _ _ _ (not-false _ (c .before .before .before .before .if4 .left)) (yes-here _ _ _ _ (not-false _ (c .before .before .if5 .left)) (no-here _ _ _ (not-true _ (c .if6 .taken)))))))
+
+-- src/questions.rt:307:1
+returns-7 : tie.Need-returns-7
+unfolding answer
+returns-7 c = yes-here _ _ _ _ (not-false _ (c .before .before .before .before .before .before .before .before .before .before .if1 .left)) (yes-here _ _ _ _ (not-false _ (c .before .before .before .before .before .before .before .before .if2 .left)) (yes-here _ _ _ _ (not-false _ (c .before .before .before .before .before .before .if3 .left)) (yes-here _ _ _ _ (not-false _ (c .before .before .before .before .if4 .left)) (yes-here _ _ _ _ (not-false _ (c .before .before .if5 .left)) (yes-here _ _ _ _ (not-false _ (c .if6 .left)) (none-no _))))))
+
+pub first-no-spec : {M : Type 1} → statement M
+first-no-spec =
+    tie.close (tie.spec returns returns-2 returns-3 returns-4 returns-5 returns-6 returns-7)
