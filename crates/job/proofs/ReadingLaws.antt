@@ -62,6 +62,15 @@ module _ (items : Items) (rs : List Record) (room : Items) (e : items ≡ itemsO
 
 -- ---- what a job that is admitted tells
 
+read-given : (s : List ℕ) (l : Lists) → given (jobOf (records s)) ≡ inOrder 1 (asked (evenLists l) (roomIn l) s) (jobOf (records s))
+    → given (jobOf (records s)) ≡ readJob s l
+unfolding readJob
+read-given s l h = h
+
+read-refused : (s : List ℕ) (l : Lists) (n : ℕ) → refused n ≡ admittedTo s l → refused n ≡ readJob s l
+unfolding admitted readJob
+read-refused s l n h = in-order-refused (itemsOf (records s)) (jobOf (records s)) 1 (asked (evenLists l) (roomIn l) s) n h
+
 module _ (s : List ℕ) (l : Lists) (f : Checked) (e : checkedOutcome f ≡ admittedTo s l) (items : Items) (k : f ≡ checked.Value items) where
   is-given : given items ≡ inOrder 1 (asked (evenLists l) (roomIn l) s) (itemsOf (records s))
   unfolding admitted
@@ -80,7 +89,7 @@ module _ (s : List ℕ) (l : Lists) (f : Checked) (e : checkedOutcome f ≡ admi
   pub job-given : (after : Lists) (set : JobSettings) → set ≡ settingsOf (records s) → AllWritten s l after → JobRead s (Value (record { settings = set; items = items })) l after
   job-given after set i w =
       let g = in-order-given (itemsOf (records s)) (jobOf (records s)) 1 (asked (evenLists l) (roomIn l) s) items is-given in
-      let q : given (jobOf (records s)) ≡ readJob s l = as-read (g .1) in
+      let q : given (jobOf (records s)) ≡ readJob s l = read-given s l (g .1) in
       record {
         answer = ap₂ (λ (x : JobSettings) (y : Items). given (record { settings = x; items = y })) i (g .0) ∙ q;
         row-indexes-are = rw (← q) (w .row-indexes-are);
@@ -94,15 +103,11 @@ module _ (s : List ℕ) (l : Lists) (f : Checked) (e : checkedOutcome f ≡ admi
         row-breaks-are = rw (← q) (w .row-breaks-are);
         column-breaks-are = rw (← q) (w .column-breaks-are);
       }
-    where
-      as-read : given (jobOf (records s)) ≡ inOrder 1 (asked (evenLists l) (roomIn l) s) (jobOf (records s)) → given (jobOf (records s)) ≡ readJob s l
-      unfolding readJob
-      as-read h = h
 
 -- a job that is refused
 pub job-refused : (s : List ℕ) (l : Lists) (f : Checked) (n : ℕ) → checkedOutcome f ≡ admittedTo s l → f ≡ checked.Refused n → JobRead s (Refused n) l l
 job-refused s l f n e k =
-    let q : refused n ≡ readJob s l = as-read (sym (ap checkedOutcome k) ∙ e) in
+    let q : refused n ≡ readJob s l = read-refused s l n (sym (ap checkedOutcome k) ∙ e) in
     record {
       answer = q;
       row-indexes-are = rw (← q);
@@ -116,10 +121,6 @@ job-refused s l f n e k =
       row-breaks-are = rw (← q);
       column-breaks-are = rw (← q);
     }
-  where
-    as-read : refused n ≡ admittedTo s l → refused n ≡ readJob s l
-    unfolding admitted readJob
-    as-read h = in-order-refused (itemsOf (records s)) (jobOf (records s)) 1 (asked (evenLists l) (roomIn l) s) n h
 
 -- ---- room for the items, list by list
 

@@ -156,12 +156,12 @@ kind-goes k (Kind q m) r n h = go (eqb (rank q) k) refl h
     go false i h = let z : _≡_ {A = ℕ} 0 1 = cc in absurd (omega arith)
 
 -- no record of the kind comes next: nothing comes, or one of another kind
-kind-stops : (k : ℕ) (g : Next) {X : Type 0} → ofKind k g ≡ Stop → (g ≡ Stop → X) → ((r : Record) (n : ℕ) → g ≡ Kind r n → (rank r ≡ k → ⊥) → X) → X
+kind-stops : {X : Type 0} (k : ℕ) (g : Next) → ofKind k g ≡ Stop → (g ≡ Stop → X) → ((r : Record) (n : ℕ) → g ≡ Kind r n → (rank r ≡ k → ⊥) → X) → X
 unfolding ofKind
 kind-stops k Stop h p q = p refl
-kind-stops k (Kind r n) h p q = go (eqb (rank r) k) refl h
+kind-stops {X} k (Kind r n) h p q = go (eqb (rank r) k) refl h
   where
-    go : (b : Bool) → eqb (rank r) k ≡ b → cond b (Kind r n) Stop ≡ Stop → _
+    go : (b : Bool) → eqb (rank r) k ≡ b → cond b (Kind r n) Stop ≡ Stop → X
     go true i h = let z : _≡_ {A = ℕ} 0 1 = cc in absurd (omega arith)
     go false i h = q r n refl (eqb-false (rank r) k i)
 
@@ -211,10 +211,14 @@ module _ (i j : ℕ) (b s : List ℕ) (w : Going i j b s) (f : Next) (e : f ≡ 
   going-on r n k h =
       let v = walk-sorted s f e r n k i (w .sorted) in
       record {
-        sorted = sorted-less i (rank r) _ (v .0) (v .1);
+        sorted = sorted-less i (rank r) (records (take (length s - n) (drop n s))) (v .0) (v .1);
         kept = λ m l. sym (walk-no s f e r n k m (λ q. omega arith)) ∙ w .kept m l;
         suffix = suffix-on b s n (w .suffix) (walk-used s f e r n k .1);
       }
+
+marked-nil : (k : ℕ) → marked k [] ≡ []
+unfolding marked
+marked-nil k = refl
 
 -- a loop over the records of a kind, which stand at the head
 module _ (k : ℕ) (b s : List ℕ) (w : Going k (k + 1) b s) (f : Next) (e : f ≡ ofKind k (before (step s))) where
@@ -230,16 +234,14 @@ module _ (k : ℕ) (b s : List ℕ) (w : Going k (k + 1) b s) (f : Next) (e : f 
   pub kind-end : f ≡ Stop → marked k (records s) ≡ []
   kind-end h =
       kind-stops k (before (step s)) (sym e ∙ h)
-      (λ q. rw (walk-end s (before (step s)) refl q) none)
+      (λ q. rw (walk-end s (before (step s)) refl q) (marked-nil k))
       (λ r n q o. walk-no s (before (step s)) refl r n q k o ∙ after r n q o)
     where
-      none : marked k [] ≡ []
-      unfolding marked
-      none = refl
       after : (r : Record) (n : ℕ) → before (step s) ≡ Kind r n → (rank r ≡ k → ⊥) → marked k (records (take (length s - n) (drop n s))) ≡ []
       after r n q o =
           let v = walk-sorted s (before (step s)) refl r n q k (w .sorted) in
-          sorted-above k (rank r) _ (apart k (rank r) (v .0) o) (v .1)
+          let a = apart k (rank r) (v .0) o in
+          sorted-above k (rank r) (records (take (length s - n) (drop n s))) (omega arith) (v .1)
 
   module _ (r : Record) (n : ℕ) (h : f ≡ Kind r n) where
     this : (before (step s) ≡ Kind r n) × (rank r ≡ k)
@@ -317,12 +319,12 @@ module _ (k : ℕ) (b s : List ℕ) (o : Sorted 0 (records s)) (w : marked k (re
     pub look-past : k < x → Missing ≡ firstOf (marked k (records b))
     look-past j =
         let v = walk-sorted s f e r n h 0 o in
-        sym (ap firstOf (sym w ∙ walk-no s f e r n h k (λ q. omega arith) ∙ sorted-above k (rank r) _ (omega arith) (v .1)))
+        sym (ap firstOf (sym w ∙ walk-no s f e r n h k (λ q. omega arith) ∙ sorted-above k (rank r) (records (take (length s - n) (drop n s))) (omega arith) (v .1)))
 
     pub look-on : (x ≡ k → ⊥) → Sorted 0 (records (take (length s - n) (drop n s))) × (marked k (records (take (length s - n) (drop n s))) ≡ marked k (records b))
     look-on j =
         let v = walk-sorted s f e r n h 0 o in
-        (sorted-less 0 (rank r) _ (omega arith) (v .1), sym (walk-no s f e r n h k (λ q. j (i ∙ q))) ∙ w)
+        (sorted-less 0 (rank r) (records (take (length s - n) (drop n s))) (omega arith) (v .1), sym (walk-no s f e r n h k (λ q. j (i ∙ q))) ∙ w)
 
 -- ---- the kinds that an arm leaves out
 
