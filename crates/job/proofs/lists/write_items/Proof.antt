@@ -98,11 +98,11 @@ write-breaks-requires-2 c κs = let m = rooms (c .before .before .before .before
 
 -- src/lists.rt:234:1
 same-length : tie.Need-same-length
-same-length c = search needs
+same-length c = omega (arith, c .before .before .before .before .before .before .before .before .before .before .before .before .before .before .before .before .before .before .before .before .before .before .before .before .before .before .before .before .before .before .before .before .before .before .before .row-indexes .given)
 
 -- src/lists.rt:234:1
 same-length-2 : tie.Need-same-length-2
-same-length-2 c = search needs
+same-length-2 c = omega (arith, c .before .before .before .before .before .before .before .before .before .before .before .before .before .before .before .before .before .before .before .before .before .before .before .before .before .before .before .before .before .before .before .before .before .row-sizes .given)
 
 -- src/lists.rt:234:1
 same-length-3 : tie.Need-same-length-3

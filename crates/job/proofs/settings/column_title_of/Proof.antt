@@ -33,7 +33,7 @@ enum-known-found-2 c = search needs
 
 -- src/settings.rt:244:9
 returns-2 : tie.Need-returns-2
-returns-2 c = absurd (no-other 12 (0 ∷ 1 ∷ 2 ∷ 3 ∷ 4 ∷ 5 ∷ 6 ∷ 7 ∷ 8 ∷ 9 ∷ 10 ∷ 11 ∷ 13 ∷ 14 ∷ 15 ∷ 16 ∷ 17 ∷ 18 ∷ []) _ tt (found-rank 13 (records (c .before .before .before .before .before .before .args .bytes .now)) (c .before .before .before .before .find-record .result) (c .before .before .before .before .find-record .ensures) _ (c .before .before .found .given .1)) (c .match2 .keys2))
+returns-2 c = absurd (no-other 12 (0 ∷ 1 ∷ 2 ∷ 3 ∷ 4 ∷ 5 ∷ 6 ∷ 7 ∷ 8 ∷ 9 ∷ 10 ∷ 11 ∷ 13 ∷ 14 ∷ 15 ∷ 16 ∷ 17 ∷ 18 ∷ []) (c .before .before .found .given .0 .0) tt (found-rank 13 (records (c .before .before .before .before .before .before .args .bytes .now)) (c .before .before .before .before .find-record .result) (c .before .before .before .before .find-record .ensures) _ (c .before .before .found .given .1)) (c .match2 .keys2))
 
 -- src/settings.rt:246:24
 cast-t6 : tie.Need-cast-t6

@@ -44,7 +44,7 @@ returns-3 c = from-one (c .before .before .before .before .before .before .befor
 
 -- src/settings.rt:148:1
 returns-4 : tie.Need-returns-4
-returns-4 c = absurd (no-flag _ (rw (found-rank (c .before .before .before .before .before .before .args .wanted) (records (c .before .before .before .before .before .before .args .bytes .now)) (c .before .before .before .before .find-record .result) (c .before .before .before .before .find-record .ensures) _ (c .before .before .found .given .1)) (c .before .before .before .before .before .before .pre .1)) (c .match2 .keys3))
+returns-4 c = absurd (no-flag (c .before .before .found .given .0 .0) (rw (found-rank (c .before .before .before .before .before .before .args .wanted) (records (c .before .before .before .before .before .before .args .bytes .now)) (c .before .before .before .before .find-record .result) (c .before .before .before .before .find-record .ensures) _ (c .before .before .found .given .1)) (c .before .before .before .before .before .before .pre .1)) (c .match2 .keys3))
 
 pub flag-of-spec : {M : Type 1} → statement M
 flag-of-spec =

@@ -60,7 +60,7 @@ returns-5 c = from-one (c .before .before .before .before .before .before .befor
 
 -- src/settings.rt:131:1
 returns-6 : tie.Need-returns-6
-returns-6 c = absurd (no-number _ (rw (found-rank (c .before .before .before .before .before .before .args .wanted) (records (c .before .before .before .before .before .before .args .bytes .now)) (c .before .before .before .before .find-record .result) (c .before .before .before .before .find-record .ensures) _ (c .before .before .found .given .1)) (c .before .before .before .before .before .before .pre .1)) (c .match2 .keys5))
+returns-6 c = absurd (no-number (c .before .before .found .given .0 .0) (rw (found-rank (c .before .before .before .before .before .before .args .wanted) (records (c .before .before .before .before .before .before .args .bytes .now)) (c .before .before .before .before .find-record .result) (c .before .before .before .before .find-record .ensures) _ (c .before .before .found .given .1)) (c .before .before .before .before .before .before .pre .1)) (c .match2 .keys5))
 
 pub number-of-spec : {M : Type 1} → statement M
 number-of-spec =
