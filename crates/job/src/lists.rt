@@ -269,8 +269,8 @@ fn write_items(
 fn fit_in(items: Items, room: Items) -> bool
     ensures { λ r. ⌜ r ≡ fitIn items room ⌝ }
 {
-    let breaks =
-        (items.row_breaks <= room.row_breaks) & (items.column_breaks <= room.column_breaks);
+    let breaks = (items.row_breaks <= room.row_breaks)
+        & (items.column_breaks <= room.column_breaks);
     (items.rows <= room.rows)
         & ((items.columns <= room.columns) & ((items.merges <= room.merges) & breaks))
 }

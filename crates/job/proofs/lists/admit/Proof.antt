@@ -49,14 +49,14 @@ returns-2 c = job-stopped (itemsOf (records (c .before .before .before .before .
 -- src/lists.rt:279:1
 returns-3 : tie.Need-returns-3
 unfolding admitted
-returns-3 c = 
+returns-3 c =
     room-yes (c .before .before .before .before .before .before .found2 .given .0 .0 .items) (records (c .before .before .before .before .before .before .before .before .before .before .args .bytes .now)) (c .before .before .before .before .before .before .before .before .before .before .args .room) (job-items (itemsOf (records (c .before .before .before .before .before .before .before .before .before .before .args .bytes .now))) (c .before .before .before .before .before .before .before .before .before .before .args .equally-long) (true ∷ fitIn (itemsOf (records (c .before .before .before .before .before .before .before .before .before .before .args .bytes .now))) (c .before .before .before .before .before .before .before .before .before .before .args .room) ∷ []) (c .before .before .before .before .before .before .before .before .before .before .args .bytes .now) (c .before .before .before .before .before .before .before .before .survey-job .result) (c .before .before .before .before .before .before .before .before .survey-job .ensures) _ (c .before .before .before .before .before .before .found2 .given .1) (c .before .before .before .before .first-no .result) (c .before .before .before .before .first-no .ensures)) (c .before .fit-in .result) (c .before .fit-in .ensures) (c .if2 .taken)
     ∙ job-yes (itemsOf (records (c .before .before .before .before .before .before .before .before .before .before .args .bytes .now))) (c .before .before .before .before .before .before .before .before .before .before .args .equally-long) (true ∷ fitIn (itemsOf (records (c .before .before .before .before .before .before .before .before .before .before .args .bytes .now))) (c .before .before .before .before .before .before .before .before .before .before .args .room) ∷ []) (c .before .before .before .before .before .before .before .before .before .before .args .bytes .now) (c .before .before .before .before .before .before .before .before .survey-job .result) (c .before .before .before .before .before .before .before .before .survey-job .ensures) _ (c .before .before .before .before .before .before .found2 .given .1) (c .before .before .before .before .first-no .result) (c .before .before .before .before .first-no .ensures) (c .before .before .before .if1 .left)
 
 -- src/lists.rt:279:1
 returns-4 : tie.Need-returns-4
 unfolding admitted
-returns-4 c = 
+returns-4 c =
     room-no (c .before .before .before .before .before .before .found2 .given .0 .0 .items) (records (c .before .before .before .before .before .before .before .before .before .before .args .bytes .now)) (c .before .before .before .before .before .before .before .before .before .before .args .room) (job-items (itemsOf (records (c .before .before .before .before .before .before .before .before .before .before .args .bytes .now))) (c .before .before .before .before .before .before .before .before .before .before .args .equally-long) (true ∷ fitIn (itemsOf (records (c .before .before .before .before .before .before .before .before .before .before .args .bytes .now))) (c .before .before .before .before .before .before .before .before .before .before .args .room) ∷ []) (c .before .before .before .before .before .before .before .before .before .before .args .bytes .now) (c .before .before .before .before .before .before .before .before .survey-job .result) (c .before .before .before .before .before .before .before .before .survey-job .ensures) _ (c .before .before .before .before .before .before .found2 .given .1) (c .before .before .before .before .first-no .result) (c .before .before .before .before .first-no .ensures)) (c .before .fit-in .result) (c .before .fit-in .ensures) (c .if2 .left)
     ∙ job-yes (itemsOf (records (c .before .before .before .before .before .before .before .before .before .before .args .bytes .now))) (c .before .before .before .before .before .before .before .before .before .before .args .equally-long) (true ∷ fitIn (itemsOf (records (c .before .before .before .before .before .before .before .before .before .before .args .bytes .now))) (c .before .before .before .before .before .before .before .before .before .before .args .room) ∷ []) (c .before .before .before .before .before .before .before .before .before .before .args .bytes .now) (c .before .before .before .before .before .before .before .before .survey-job .result) (c .before .before .before .before .before .before .before .before .survey-job .ensures) _ (c .before .before .before .before .before .before .found2 .given .1) (c .before .before .before .before .first-no .result) (c .before .before .before .before .first-no .ensures) (c .before .before .before .if1 .left)
 

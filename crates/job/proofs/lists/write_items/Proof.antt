@@ -139,17 +139,17 @@ same-length-10 c = search needs
 -- src/lists.rt:234:1
 returns : tie.Need-returns
 returns c = record {
-      row-indexes-are = values-from 14 _ _ (part-from 14 _ _ (c .before .before .before .before .before .before .before .before .before .before .before .before .before .before .before .before .before .before .before .before .before .before .before .before .before .before .before .before .before .before .before .before .before .before .before .before .before .before .before .before .settings-end .ensures)) 0 _ _ (c .before .before .before .before .before .before .before .before .before .before .before .before .before .before .before .before .before .before .before .before .before .before .before .before .before .before .before .before .before .before .before .before .before .before .before .before .write-slots .ensures .1 .0);
-      row-sizes-are = values-from 14 _ _ (part-from 14 _ _ (c .before .before .before .before .before .before .before .before .before .before .before .before .before .before .before .before .before .before .before .before .before .before .before .before .before .before .before .before .before .before .before .before .before .before .before .before .before .before .before .before .settings-end .ensures)) 1 _ _ (c .before .before .before .before .before .before .before .before .before .before .before .before .before .before .before .before .before .before .before .before .before .before .before .before .before .before .before .before .before .before .before .before .before .before .before .before .write-slots .ensures .1 .1);
-      column-indexes-are = values-from 15 _ _ (from-on 14 15 _ _ _ (part-from 14 _ _ (c .before .before .before .before .before .before .before .before .before .before .before .before .before .before .before .before .before .before .before .before .before .before .before .before .before .before .before .before .before .before .before .before .before .before .before .before .before .before .before .before .settings-end .ensures)) (c .before .before .before .before .before .before .before .before .before .before .before .before .before .before .before .before .before .before .before .before .before .before .before .before .before .before .before .before .before .before .before .before .before .before .before .before .write-slots .ensures .0) (omega arith)) 0 _ _ (c .before .before .before .before .before .before .before .before .before .before .before .before .before .before .before .before .before .before .before .before .before .before .before .before .before .before .before .before .write-slots2 .ensures .1 .0);
-      column-sizes-are = values-from 15 _ _ (from-on 14 15 _ _ _ (part-from 14 _ _ (c .before .before .before .before .before .before .before .before .before .before .before .before .before .before .before .before .before .before .before .before .before .before .before .before .before .before .before .before .before .before .before .before .before .before .before .before .before .before .before .before .settings-end .ensures)) (c .before .before .before .before .before .before .before .before .before .before .before .before .before .before .before .before .before .before .before .before .before .before .before .before .before .before .before .before .before .before .before .before .before .before .before .before .write-slots .ensures .0) (omega arith)) 1 _ _ (c .before .before .before .before .before .before .before .before .before .before .before .before .before .before .before .before .before .before .before .before .before .before .before .before .before .before .before .before .write-slots2 .ensures .1 .1);
-      merge-first-rows-are = values-from 16 _ _ (from-on 15 16 _ _ _ (from-on 14 15 _ _ _ (part-from 14 _ _ (c .before .before .before .before .before .before .before .before .before .before .before .before .before .before .before .before .before .before .before .before .before .before .before .before .before .before .before .before .before .before .before .before .before .before .before .before .before .before .before .before .settings-end .ensures)) (c .before .before .before .before .before .before .before .before .before .before .before .before .before .before .before .before .before .before .before .before .before .before .before .before .before .before .before .before .before .before .before .before .before .before .before .before .write-slots .ensures .0) (omega arith)) (c .before .before .before .before .before .before .before .before .before .before .before .before .before .before .before .before .before .before .before .before .before .before .before .before .before .before .before .before .write-slots2 .ensures .0) (omega arith)) 0 _ _ (c .before .before .before .before .before .before .before .before .before .before .before .before .before .before .before .before .before .before .write-merges .ensures .1 .0);
-      merge-first-columns-are = values-from 16 _ _ (from-on 15 16 _ _ _ (from-on 14 15 _ _ _ (part-from 14 _ _ (c .before .before .before .before .before .before .before .before .before .before .before .before .before .before .before .before .before .before .before .before .before .before .before .before .before .before .before .before .before .before .before .before .before .before .before .before .before .before .before .before .settings-end .ensures)) (c .before .before .before .before .before .before .before .before .before .before .before .before .before .before .before .before .before .before .before .before .before .before .before .before .before .before .before .before .before .before .before .before .before .before .before .before .write-slots .ensures .0) (omega arith)) (c .before .before .before .before .before .before .before .before .before .before .before .before .before .before .before .before .before .before .before .before .before .before .before .before .before .before .before .before .write-slots2 .ensures .0) (omega arith)) 1 _ _ (c .before .before .before .before .before .before .before .before .before .before .before .before .before .before .before .before .before .before .write-merges .ensures .1 .1 .0);
-      merge-last-rows-are = values-from 16 _ _ (from-on 15 16 _ _ _ (from-on 14 15 _ _ _ (part-from 14 _ _ (c .before .before .before .before .before .before .before .before .before .before .before .before .before .before .before .before .before .before .before .before .before .before .before .before .before .before .before .before .before .before .before .before .before .before .before .before .before .before .before .before .settings-end .ensures)) (c .before .before .before .before .before .before .before .before .before .before .before .before .before .before .before .before .before .before .before .before .before .before .before .before .before .before .before .before .before .before .before .before .before .before .before .before .write-slots .ensures .0) (omega arith)) (c .before .before .before .before .before .before .before .before .before .before .before .before .before .before .before .before .before .before .before .before .before .before .before .before .before .before .before .before .write-slots2 .ensures .0) (omega arith)) 2 _ _ (c .before .before .before .before .before .before .before .before .before .before .before .before .before .before .before .before .before .before .write-merges .ensures .1 .1 .1 .0);
-      merge-last-columns-are = values-from 16 _ _ (from-on 15 16 _ _ _ (from-on 14 15 _ _ _ (part-from 14 _ _ (c .before .before .before .before .before .before .before .before .before .before .before .before .before .before .before .before .before .before .before .before .before .before .before .before .before .before .before .before .before .before .before .before .before .before .before .before .before .before .before .before .settings-end .ensures)) (c .before .before .before .before .before .before .before .before .before .before .before .before .before .before .before .before .before .before .before .before .before .before .before .before .before .before .before .before .before .before .before .before .before .before .before .before .write-slots .ensures .0) (omega arith)) (c .before .before .before .before .before .before .before .before .before .before .before .before .before .before .before .before .before .before .before .before .before .before .before .before .before .before .before .before .write-slots2 .ensures .0) (omega arith)) 3 _ _ (c .before .before .before .before .before .before .before .before .before .before .before .before .before .before .before .before .before .before .write-merges .ensures .1 .1 .1 .1);
-      row-breaks-are = values-from 17 _ _ (from-on 16 17 _ _ _ (from-on 15 16 _ _ _ (from-on 14 15 _ _ _ (part-from 14 _ _ (c .before .before .before .before .before .before .before .before .before .before .before .before .before .before .before .before .before .before .before .before .before .before .before .before .before .before .before .before .before .before .before .before .before .before .before .before .before .before .before .before .settings-end .ensures)) (c .before .before .before .before .before .before .before .before .before .before .before .before .before .before .before .before .before .before .before .before .before .before .before .before .before .before .before .before .before .before .before .before .before .before .before .before .write-slots .ensures .0) (omega arith)) (c .before .before .before .before .before .before .before .before .before .before .before .before .before .before .before .before .before .before .before .before .before .before .before .before .before .before .before .before .write-slots2 .ensures .0) (omega arith)) (c .before .before .before .before .before .before .before .before .before .before .before .before .before .before .before .before .before .before .write-merges .ensures .0) (omega arith)) 0 _ _ (c .before .before .before .before .before .before .before .write-breaks .ensures .1);
-      column-breaks-are = values-from 18 _ _ (from-on 17 18 _ _ _ (from-on 16 17 _ _ _ (from-on 15 16 _ _ _ (from-on 14 15 _ _ _ (part-from 14 _ _ (c .before .before .before .before .before .before .before .before .before .before .before .before .before .before .before .before .before .before .before .before .before .before .before .before .before .before .before .before .before .before .before .before .before .before .before .before .before .before .before .before .settings-end .ensures)) (c .before .before .before .before .before .before .before .before .before .before .before .before .before .before .before .before .before .before .before .before .before .before .before .before .before .before .before .before .before .before .before .before .before .before .before .before .write-slots .ensures .0) (omega arith)) (c .before .before .before .before .before .before .before .before .before .before .before .before .before .before .before .before .before .before .before .before .before .before .before .before .before .before .before .before .write-slots2 .ensures .0) (omega arith)) (c .before .before .before .before .before .before .before .before .before .before .before .before .before .before .before .before .before .before .write-merges .ensures .0) (omega arith)) (c .before .before .before .before .before .before .before .write-breaks .ensures .0) (omega arith)) 0 _ _ (c .before .before .write-breaks2 .ensures .1);
-    }
+  row-indexes-are = values-from 14 _ _ (part-from 14 _ _ (c .before .before .before .before .before .before .before .before .before .before .before .before .before .before .before .before .before .before .before .before .before .before .before .before .before .before .before .before .before .before .before .before .before .before .before .before .before .before .before .before .settings-end .ensures)) 0 _ _ (c .before .before .before .before .before .before .before .before .before .before .before .before .before .before .before .before .before .before .before .before .before .before .before .before .before .before .before .before .before .before .before .before .before .before .before .before .write-slots .ensures .1 .0);
+  row-sizes-are = values-from 14 _ _ (part-from 14 _ _ (c .before .before .before .before .before .before .before .before .before .before .before .before .before .before .before .before .before .before .before .before .before .before .before .before .before .before .before .before .before .before .before .before .before .before .before .before .before .before .before .before .settings-end .ensures)) 1 _ _ (c .before .before .before .before .before .before .before .before .before .before .before .before .before .before .before .before .before .before .before .before .before .before .before .before .before .before .before .before .before .before .before .before .before .before .before .before .write-slots .ensures .1 .1);
+  column-indexes-are = values-from 15 _ _ (from-on 14 15 _ _ _ (part-from 14 _ _ (c .before .before .before .before .before .before .before .before .before .before .before .before .before .before .before .before .before .before .before .before .before .before .before .before .before .before .before .before .before .before .before .before .before .before .before .before .before .before .before .before .settings-end .ensures)) (c .before .before .before .before .before .before .before .before .before .before .before .before .before .before .before .before .before .before .before .before .before .before .before .before .before .before .before .before .before .before .before .before .before .before .before .before .write-slots .ensures .0) (omega arith)) 0 _ _ (c .before .before .before .before .before .before .before .before .before .before .before .before .before .before .before .before .before .before .before .before .before .before .before .before .before .before .before .before .write-slots2 .ensures .1 .0);
+  column-sizes-are = values-from 15 _ _ (from-on 14 15 _ _ _ (part-from 14 _ _ (c .before .before .before .before .before .before .before .before .before .before .before .before .before .before .before .before .before .before .before .before .before .before .before .before .before .before .before .before .before .before .before .before .before .before .before .before .before .before .before .before .settings-end .ensures)) (c .before .before .before .before .before .before .before .before .before .before .before .before .before .before .before .before .before .before .before .before .before .before .before .before .before .before .before .before .before .before .before .before .before .before .before .before .write-slots .ensures .0) (omega arith)) 1 _ _ (c .before .before .before .before .before .before .before .before .before .before .before .before .before .before .before .before .before .before .before .before .before .before .before .before .before .before .before .before .write-slots2 .ensures .1 .1);
+  merge-first-rows-are = values-from 16 _ _ (from-on 15 16 _ _ _ (from-on 14 15 _ _ _ (part-from 14 _ _ (c .before .before .before .before .before .before .before .before .before .before .before .before .before .before .before .before .before .before .before .before .before .before .before .before .before .before .before .before .before .before .before .before .before .before .before .before .before .before .before .before .settings-end .ensures)) (c .before .before .before .before .before .before .before .before .before .before .before .before .before .before .before .before .before .before .before .before .before .before .before .before .before .before .before .before .before .before .before .before .before .before .before .before .write-slots .ensures .0) (omega arith)) (c .before .before .before .before .before .before .before .before .before .before .before .before .before .before .before .before .before .before .before .before .before .before .before .before .before .before .before .before .write-slots2 .ensures .0) (omega arith)) 0 _ _ (c .before .before .before .before .before .before .before .before .before .before .before .before .before .before .before .before .before .before .write-merges .ensures .1 .0);
+  merge-first-columns-are = values-from 16 _ _ (from-on 15 16 _ _ _ (from-on 14 15 _ _ _ (part-from 14 _ _ (c .before .before .before .before .before .before .before .before .before .before .before .before .before .before .before .before .before .before .before .before .before .before .before .before .before .before .before .before .before .before .before .before .before .before .before .before .before .before .before .before .settings-end .ensures)) (c .before .before .before .before .before .before .before .before .before .before .before .before .before .before .before .before .before .before .before .before .before .before .before .before .before .before .before .before .before .before .before .before .before .before .before .before .write-slots .ensures .0) (omega arith)) (c .before .before .before .before .before .before .before .before .before .before .before .before .before .before .before .before .before .before .before .before .before .before .before .before .before .before .before .before .write-slots2 .ensures .0) (omega arith)) 1 _ _ (c .before .before .before .before .before .before .before .before .before .before .before .before .before .before .before .before .before .before .write-merges .ensures .1 .1 .0);
+  merge-last-rows-are = values-from 16 _ _ (from-on 15 16 _ _ _ (from-on 14 15 _ _ _ (part-from 14 _ _ (c .before .before .before .before .before .before .before .before .before .before .before .before .before .before .before .before .before .before .before .before .before .before .before .before .before .before .before .before .before .before .before .before .before .before .before .before .before .before .before .before .settings-end .ensures)) (c .before .before .before .before .before .before .before .before .before .before .before .before .before .before .before .before .before .before .before .before .before .before .before .before .before .before .before .before .before .before .before .before .before .before .before .before .write-slots .ensures .0) (omega arith)) (c .before .before .before .before .before .before .before .before .before .before .before .before .before .before .before .before .before .before .before .before .before .before .before .before .before .before .before .before .write-slots2 .ensures .0) (omega arith)) 2 _ _ (c .before .before .before .before .before .before .before .before .before .before .before .before .before .before .before .before .before .before .write-merges .ensures .1 .1 .1 .0);
+  merge-last-columns-are = values-from 16 _ _ (from-on 15 16 _ _ _ (from-on 14 15 _ _ _ (part-from 14 _ _ (c .before .before .before .before .before .before .before .before .before .before .before .before .before .before .before .before .before .before .before .before .before .before .before .before .before .before .before .before .before .before .before .before .before .before .before .before .before .before .before .before .settings-end .ensures)) (c .before .before .before .before .before .before .before .before .before .before .before .before .before .before .before .before .before .before .before .before .before .before .before .before .before .before .before .before .before .before .before .before .before .before .before .before .write-slots .ensures .0) (omega arith)) (c .before .before .before .before .before .before .before .before .before .before .before .before .before .before .before .before .before .before .before .before .before .before .before .before .before .before .before .before .write-slots2 .ensures .0) (omega arith)) 3 _ _ (c .before .before .before .before .before .before .before .before .before .before .before .before .before .before .before .before .before .before .write-merges .ensures .1 .1 .1 .1);
+  row-breaks-are = values-from 17 _ _ (from-on 16 17 _ _ _ (from-on 15 16 _ _ _ (from-on 14 15 _ _ _ (part-from 14 _ _ (c .before .before .before .before .before .before .before .before .before .before .before .before .before .before .before .before .before .before .before .before .before .before .before .before .before .before .before .before .before .before .before .before .before .before .before .before .before .before .before .before .settings-end .ensures)) (c .before .before .before .before .before .before .before .before .before .before .before .before .before .before .before .before .before .before .before .before .before .before .before .before .before .before .before .before .before .before .before .before .before .before .before .before .write-slots .ensures .0) (omega arith)) (c .before .before .before .before .before .before .before .before .before .before .before .before .before .before .before .before .before .before .before .before .before .before .before .before .before .before .before .before .write-slots2 .ensures .0) (omega arith)) (c .before .before .before .before .before .before .before .before .before .before .before .before .before .before .before .before .before .before .write-merges .ensures .0) (omega arith)) 0 _ _ (c .before .before .before .before .before .before .before .write-breaks .ensures .1);
+  column-breaks-are = values-from 18 _ _ (from-on 17 18 _ _ _ (from-on 16 17 _ _ _ (from-on 15 16 _ _ _ (from-on 14 15 _ _ _ (part-from 14 _ _ (c .before .before .before .before .before .before .before .before .before .before .before .before .before .before .before .before .before .before .before .before .before .before .before .before .before .before .before .before .before .before .before .before .before .before .before .before .before .before .before .before .settings-end .ensures)) (c .before .before .before .before .before .before .before .before .before .before .before .before .before .before .before .before .before .before .before .before .before .before .before .before .before .before .before .before .before .before .before .before .before .before .before .before .write-slots .ensures .0) (omega arith)) (c .before .before .before .before .before .before .before .before .before .before .before .before .before .before .before .before .before .before .before .before .before .before .before .before .before .before .before .before .write-slots2 .ensures .0) (omega arith)) (c .before .before .before .before .before .before .before .before .before .before .before .before .before .before .before .before .before .before .write-merges .ensures .0) (omega arith)) (c .before .before .before .before .before .before .before .write-breaks .ensures .0) (omega arith)) 0 _ _ (c .before .before .write-breaks2 .ensures .1);
+}
 
 pub write-items-spec : {M : Type 1} → statement M
 write-items-spec =

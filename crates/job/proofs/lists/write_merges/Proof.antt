@@ -127,12 +127,12 @@ loop-less c = omega (arith, kind-used 16 (c .before .before .before .before .bef
 -- src/lists.rt:199:5
 loop-again : tie.Need-loop-again Inv-loop μ-loop
 loop-again c = (
-      kind-on 16 (c .before .before .before .before .before .before .before .before .before .before .before .before .before .before .args .bytes .now) (c .before .before .before .before .before .before .before .before .loop .s .now) (c .before .before .before .before .before .before .before .before .loop .inv .0) (c .before .before .before .before .before .before .before .next-of .result) (c .before .before .before .before .before .before .before .next-of .ensures) _ _ (c .before .before .before .before .before .found .given .1),
-      one-store _ _ _ _ _ _ (c .before .before .before .before .before .before .before .before .loop .inv .1) _ _ (c .before .before .cells-of .result .«first_row») (kind-head 16 (c .before .before .before .before .before .before .before .before .before .before .before .before .before .before .args .bytes .now) (c .before .before .before .before .before .before .before .before .loop .s .now) (c .before .before .before .before .before .before .before .before .loop .inv .0) (c .before .before .before .before .before .before .before .next-of .result) (c .before .before .before .before .before .before .before .next-of .ensures) _ _ (c .before .before .before .before .before .found .given .1)) (c .before .before .before .before .before .before .before .before .before .before .before .before .before .before .pre .1 .0) (ap (λ (m : Range). m .«first_row») (c .before .before .cells-of .ensures)),
-      one-store _ _ _ _ _ _ (c .before .before .before .before .before .before .before .before .loop .inv .2) _ _ (c .before .before .cells-of .result .«first_column») (kind-head 16 (c .before .before .before .before .before .before .before .before .before .before .before .before .before .before .args .bytes .now) (c .before .before .before .before .before .before .before .before .loop .s .now) (c .before .before .before .before .before .before .before .before .loop .inv .0) (c .before .before .before .before .before .before .before .next-of .result) (c .before .before .before .before .before .before .before .next-of .ensures) _ _ (c .before .before .before .before .before .found .given .1)) (omega (arith, c .before .before .before .before .before .before .before .before .before .before .before .before .before .before .pre .1 .0, c .before .before .before .before .before .before .before .before .before .before .before .before .before .before .pre .1 .1 .0)) (ap (λ (m : Range). m .«first_column») (c .before .before .cells-of .ensures)),
-      one-store _ _ _ _ _ _ (c .before .before .before .before .before .before .before .before .loop .inv .3) _ _ (c .before .before .cells-of .result .«last_row») (kind-head 16 (c .before .before .before .before .before .before .before .before .before .before .before .before .before .before .args .bytes .now) (c .before .before .before .before .before .before .before .before .loop .s .now) (c .before .before .before .before .before .before .before .before .loop .inv .0) (c .before .before .before .before .before .before .before .next-of .result) (c .before .before .before .before .before .before .before .next-of .ensures) _ _ (c .before .before .before .before .before .found .given .1)) (omega (arith, c .before .before .before .before .before .before .before .before .before .before .before .before .before .before .pre .1 .0, c .before .before .before .before .before .before .before .before .before .before .before .before .before .before .pre .1 .1 .1 .0)) (ap (λ (m : Range). m .«last_row») (c .before .before .cells-of .ensures)),
-      one-store _ _ _ _ _ _ (c .before .before .before .before .before .before .before .before .loop .inv .4) _ _ (c .before .before .cells-of .result .«last_column») (kind-head 16 (c .before .before .before .before .before .before .before .before .before .before .before .before .before .before .args .bytes .now) (c .before .before .before .before .before .before .before .before .loop .s .now) (c .before .before .before .before .before .before .before .before .loop .inv .0) (c .before .before .before .before .before .before .before .next-of .result) (c .before .before .before .before .before .before .before .next-of .ensures) _ _ (c .before .before .before .before .before .found .given .1)) (omega (arith, c .before .before .before .before .before .before .before .before .before .before .before .before .before .before .pre .1 .0, c .before .before .before .before .before .before .before .before .before .before .before .before .before .before .pre .1 .1 .1 .1)) (ap (λ (m : Range). m .«last_column») (c .before .before .cells-of .ensures)),
-    )
+  kind-on 16 (c .before .before .before .before .before .before .before .before .before .before .before .before .before .before .args .bytes .now) (c .before .before .before .before .before .before .before .before .loop .s .now) (c .before .before .before .before .before .before .before .before .loop .inv .0) (c .before .before .before .before .before .before .before .next-of .result) (c .before .before .before .before .before .before .before .next-of .ensures) _ _ (c .before .before .before .before .before .found .given .1),
+  one-store _ _ _ _ _ _ (c .before .before .before .before .before .before .before .before .loop .inv .1) _ _ (c .before .before .cells-of .result .«first_row») (kind-head 16 (c .before .before .before .before .before .before .before .before .before .before .before .before .before .before .args .bytes .now) (c .before .before .before .before .before .before .before .before .loop .s .now) (c .before .before .before .before .before .before .before .before .loop .inv .0) (c .before .before .before .before .before .before .before .next-of .result) (c .before .before .before .before .before .before .before .next-of .ensures) _ _ (c .before .before .before .before .before .found .given .1)) (c .before .before .before .before .before .before .before .before .before .before .before .before .before .before .pre .1 .0) (ap (λ (m : Range). m .«first_row») (c .before .before .cells-of .ensures)),
+  one-store _ _ _ _ _ _ (c .before .before .before .before .before .before .before .before .loop .inv .2) _ _ (c .before .before .cells-of .result .«first_column») (kind-head 16 (c .before .before .before .before .before .before .before .before .before .before .before .before .before .before .args .bytes .now) (c .before .before .before .before .before .before .before .before .loop .s .now) (c .before .before .before .before .before .before .before .before .loop .inv .0) (c .before .before .before .before .before .before .before .next-of .result) (c .before .before .before .before .before .before .before .next-of .ensures) _ _ (c .before .before .before .before .before .found .given .1)) (omega (arith, c .before .before .before .before .before .before .before .before .before .before .before .before .before .before .pre .1 .0, c .before .before .before .before .before .before .before .before .before .before .before .before .before .before .pre .1 .1 .0)) (ap (λ (m : Range). m .«first_column») (c .before .before .cells-of .ensures)),
+  one-store _ _ _ _ _ _ (c .before .before .before .before .before .before .before .before .loop .inv .3) _ _ (c .before .before .cells-of .result .«last_row») (kind-head 16 (c .before .before .before .before .before .before .before .before .before .before .before .before .before .before .args .bytes .now) (c .before .before .before .before .before .before .before .before .loop .s .now) (c .before .before .before .before .before .before .before .before .loop .inv .0) (c .before .before .before .before .before .before .before .next-of .result) (c .before .before .before .before .before .before .before .next-of .ensures) _ _ (c .before .before .before .before .before .found .given .1)) (omega (arith, c .before .before .before .before .before .before .before .before .before .before .before .before .before .before .pre .1 .0, c .before .before .before .before .before .before .before .before .before .before .before .before .before .before .pre .1 .1 .1 .0)) (ap (λ (m : Range). m .«last_row») (c .before .before .cells-of .ensures)),
+  one-store _ _ _ _ _ _ (c .before .before .before .before .before .before .before .before .loop .inv .4) _ _ (c .before .before .cells-of .result .«last_column») (kind-head 16 (c .before .before .before .before .before .before .before .before .before .before .before .before .before .before .args .bytes .now) (c .before .before .before .before .before .before .before .before .loop .s .now) (c .before .before .before .before .before .before .before .before .loop .inv .0) (c .before .before .before .before .before .before .before .next-of .result) (c .before .before .before .before .before .before .before .next-of .ensures) _ _ (c .before .before .before .before .before .found .given .1)) (omega (arith, c .before .before .before .before .before .before .before .before .before .before .before .before .before .before .pre .1 .0, c .before .before .before .before .before .before .before .before .before .before .before .before .before .before .pre .1 .1 .1 .1)) (ap (λ (m : Range). m .«last_column») (c .before .before .cells-of .ensures)),
+)
 
 pub write-merges-spec : {M : Type 1} → statement M
 write-merges-spec =

@@ -96,10 +96,10 @@ loop-less c = omega (arith, kind-used (c .before .before .before .before .before
 -- src/lists.rt:166:5
 loop-again : tie.Need-loop-again Inv-loop μ-loop
 loop-again c = (
-      kind-on (c .before .before .before .before .before .before .before .before .before .before .args .wanted) (c .before .before .before .before .before .before .before .before .before .before .args .bytes .now) (c .before .before .before .before .before .before .loop .s .now) (c .before .before .before .before .before .before .loop .inv .0) (c .before .before .before .before .before .next-of .result) (c .before .before .before .before .before .next-of .ensures) _ _ (c .before .before .before .found .given .1),
-      one-store _ _ _ _ _ _ (c .before .before .before .before .before .before .loop .inv .1) _ _ (c .slot-of .result .index) (kind-head (c .before .before .before .before .before .before .before .before .before .before .args .wanted) (c .before .before .before .before .before .before .before .before .before .before .args .bytes .now) (c .before .before .before .before .before .before .loop .s .now) (c .before .before .before .before .before .before .loop .inv .0) (c .before .before .before .before .before .next-of .result) (c .before .before .before .before .before .next-of .ensures) _ _ (c .before .before .before .found .given .1)) (c .before .before .before .before .before .before .before .before .before .before .pre .1 .1 .0) (ap (λ (m : Measured). m .index) (c .slot-of .ensures)),
-      one-store _ _ _ _ _ _ (c .before .before .before .before .before .before .loop .inv .2) _ _ (c .slot-of .result .size) (kind-head (c .before .before .before .before .before .before .before .before .before .before .args .wanted) (c .before .before .before .before .before .before .before .before .before .before .args .bytes .now) (c .before .before .before .before .before .before .loop .s .now) (c .before .before .before .before .before .before .loop .inv .0) (c .before .before .before .before .before .next-of .result) (c .before .before .before .before .before .next-of .ensures) _ _ (c .before .before .before .found .given .1)) (omega (arith, c .before .before .before .before .before .before .before .before .before .before .pre .1 .1 .0, c .before .before .before .before .before .before .before .before .before .before .pre .1 .1 .1)) (ap (λ (m : Measured). m .size) (c .slot-of .ensures)),
-    )
+  kind-on (c .before .before .before .before .before .before .before .before .before .before .args .wanted) (c .before .before .before .before .before .before .before .before .before .before .args .bytes .now) (c .before .before .before .before .before .before .loop .s .now) (c .before .before .before .before .before .before .loop .inv .0) (c .before .before .before .before .before .next-of .result) (c .before .before .before .before .before .next-of .ensures) _ _ (c .before .before .before .found .given .1),
+  one-store _ _ _ _ _ _ (c .before .before .before .before .before .before .loop .inv .1) _ _ (c .slot-of .result .index) (kind-head (c .before .before .before .before .before .before .before .before .before .before .args .wanted) (c .before .before .before .before .before .before .before .before .before .before .args .bytes .now) (c .before .before .before .before .before .before .loop .s .now) (c .before .before .before .before .before .before .loop .inv .0) (c .before .before .before .before .before .next-of .result) (c .before .before .before .before .before .next-of .ensures) _ _ (c .before .before .before .found .given .1)) (c .before .before .before .before .before .before .before .before .before .before .pre .1 .1 .0) (ap (λ (m : Measured). m .index) (c .slot-of .ensures)),
+  one-store _ _ _ _ _ _ (c .before .before .before .before .before .before .loop .inv .2) _ _ (c .slot-of .result .size) (kind-head (c .before .before .before .before .before .before .before .before .before .before .args .wanted) (c .before .before .before .before .before .before .before .before .before .before .args .bytes .now) (c .before .before .before .before .before .before .loop .s .now) (c .before .before .before .before .before .before .loop .inv .0) (c .before .before .before .before .before .next-of .result) (c .before .before .before .before .before .next-of .ensures) _ _ (c .before .before .before .found .given .1)) (omega (arith, c .before .before .before .before .before .before .before .before .before .before .pre .1 .1 .0, c .before .before .before .before .before .before .before .before .before .before .pre .1 .1 .1)) (ap (λ (m : Measured). m .size) (c .slot-of .ensures)),
+)
 
 pub write-slots-spec : {M : Type 1} → statement M
 write-slots-spec =

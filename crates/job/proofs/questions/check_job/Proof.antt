@@ -43,7 +43,7 @@ returns-2 c = job-stopped (itemsOf (records (c .before .before .before .before .
 -- src/questions.rt:356:1
 returns-3 : tie.Need-returns-3
 unfolding verdict
-returns-3 c = 
+returns-3 c =
     let v = itemsOf (records (c .before .before .before .before .before .before .before .before .args .bytes .now)) in
     ap given (job-items v true [] (c .before .before .before .before .before .before .before .before .args .bytes .now) (c .before .before .before .before .before .before .survey-job .result) (c .before .before .before .before .before .before .survey-job .ensures) _ (c .before .before .before .before .found2 .given .1) (c .before .before .first-no .result) (c .before .before .first-no .ensures))
     ∙ job-yes v true [] (c .before .before .before .before .before .before .before .before .args .bytes .now) (c .before .before .before .before .before .before .survey-job .result) (c .before .before .before .before .before .before .survey-job .ensures) _ (c .before .before .before .before .found2 .given .1) (c .before .before .first-no .result) (c .before .before .first-no .ensures) (c .before .if1 .left)
