@@ -63,6 +63,12 @@ module _ (a : AxisInput) where
   abbrev to : ℕ
   to = below (a .last + 1) (a .indexes)
 
+  -- the body has no more slots than the axis
+  pub body-few : length (bodyIndexes a) ≤ length (a .indexes)
+  body-few =
+      let h = below-le (a .last + 1) (a .indexes) in
+      omega (arith, length-mid from to (a .indexes) h, h)
+
   module _ (even : length (a .indexes) ≡ length (a .sizes)) where
     -- the body has as many indexes as sizes
     pub body-even : length (bodyIndexes a) ≡ length (bodySizes a)

@@ -77,10 +77,10 @@ lists-done whole f₀ l₀ s₀ m₀ k f l s m w =
     }
 
 -- what stands first after values were written to the front, and how long the list is
-pub front-written : (g : Run → ℕ) (rs : List Run) (old new : List ℕ) → new ≡ written (map g rs) old → take (length rs) new ≡ map g rs
+pub front-written : {A : Type 0} (g : A → ℕ) (rs : List A) (old new : List ℕ) → new ≡ written (map g rs) old → take (length rs) new ≡ map g rs
 front-written g rs old new w = rw w (take-at (map g rs) (drop (length (map g rs)) old) (length rs) (length-map rs g))
 
-pub long-written : (g : Run → ℕ) (rs : List Run) (old new : List ℕ) → length rs ≤ length old → new ≡ written (map g rs) old → length new ≡ length old
+pub long-written : {A : Type 0} (g : A → ℕ) (rs : List A) (old new : List ℕ) → length rs ≤ length old → new ≡ written (map g rs) old → length new ≡ length old
 long-written g rs old new h w = rw w (simp (length-append, length-drop) (omega (arith, length-map rs g)))
 
 -- ---- a part `&mut old[at..]` was lent, and came back as `new`

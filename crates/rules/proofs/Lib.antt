@@ -25,3 +25,4 @@ pub mod Places
 pub mod NoTen
 pub mod BodyLaws
 pub mod Demand
+pub mod RunCount

@@ -85,40 +85,45 @@ scaled-given x p X P =
 
 -- ---- a plan
 
-asked : {A : Type 0} (n k : ℕ) (b : Bool) (rest : Outcome A) → (n ≡ k → ⊥) → (rest ≡ refused k → ⊥) → ask n b rest ≡ refused k → ⊥
-asked n k true rest d r e = r e
-asked n k false rest d r e = let same : n ≡ k = cc in d same
+pub asked : {A : Type 0} (n k : ℕ) (b : Bool) (rest : Outcome A) → (n ≡ k → ⊥) → ask n b rest ≡ refused k → (b ≡ true) × (rest ≡ refused k)
+asked n k true rest d e = (refl, e)
+asked n k false rest d e = let same : n ≡ k = cc in absurd (d same)
 
-not-given : {A : Type 0} (a : A) (k : ℕ) → given a ≡ refused k → ⊥
+pub not-given : {A : Type 0} (a : A) (k : ℕ) → given a ≡ refused k → ⊥
 not-given a k e = let z : _≡_ {A = ℕ} 0 1 = cc in omega arith
+
+-- a plan that is refused with a number past 9: 6 was answered yes, the content has sides, and the refusal is that of the room
+pub record PastNine (s : Settings) (rows columns : AxisInput) (lr lc : RunLists) (k : ℕ) : Type 0 where
+  pub sides : Sides
+  pub six : formed rows (evenLists lr) && formed columns (evenLists lc) && equallyLong (rows .merge-firsts) (columns .merge-firsts) ≡ true
+  pub room : roomFor (layout s sides rows columns) (length (lr .firsts)) (length (lc .firsts)) (s .«page_limit») ≡ refused k
+
+pub past-nine : (s : Settings) (rows columns : AxisInput) (lr lc : RunLists) (k : ℕ) → 9 < k → planned s rows columns lr lc ≡ refused k → PastNine s rows columns lr lc k
+unfolding planned
+past-nine s rows columns lr lc k h e =
+    let q6 = formed rows (evenLists lr) && formed columns (evenLists lc) && equallyLong (rows .merge-firsts) (columns .merge-firsts) in
+    let q7 = inGrid rows && inGrid columns in
+    let q8 = risingWithin (rows .limit) (rows .indexes) && risingWithin (columns .limit) (columns .indexes) in
+    let q9 = allSmall (rows .sizes) && allSmall (columns .sizes) in
+    let next : Sides → Outcome Layout = λ x. roomFor (layout s x rows columns) (length (lr .firsts)) (length (lc .firsts)) (s .«page_limit») in
+    let after = andThen (contentSides s) next in
+    let six = asked 6 k q6 (ask 7 q7 (ask 8 q8 (ask 9 q9 after))) (λ i. omega arith) e in
+    let seven = asked 7 k q7 (ask 8 q8 (ask 9 q9 after)) (λ i. omega arith) (six .1) in
+    let eight = asked 8 k q8 (ask 9 q9 after) (λ i. omega arith) (seven .1) in
+    let nine = asked 9 k q9 after (λ i. omega arith) (eight .1) in
+    let c = sides-given s in
+    record { sides = c .0; six = six .0; room = sym (ap (λ (o : Outcome Sides). andThen o next) (c .1)) ∙ nine .1 }
 
 room-not-ten : (l : Layout) (row-room column-room limit : ℕ) → roomFor l row-room column-room limit ≡ refused 10 → ⊥
 unfolding roomFor
-room-not-ten l row-room column-room limit =
+room-not-ten l row-room column-room limit e =
     let fits = leb (length (l .rows)) row-room && leb (length (l .columns)) column-room in
     let few = leb (l .plan .pages) limit in
-    asked 11 10 fits (ask 12 few (given l)) (λ e. omega arith) (asked 12 10 few (given l) (λ e. omega arith) (not-given l 10))
-
-after : (o : Outcome Sides) (c : Sides) (next : Sides → Outcome Layout) → o ≡ given c → (next c ≡ refused 10 → ⊥) → andThen o next ≡ refused 10 → ⊥
-after o c next g n e = n (sym (ap (λ (o : Outcome Sides). andThen o next) g) ∙ e)
+    let eleven = asked 11 10 fits (ask 12 few (given l)) (λ i. omega arith) e in
+    let twelve = asked 12 10 few (given l) (λ i. omega arith) (eleven .1) in
+    not-given l 10 (twelve .1)
 
 pub never-ten : (s : Settings) (rows columns : AxisInput) (lr lc : RunLists) → planned s rows columns lr lc ≡ refused 10 → ⊥
-unfolding planned
-never-ten s rows columns lr lc =
-    let six = formed rows (evenLists lr) && formed columns (evenLists lc) && equallyLong (rows .merge-firsts) (columns .merge-firsts) in
-    let seven = inGrid rows && inGrid columns in
-    let eight = risingWithin (rows .limit) (rows .indexes) && risingWithin (columns .limit) (columns .indexes) in
-    let nine = allSmall (rows .sizes) && allSmall (columns .sizes) in
-    let row-room = length (lr .firsts) in
-    let column-room = length (lc .firsts) in
-    let next : Sides → Outcome Layout = λ c. roomFor (layout s c rows columns) row-room column-room (s .«page_limit») in
-    let after-nine = andThen (contentSides s) next in
-    let after-eight = ask 9 nine after-nine in
-    let after-seven = ask 8 eight after-eight in
-    let after-six = ask 7 seven after-seven in
-    let c = sides-given s in
-    let plan = after (contentSides s) (c .0) next (c .1) (room-not-ten (layout s (c .0) rows columns) row-room column-room (s .«page_limit»)) in
-    asked 6 10 six after-six (λ e. omega arith)
-    (asked 7 10 seven after-seven (λ e. omega arith)
-    (asked 8 10 eight after-eight (λ e. omega arith)
-    (asked 9 10 nine after-nine (λ e. omega arith) plan)))
+never-ten s rows columns lr lc e =
+    let w = past-nine s rows columns lr lc 10 (omega arith) e in
+    room-not-ten (layout s (w .sides) rows columns) _ _ _ (w .room)

@@ -23,7 +23,7 @@ use Rattle.rules.specs.Questions.{ask, equallyLong}
 use Rattle.rules.specs.Titles.{pastTitle}
 use Rattle.rules.specs.Partition.{Even, noOr}
 use Rattle.rules.specs.Scale.{Space, fitsSide}
-use Rattle.rules.specs.Pages.{printed, overflowing, RunLists, runAt, pageAt, inOrder, pagesOf, evenLists, numbered, pageNumbered, placeOf, pageAfter, hasPage, firstNo}
+use Rattle.rules.specs.Pages.{printed, overflowing, RunLists, runAt, pageAt, inOrder, pagesOf, evenLists, numbered, pageNumbered, placeOf, pageAfter, hasPage, listsNo, firstNo}
 use Rattle.rules.proofs.QuestionLaws.{both}
 use Rattle.rules.proofs.Division.{split}
 use Rattle.rules.proofs.PageLaws.{numbered-zero, numbered-take, numbered-take-past, page-of, page-beyond}
@@ -160,29 +160,33 @@ module _ (p : Plan) (n : ℕ) where
 
 -- ---- 6, 11 and 14, way by way
 
-module _ (p : Plan) (n : ℕ) (even : Bool) (rows columns : ℕ) where
-  pub no-even : even ≡ false → 6 ≡ firstNo p n even rows columns
-  unfolding firstNo
-  no-even e = rw e
+-- a no of 6 or 11 comes before 14
+comes-first : (a b d : Bool) (k : ℕ) → k ≡ noOr 6 a (noOr 11 b 0) → 0 < k → k ≡ noOr 6 a (noOr 11 b (noOr 14 d 0))
+comes-first false b d k e h = e
+comes-first true false d k e h = e
+comes-first true true d k e h = absurd (omega arith)
 
-  module _ (e : even ≡ true) where
-    pub no-row-room : rows < p .«row_runs» → 11 ≡ firstNo p n even rows columns
-    unfolding firstNo
-    no-row-room h = rw (e, lt-leb (p .«row_runs») rows h)
+-- and where there is none, 14 is asked
+comes-last : (a b d : Bool) (k : ℕ) → k ≡ noOr 6 a (noOr 11 b 0) → k ≤ 0 → noOr 14 d 0 ≡ noOr 6 a (noOr 11 b (noOr 14 d 0))
+comes-last false b d k e h = absurd (omega arith)
+comes-last true false d k e h = absurd (omega arith)
+comes-last true true d k e h = refl
 
-    module _ (r : p .«row_runs» ≤ rows) where
-      pub no-column-room : columns < p .«column_runs» → 11 ≡ firstNo p n even rows columns
-      unfolding firstNo
-      no-column-room h = rw (e, le-leb (p .«row_runs») rows r, lt-leb (p .«column_runs») columns h)
+module _ (p : Plan) (n : ℕ) (even : Bool) (rows columns k : ℕ) (e : k ≡ listsNo p even rows columns) where
+  abbrev hold : Bool
+  hold = leb (p .«row_runs») rows && leb (p .«column_runs») columns
 
-      module _ (c : p .«column_runs» ≤ columns) where
-        pub no-number : hasPage p n ≡ false → 14 ≡ firstNo p n even rows columns
-        unfolding firstNo
-        no-number h = rw (e, le-leb (p .«row_runs») rows r, le-leb (p .«column_runs») columns c, h)
+  pub no-lists : 0 < k → k ≡ firstNo p n even rows columns
+  unfolding firstNo listsNo
+  no-lists h = comes-first even hold (hasPage p n) k e h
 
-        pub no-no : hasPage p n ≡ true → 0 ≡ firstNo p n even rows columns
-        unfolding firstNo
-        no-no h = rw (e, le-leb (p .«row_runs») rows r, le-leb (p .«column_runs») columns c, h)
+  pub no-number : k ≤ 0 → hasPage p n ≡ false → 14 ≡ firstNo p n even rows columns
+  unfolding firstNo listsNo
+  no-number h g = ap (λ (d : Bool). noOr 14 d 0) (sym g) ∙ comes-last even hold (hasPage p n) k e h
+
+  pub no-no : k ≤ 0 → hasPage p n ≡ true → 0 ≡ firstNo p n even rows columns
+  unfolding firstNo listsNo
+  no-no h g = ap (λ (d : Bool). noOr 14 d 0) (sym g) ∙ comes-last even hold (hasPage p n) k e h
 
 -- ---- what the first no says of the whole
 

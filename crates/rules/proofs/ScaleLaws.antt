@@ -1,12 +1,12 @@
 -- Laws of `specs/Scale.antt`'s definitions. Assumes nothing.
 use mathlib.Core.Path.{_≡_, refl, sym, ap, _∙_}
-use mathlib.Core.Bool.{Bool, true, false, cond, _&&_, _||_, and-true}
+use mathlib.Core.Bool.{Bool, true, false, cond, _&&_, and-true, and-false}
 use mathlib.Core.List.{List, [], _∷_}
-use Prim.Native.Nat.{ℕ, _+_, _*_, _≤_, _<_, min, max}
+use Prim.Native.Nat.{ℕ, zero, suc, _+_, _*_, _≤_, _<_, min, max}
+use native.Mathlib.Nat.{add-zero, zero-add}
 use native.Mathlib.Omega.{arith}
-use lib.Dec.{leb, eqb}
 use lib.ListN.{length}
-use borrow.Author.Tests.{eq-eqb, ne-eqb, lt-ltb, le-ltb, le-leb}
+use borrow.Author.Tests.{eq-eqb, ne-eqb, lt-ltb, le-ltb, le-leb, lt-leb, leb-false}
 use Rattle.geometry.specs.declared.paper.Setting.{Setting}
 use Rattle.rules.specs.declared.titles.Title.{Title}
 use Rattle.rules.specs.declared.titles.Title.the-variants.{Absent, Pair}
@@ -49,15 +49,48 @@ module _ (title : Title) (first size titles headings : ℕ) where
   unfolding pastTitle
   takes-before f l e h = rw (e, le-ltb l first h) (omega arith)
 
--- ---- run after run: the first fits, and so do the others
+-- ---- the number of runs
 
-pub fit-more : (a b c : Bool) → a && b && c ≡ a && (b && c)
-fit-more true b c = refl
-fit-more false b c = refl
+-- no runs meet every target
+pub meets-none : (target : ℕ) → meets target 0 ≡ true
+meets-none zero = refl
+meets-none (suc t) = rw (ne-eqb (suc t) 0 (λ z. omega arith)) (le-leb 0 (suc t) (omega arith))
 
-or-true : (a b : Bool) → b ≡ true → a || b ≡ true
-or-true true b e = refl
-or-true false b e = e
+-- a target that so many runs do not meet is not met by more
+meets-more : (target n m : ℕ) → n ≤ m → meets target n ≡ false → meets target m ≡ false
+meets-more zero n m h e = e
+meets-more (suc t) n m h e =
+    let positive = ne-eqb (suc t) 0 (λ z. omega arith) in
+    rw positive (lt-leb m (suc t) (omega (arith, leb-false n (suc t) (rw positive at e))))
+
+-- ---- run after run, until the answer is known
+
+-- whether the runs that are left fit, and meet the target together with the n before them
+abbrev pub passFrom : Space → Body → ℕ → ℕ → ℕ → List Run → Bool
+passFrom s b target p n rs = allFit s b p rs && meets target (n + length rs)
+
+module _ (s : Space) (b : Body) (target p : ℕ) where
+  pub from-none : (rs : List Run) → passFrom s b target p 0 rs ≡ allFit s b p rs && meets target (length rs)
+  from-none rs = rw zero-add
+
+  -- one run more is too many
+  pub too-many : (n : ℕ) (rs : List Run) → 1 ≤ length rs → meets target (n + 1) ≡ false → false ≡ passFrom s b target p n rs
+  too-many n rs h e = rw (meets-more target (n + 1) (n + length rs) (omega arith) e) (sym (and-false (allFit s b p rs)))
+
+  -- the first that is left does not fit
+  pub one-out : (n : ℕ) (r : Run) (rs : List Run) → fitsSide s p (rendered s b r) ≡ false → false ≡ passFrom s b target p n (r ∷ rs)
+  unfolding allFit
+  one-out n r rs e = rw e
+
+  -- it fits
+  pub one-in : (n : ℕ) (r : Run) (rs : List Run) → fitsSide s p (rendered s b r) ≡ true → passFrom s b target p (n + 1) rs ≡ passFrom s b target p n (r ∷ rs)
+  unfolding allFit
+  one-in n r rs e = let m : n + 1 + length rs ≡ n + suc (length rs) = omega arith in rw (e, m)
+
+  -- none is left
+  pub all-in : (n : ℕ) → meets target n ≡ true → true ≡ passFrom s b target p n []
+  unfolding allFit
+  all-in n e = rw (add-zero, e)
 
 -- ---- an axis
 
@@ -67,21 +100,17 @@ unfolding allFit
 titled-fit s b p [] = refl
 titled-fit s b p (r ∷ rs) = ap (λ (t : Bool). fitsSide s p (rendered s b r) && t) (titled-fit s b p rs)
 
-module _ (s : Space) (b : Body) (target p : ℕ) (rs : List Run) (e : rs ≡ runsAt s b p) where
-  pub no-runs : length rs ≡ 0 → fitsSide s p (s .titles + s .headings) ≡ axisPasses s b target p
+module _ (s : Space) (b : Body) (target p : ℕ) where
+  pub no-runs : runsAt s b p ≡ [] → fitsSide s p (s .titles + s .headings) ≡ axisPasses s b target p
   unfolding axisPasses runsFit
-  no-runs h = rw (← e) (none rs h)
-    where
-      none : (rs : List Run) → length rs ≡ 0 → fitsSide s p (s .titles + s .headings) ≡ runsFit s b p rs && meets target (length rs)
-      none [] h = unfold runsFit in (sym (and-true (fitsSide s p (s .titles + s .headings))) ∙ ap (λ (t : Bool). fitsSide s p (s .titles + s .headings) && t) (sym (or-true (eqb target 0) (leb 0 target) (le-leb 0 target (omega arith)))))
-      none (r ∷ rs) h = absurd (omega arith)
+  no-runs e = rw (e, meets-none target) (sym (and-true (fitsSide s p (s .titles + s .headings))))
 
-  pub some-runs : (fit : Bool) → fit ≡ allFit s (titled (b .title)) p rs → (length rs ≡ 0 → ⊥) → fit && meets target (length rs) ≡ axisPasses s b target p
+  pub some-runs : 1 ≤ length (runsAt s b p) → allFit s (titled (b .title)) p (runsAt s b p) && meets target (length (runsAt s b p)) ≡ axisPasses s b target p
   unfolding axisPasses
-  some-runs fit q h = rw (← e) (ap (λ (t : Bool). t && meets target (length rs)) (q ∙ titled-fit s b p rs ∙ all rs h))
+  some-runs h = ap (λ (t : Bool). t && meets target (length (runsAt s b p))) (titled-fit s b p (runsAt s b p) ∙ all (runsAt s b p) h)
     where
-      all : (rs : List Run) → (length rs ≡ 0 → ⊥) → allFit s b p rs ≡ runsFit s b p rs
-      all [] h = absurd (h refl)
+      all : (rs : List Run) → 1 ≤ length rs → allFit s b p rs ≡ runsFit s b p rs
+      all [] h = absurd (omega arith)
       all (r ∷ rs) h = unfold runsFit in refl
 
 -- ---- the halving's two ways

@@ -34,7 +34,6 @@ pub use scale::ChosenScale;
 pub use scale::Fit;
 pub use scale::PageSide;
 pub use scale::Stretch;
-pub use scale::Tested;
 pub use titles::Axis;
 pub use titles::Expanded;
 pub use titles::Normalized;

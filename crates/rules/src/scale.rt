@@ -23,12 +23,6 @@ pub struct Stretch {
     pub hi: u32,
 }
 
-// How many runs there are, and whether all fit the page.
-pub struct Tested {
-    pub runs: usize,
-    pub fit: bool,
-}
-
 // An axis to be fitted: its page, its stretch, and the most runs that it may have, 0 for any number.
 pub struct Fit {
     pub page: PageSide,
