@@ -1,15 +1,16 @@
 // The call that cuts an axis into lent lists: document 01, sections "Titles" and "Runs".
 use crate::runs::count_axis;
-use crate::runs::slots_below;
 use crate::runs::write_axis;
+use cuts::slots_below;
+use questions::lists_even;
 use questions::partition_refusal;
+use questions::wide;
 use rules::Axis;
 use rules::AxisSetup;
 use rules::Frame;
 use rules::Partition;
 use rules::Tally;
 use titles::body_start;
-use titles::wide;
 ghost use mathlib.Core.Path.{_≡_};
 ghost use lib.ListN.{length};
 ghost use Rattle.rules.specs.Slots.{Slots};
@@ -123,9 +124,7 @@ pub fn partition_axis_with_breaks(
 ) -> Partition
     ensures { λ r. ⌜ call.Answered (call.partition (limitOf axis) setup (now (indexes .entry)) (now (sizes .entry)) (now («merge_firsts» .entry)) (now («merge_lasts» .entry)) (now (breaks .entry)) (now («run_firsts» .entry)) (now («run_lasts» .entry)) (now («run_sizes» .entry)) (now («run_marks» .entry))) (call.bodyRuns setup (now (indexes .entry)) (now (sizes .entry)) (now («merge_firsts» .entry)) (now («merge_lasts» .entry)) (now (breaks .entry))) r (now («run_firsts» .entry)) (now («run_lasts» .entry)) (now («run_sizes» .entry)) (now («run_marks» .entry)) (now («run_firsts» .exit)) (now («run_lasts» .exit)) (now («run_sizes» .exit)) (now («run_marks» .exit)) ⌝ }
 {
-    let lent_even = (run_firsts.len() == run_lasts.len())
-        & (run_firsts.len() == run_sizes.len())
-        & (run_firsts.len() == run_marks.len());
+    let lent_even = lists_even(run_firsts, run_lasts, run_sizes, run_marks);
     let limit = axis.limit();
     let refusal = partition_refusal(
         limit,

@@ -1,13 +1,15 @@
 // The plan call: questions, scale, cuts and notes for both axes of a range.
 use crate::overflow::overflowing_runs;
 use crate::runs::count_axis;
-use crate::runs::slots_below;
 use crate::runs::write_axis;
-use crate::scale::capacity_at;
 use crate::scale::fit_scale;
+use crate::scale::frame_at;
 use crate::title::title_total;
+use cuts::slots_below;
 use geometry::Fixed;
+use questions::lists_even;
 use questions::plan_refusal;
+use questions::wide;
 use rules::AxisRange;
 use rules::ChosenScale;
 use rules::ContentSides;
@@ -30,7 +32,6 @@ use setup::fixed_scale;
 use setup::looked_at;
 use setup::row_range;
 use titles::body_start;
-use titles::wide;
 use titles::widened_title;
 ghost use mathlib.Core.Path.{_≡_};
 ghost use mathlib.Core.Bool.{cond, _&&_};
@@ -41,7 +42,7 @@ ghost use Rattle.rules.specs.Slots.{Slots};
 ghost use Rattle.rules.specs.Runs.{axisRuns};
 ghost use Rattle.rules.specs.Lent.{Room, Written};
 ghost use Rattle.rules.specs.Partition.{Even};
-ghost use Rattle.rules.specs.Scale.{fixedScale, fitScale, spaceOf, scaleOf, fitPasses, Low};
+ghost use Rattle.rules.specs.Scale.{fixedScale, fitScale, spaceOf, scaleOf, fitPasses};
 ghost use Rattle.rules.specs.Pages.{none, orEmpty, overflowing};
 ghost use Rattle.rules.specs.Demand.{CoversPairs, FewestPlan, LargestPlan};
 ghost use Rattle.rules.specs.Lent as lists;
@@ -134,23 +135,6 @@ fn choose_scale(
     }
     let percent = settings.percent;
     fixed_scale(percent)
-}
-
-// What the runs of an axis go by at a permille.
-fn frame_at(fit: Fit, permille: u16) -> Frame
-    requires { ⌜ Low (fit .page) ⌝ }
-    ensures { λ r. ⌜ r ≡ call.readyFrame fit permille ⌝ }
-{
-    let page = fit.page;
-    let stretch = fit.stretch;
-    let title = stretch.title;
-    Frame {
-        untitled: capacity_at(page, permille, 0),
-        titled: capacity_at(page, permille, page.titles),
-        title,
-        lo: stretch.lo,
-        hi: stretch.hi,
-    }
 }
 
 // Counts the final cut of an axis, without writing it.
@@ -563,12 +547,13 @@ pub fn plan_pages(
     ensures fewest { λ r. ⌜ FewestPlan r settings (call.rowsOf settings range «row_title» (now («row_indexes» .entry)) (now («row_sizes» .entry)) (now («merge_first_rows» .entry)) (now («merge_last_rows» .entry)) (now («row_breaks» .entry))) (call.columnsOf settings range «column_title» (now («column_indexes» .entry)) (now («column_sizes» .entry)) (now («merge_first_columns» .entry)) (now («merge_last_columns» .entry)) (now («column_breaks» .entry))) (pages.runLists (now («row_run_firsts» .exit)) (now («row_run_lasts» .exit)) (now («row_run_sizes» .exit)) (now («row_run_marks» .exit))) (pages.runLists (now («column_run_firsts» .exit)) (now («column_run_lasts» .exit)) (now («column_run_sizes» .exit)) (now («column_run_marks» .exit))) ⌝ }
     ensures largest { λ r. ⌜ LargestPlan r settings (call.rowsOf settings range «row_title» (now («row_indexes» .entry)) (now («row_sizes» .entry)) (now («merge_first_rows» .entry)) (now («merge_last_rows» .entry)) (now («row_breaks» .entry))) (call.columnsOf settings range «column_title» (now («column_indexes» .entry)) (now («column_sizes» .entry)) (now («merge_first_columns» .entry)) (now («merge_last_columns» .entry)) (now («column_breaks» .entry))) ⌝ }
 {
-    let lent_rows_even = (row_run_firsts.len() == row_run_lasts.len())
-        & (row_run_firsts.len() == row_run_sizes.len())
-        & (row_run_firsts.len() == row_run_marks.len());
-    let lent_columns_even = (column_run_firsts.len() == column_run_lasts.len())
-        & (column_run_firsts.len() == column_run_sizes.len())
-        & (column_run_firsts.len() == column_run_marks.len());
+    let lent_rows_even = lists_even(row_run_firsts, row_run_lasts, row_run_sizes, row_run_marks);
+    let lent_columns_even = lists_even(
+        column_run_firsts,
+        column_run_lasts,
+        column_run_sizes,
+        column_run_marks,
+    );
     let rows = row_range(settings, range, row_title);
     let columns = column_range(settings, range, column_title);
     let refusal = plan_refusal(

@@ -1,4 +1,14 @@
 // Where the slots of an axis are cut into runs: document 01, section "Runs".
+use cuts::capacity_for;
+use cuts::mark_of;
+use cuts::merge_step;
+use cuts::moved_cut;
+use cuts::nearer_of;
+use cuts::slots_below;
+use cuts::title_holds;
+use questions::greater;
+use questions::lesser;
+use questions::wide;
 use rules::Counted;
 use rules::Cut;
 use rules::Frame;
@@ -6,44 +16,12 @@ use rules::Held;
 use rules::RunEnd;
 use rules::Tally;
 use rules::Title;
-use titles::greater;
-use titles::lesser;
-use titles::wide;
 ghost use mathlib.Core.Path.{_≡_};
-ghost use Prim.Native.Nat.{_≤_, _<_, min};
+ghost use Prim.Native.Nat.{_≤_, _<_};
 ghost use lib.ListN.{length};
-ghost use Rattle.rules.specs.Slots.{Small, Slots, sum, below, through};
-ghost use Rattle.rules.specs.Titles.{titleHolds};
-ghost use Rattle.rules.specs.Runs.{earlier, nearer, holding, natural, capacityAt, resumed, resumption, taken, mergeStep, merged, runEnd, runs, firstMarked, moved, placed, nextCut, stretch, axisRuns, axisTally};
+ghost use Rattle.rules.specs.Slots.{Small, Slots, sum};
+ghost use Rattle.rules.specs.Runs.{holding, natural, resumed, resumption, taken, merged, runEnd, runs, firstMarked, placed, nextCut, stretch, axisRuns, axisTally};
 ghost use Rattle.rules.specs.Lent.{Room, Written, RoomAt, WrittenAt, counted};
-
-// The earlier of two pairs, by first, then last.
-fn earlier_of(first: u32, last: u32, held: Held) -> Held
-    ensures { λ r. ⌜ r ≡ earlier first last held ⌝ }
-{
-    let Held::By(f, l) = held else {
-        return Held::By(first, last);
-    };
-    if first < f {
-        return Held::By(first, last);
-    }
-    if f < first {
-        return Held::By(f, l);
-    }
-    Held::By(first, lesser(last, l))
-}
-
-// What holds b, of a pair and of what was found before.
-fn nearer_of(first: u32, last: u32, b: u32, held: Held) -> Held
-    ensures { λ r. ⌜ r ≡ nearer first last b held ⌝ }
-{
-    if first < b {
-        if b <= last {
-            return earlier_of(first, last, held);
-        }
-    }
-    held
-}
 
 // The earliest merge that holds b, clipped to the stretch.
 fn holding_merge(firsts: &[u32], lasts: &[u32], lo: u32, hi: u32, b: u32) -> Held
@@ -59,36 +37,6 @@ fn holding_merge(firsts: &[u32], lasts: &[u32], lo: u32, hi: u32, b: u32) -> Hel
         held = nearer_of(f, l, b, held);
     }
     held
-}
-
-// How many slots at the front have an index below the limit.
-pub(crate) fn slots_below(indexes: &[u32], limit: u64) -> usize
-    ensures { λ r. ⌜ r ≡ below limit (now (indexes .entry)) ⌝ }
-    ensures { λ r. ⌜ r ≤ length (now (indexes .entry)) ⌝ }
-{
-    let mut n = 0;
-    while n < indexes.len() {
-        if wide(indexes[n]) >= limit {
-            return n;
-        }
-        n += 1;
-    }
-    n
-}
-
-// How many slots there are up to the last one at or below an index.
-fn slots_through(indexes: &[u32], last: u32) -> usize
-    ensures { λ r. ⌜ r ≡ through last (now (indexes .entry)) ⌝ }
-    ensures { λ r. ⌜ r ≤ length (now (indexes .entry)) ⌝ }
-{
-    let mut i = indexes.len();
-    while i > 0 {
-        if indexes[i - 1] <= last {
-            return i;
-        }
-        i -= 1;
-    }
-    0
 }
 
 // How many slots a run takes by filling alone: the first, and the next while the sum stays within the capacity.
@@ -123,20 +71,6 @@ pub(crate) fn total(sizes: &[u64]) -> u64
         t += sizes[i];
     }
     t
-}
-
-// The capacity of a run whose first slot has this index.
-fn capacity_for(k: Frame, index: u32) -> u64
-    ensures { λ r. ⌜ r ≡ capacityAt k index ⌝ }
-{
-    let title = k.title;
-    let Title::Pair(_, last) = title else {
-        return k.untitled;
-    };
-    if index > last {
-        return k.titled;
-    }
-    k.untitled
 }
 
 // How many slots are taken on from a boundary that the title holds.
@@ -199,30 +133,6 @@ fn taken_slots(k: Frame, indexes: &[u32], sizes: &[u64]) -> usize
     let title = k.title;
     let titled = k.titled;
     title_end(title, titled, indexes, sizes, n)
-}
-
-// The merge step, where a run has n slots and `held` holds the boundary after them.
-fn merge_step(indexes: &[u32], n: usize, held: Held) -> RunEnd
-    ensures { λ r. ⌜ r ≡ mergeStep held n (now (indexes .entry)) ⌝ }
-{
-    let Held::By(first, last) = held else {
-        return RunEnd { slots: n, grown: 0 };
-    };
-    let start = slots_below(indexes, wide(first));
-    if start > 0 {
-        return RunEnd {
-            slots: start,
-            grown: 0,
-        };
-    }
-    let end = slots_through(indexes, last);
-    if end > n {
-        return RunEnd {
-            slots: end,
-            grown: 1,
-        };
-    }
-    RunEnd { slots: n, grown: 0 }
 }
 
 // The end of a run that filling and the title gave n slots.
@@ -315,44 +225,6 @@ fn write_runs(
         at += 1;
     }
     at
-}
-
-fn title_holds(title: Title, b: u32) -> bool
-    ensures { λ r. ⌜ r ≡ titleHolds title b ⌝ }
-{
-    let Title::Pair(first, last) = title else {
-        return false;
-    };
-    if first < b {
-        if b <= last {
-            return true;
-        }
-    }
-    false
-}
-
-// The cut of a break at the place p, whose boundary `held` holds.
-fn moved_cut(held: Held, prev: usize, p: usize, indexes: &[u32]) -> Cut
-    ensures { λ r. ⌜ r ≡ moved held prev p (now (indexes .entry)) ⌝ }
-{
-    let Held::By(first, last) = held else {
-        return Cut {
-            place: p,
-            shifted: 0,
-        };
-    };
-    let start = slots_below(indexes, wide(first));
-    if start > prev {
-        return Cut {
-            place: start,
-            shifted: 1,
-        };
-    }
-    let end = slots_through(indexes, last);
-    Cut {
-        place: end,
-        shifted: 1,
-    }
 }
 
 // The cut of a break at the place p; the last kept one where the break is skipped.
@@ -451,13 +323,6 @@ pub(crate) fn count_axis(
         expansions: grown + t.grown,
         shifts,
     }
-}
-
-// The mark of a run that starts at a cut: every cut past 0 is a kept manual break.
-fn mark_of(cut: usize) -> u8
-    ensures { λ r. ⌜ r ≡ min cut 1 ⌝ }
-{
-    if cut > 0 { 1 } else { 0 }
 }
 
 // Writes the runs of the slots from the cut a to the cut e to the lent lists, from `at` on, and returns how many there are.

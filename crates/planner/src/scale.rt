@@ -7,8 +7,6 @@ use rules::ChosenScale;
 use rules::Fit;
 use rules::Frame;
 use rules::PageSide;
-use rules::Stretch;
-use rules::Tested;
 use rules::Title;
 use setup::meets_target;
 use setup::middle_of;
@@ -19,10 +17,11 @@ ghost use lib.ListN.{length};
 ghost use Rattle.rules.specs.Slots.{Slots};
 ghost use Rattle.rules.specs.Titles.{pastTitle};
 ghost use Rattle.rules.specs.Runs.{runs};
-ghost use Rattle.rules.specs.Scale.{capacityOf, fitsSide, allFit, axisPasses, halve, fitScale, spaceOf, scaleOf, bodyFor, titled, Low, fitPasses, Fitted};
+ghost use Rattle.rules.specs.Scale.{capacityOf, fitsSide, allFit, meets, halve, fitScale, spaceOf, scaleOf, titled, Low, fitPasses, Fitted};
+ghost use Rattle.rules.specs.Plan.{readyFrame};
 
 // The capacity at a permille beside so many units of titles.
-pub(crate) fn capacity_at(page: PageSide, permille: u16, titles: u64) -> u64
+fn capacity_at(page: PageSide, permille: u16, titles: u64) -> u64
     requires { ⌜ Low page ⌝ }
     requires { ⌜ titles ≤ 2 ^ 50 ⌝ }
     ensures { λ r. ⌜ r ≡ capacityOf (spaceOf page) permille titles ⌝ }
@@ -68,43 +67,27 @@ fn rendered(page: PageSide, title: Title, first: u32, size: u64) -> u64
     size + page.headings
 }
 
-// Tests the runs of slots at a permille.
-fn test_runs(
-    page: PageSide,
-    frame: Frame,
-    permille: u16,
-    mfirsts: &[u32],
-    mlasts: &[u32],
-    indexes: &[u32],
-    sizes: &[u64],
-) -> Tested
-    requires { ⌜ Low page ⌝ }
-    requires { ⌜ length (now mfirsts) ≡ length (now mlasts) ⌝ }
-    requires { ⌜ Slots (now indexes) (now sizes) ⌝ }
-    ensures { λ r. ⌜ (r .runs ≡ length (runs frame (now (mfirsts .entry)) (now (mlasts .entry)) (now (indexes .entry)) (now (sizes .entry)))) × (r .fit ≡ allFit (spaceOf page) (titled (frame .title)) permille (runs frame (now (mfirsts .entry)) (now (mlasts .entry)) (now (indexes .entry)) (now (sizes .entry)))) ⌝ }
+// What the runs of an axis go by at a permille.
+pub(crate) fn frame_at(fit: Fit, permille: u16) -> Frame
+    requires { ⌜ Low (fit .page) ⌝ }
+    ensures { λ r. ⌜ r ≡ readyFrame fit permille ⌝ }
 {
-    let title = frame.title;
-    let mut is = indexes;
-    let mut ss = sizes;
-    let mut count = 0;
-    let mut fit = true;
-    while ss.len() > 0 {
-        let end = run_end(frame, mfirsts, mlasts, is, ss);
-        let n = end.slots;
-        let t = total(&ss[..n]);
-        let whole = rendered(page, title, is[0], t);
-        fit = fit & fits_side(page, permille, whole);
-        is = &is[n..];
-        ss = &ss[n..];
-        count += 1;
+    let page = fit.page;
+    let stretch = fit.stretch;
+    let title = stretch.title;
+    Frame {
+        untitled: capacity_at(page, permille, 0),
+        titled: capacity_at(page, permille, page.titles),
+        title,
+        lo: stretch.lo,
+        hi: stretch.hi,
     }
-    Tested { runs: count, fit }
 }
 
-// Whether an axis passes at a permille: its runs, cut without breaks, fit the page and meet the target.
-fn axis_passes(
+// Whether the runs of slots fit the page and meet the target: no more are cut once the answer is known.
+fn runs_pass(
     page: PageSide,
-    stretch: Stretch,
+    frame: Frame,
     target: u16,
     permille: u16,
     mfirsts: &[u32],
@@ -115,25 +98,31 @@ fn axis_passes(
     requires { ⌜ Low page ⌝ }
     requires { ⌜ length (now mfirsts) ≡ length (now mlasts) ⌝ }
     requires { ⌜ Slots (now indexes) (now sizes) ⌝ }
-    ensures { λ r. ⌜ r ≡ axisPasses (spaceOf page) (bodyFor stretch (now (mfirsts .entry)) (now (mlasts .entry)) (now (indexes .entry)) (now (sizes .entry))) target permille ⌝ }
+    ensures { λ r. ⌜ r ≡ allFit (spaceOf page) (titled (frame .title)) permille (runs frame (now (mfirsts .entry)) (now (mlasts .entry)) (now (indexes .entry)) (now (sizes .entry))) && meets target (length (runs frame (now (mfirsts .entry)) (now (mlasts .entry)) (now (indexes .entry)) (now (sizes .entry)))) ⌝ }
 {
-    let untitled = capacity_at(page, permille, 0);
-    let titled = capacity_at(page, permille, page.titles);
-    let title = stretch.title;
-    let frame = Frame {
-        untitled,
-        titled,
-        title,
-        lo: stretch.lo,
-        hi: stretch.hi,
-    };
-    let tested = test_runs(page, frame, permille, mfirsts, mlasts, indexes, sizes);
-    if tested.runs == 0 {
-        return fits_side(page, permille, page.titles + page.headings);
+    let title = frame.title;
+    let mut is = indexes;
+    let mut ss = sizes;
+    let mut count = 0;
+    while ss.len() > 0 {
+        count += 1;
+        if !meets_target(target, count) {
+            return false;
+        }
+        let end = run_end(frame, mfirsts, mlasts, is, ss);
+        let n = end.slots;
+        let t = total(&ss[..n]);
+        let whole = rendered(page, title, is[0], t);
+        if !fits_side(page, permille, whole) {
+            return false;
+        }
+        is = &is[n..];
+        ss = &ss[n..];
     }
-    tested.fit & meets_target(target, tested.runs)
+    true
 }
 
+// Whether an axis passes at a permille: its runs, cut without breaks, fit the page and meet the target.
 fn fit_passes(
     fit: Fit,
     permille: u16,
@@ -146,10 +135,13 @@ fn fit_passes(
     ensures { λ r. ⌜ r ≡ fitPasses fit (now (mfirsts .entry)) (now (mlasts .entry)) (now (indexes .entry)) (now (sizes .entry)) permille ⌝ }
 {
     let page = fit.page;
-    let stretch = fit.stretch;
-    axis_passes(
+    if sizes.len() == 0 {
+        return fits_side(page, permille, page.titles + page.headings);
+    }
+    let frame = frame_at(fit, permille);
+    runs_pass(
         page,
-        stretch,
+        frame,
         fit.target,
         permille,
         mfirsts,

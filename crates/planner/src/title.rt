@@ -1,8 +1,8 @@
 // What a title takes of a page: document 01, section "Titles".
-use crate::runs::slots_below;
 use crate::runs::total;
+use cuts::slots_below;
+use questions::wide;
 use rules::Title;
-use titles::wide;
 ghost use mathlib.Core.Path.{_≡_};
 ghost use Rattle.rules.specs.Slots.{Slots};
 ghost use Rattle.rules.specs.Titles.{titleTotal};

@@ -2,7 +2,7 @@
 use rules::AxisRange;
 use rules::AxisSetup;
 ghost use mathlib.Core.Path.{_≡_};
-ghost use Prim.Native.Nat.{min};
+ghost use Prim.Native.Nat.{min, max};
 ghost use Rattle.rules.specs.Questions.{allOrdered, allWithin, rising, risingWithin, allSmall, equallyLong};
 ghost use mathlib.Core.Bool.{_&&_};
 ghost use mathlib.Core.List.{[]};
@@ -18,6 +18,33 @@ pub fn shorter(a: usize, b: usize) -> usize
     ensures { λ r. ⌜ r ≡ min a b ⌝ }
 {
     if a < b { a } else { b }
+}
+
+// The greater and the lesser of two indexes, and an index among wider numbers.
+pub fn greater(a: u32, b: u32) -> u32
+    ensures { λ r. ⌜ r ≡ max a b ⌝ }
+{
+    if a < b { b } else { a }
+}
+
+pub fn lesser(a: u32, b: u32) -> u32
+    ensures { λ r. ⌜ r ≡ min a b ⌝ }
+{
+    if a < b { a } else { b }
+}
+
+pub fn wide(x: u32) -> u64
+    ensures { λ r. ⌜ r ≡ x ⌝ }
+{
+    x as u64
+}
+
+// 6: the four slices of a list of runs are equally long.
+pub fn lists_even(firsts: &[u32], lasts: &[u32], sizes: &[u64], marks: &[u8]) -> bool
+    ensures { λ r. ⌜ r ≡ partition.lentEven (now (firsts .entry)) (now (lasts .entry)) (now (sizes .entry)) (now (marks .entry)) ⌝ }
+{
+    let runs = firsts.len();
+    (runs == lasts.len()) & (runs == sizes.len()) & (runs == marks.len())
 }
 
 // 6: no first is above its last.

@@ -1,7 +1,10 @@
 // Rows or columns that are repeated on every page: document 01, section "Titles".
 use questions::all_within;
+use questions::greater;
+use questions::lesser;
 use questions::pairs_ordered;
 use questions::shorter;
+use questions::wide;
 use rules::Axis;
 use rules::Expanded;
 use rules::Normalized;
@@ -10,26 +13,7 @@ use rules::Title;
 use rules::Widened;
 use rules::Widening;
 ghost use mathlib.Core.Path.{_≡_};
-ghost use Prim.Native.Nat.{min, max};
 ghost use Rattle.rules.specs.Titles.{bodyStart, limitOf, normalized, widenTo, sameSpan, expand, widened, widenTitle, wideningOutcome};
-
-pub fn greater(a: u32, b: u32) -> u32
-    ensures { λ r. ⌜ r ≡ max a b ⌝ }
-{
-    if a < b { b } else { a }
-}
-
-pub fn lesser(a: u32, b: u32) -> u32
-    ensures { λ r. ⌜ r ≡ min a b ⌝ }
-{
-    if a < b { a } else { b }
-}
-
-pub fn wide(x: u32) -> u64
-    ensures { λ r. ⌜ r ≡ x ⌝ }
-{
-    x as u64
-}
 
 // The title, unless its first is above its last or its last beyond the limit.
 fn normalize_repeat(title: Title, limit: u32) -> Normalized

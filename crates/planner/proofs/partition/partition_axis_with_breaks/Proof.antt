@@ -1,16 +1,12 @@
 -- `planner::partition::partition_axis_with_breaks` meets its contract: a no refuses, and else the body is cut. Assumes nothing.
-use mathlib.Core.Path.{_≡_, sym, ap, subst, _∙_}
-use mathlib.Core.List.{List}
+use mathlib.Core.Path.{_≡_, ap₂, _∙_}
+use mathlib.Core.Bool.{Bool}
 use Prim.Native.Nat.{ℕ, _≤_}
-use native.Mathlib.Omega.{arith}
 use lib.Dec.{lit≤}
-use lib.ListN.{length}
-use Rattle.geometry.specs.Outcome.{Outcome}
-use Rattle.rules.specs.declared.runs.Tally.{Tally}
 use Rattle.rules.specs.declared.titles.Axis.{Axis}
 use Rattle.rules.specs.declared.titles.Axis.the-variants.{Rows, Columns}
 use Rattle.rules.specs.Titles.{limitOf}
-use Rattle.rules.specs.Partition.{firstNo, lentEven, partition, bodyRuns, Answered}
+use Rattle.rules.specs.Partition.{firstNo, lentEven, bodyRuns}
 use Rattle.rules.proofs.PartitionLaws.{is-refused, is-asked, refuses}
 use borrow.Author.Needs.{needs}
 use Rattle.planner.proofs.partition.partition_axis_with_breaks.Statement.{statement}
@@ -22,30 +18,21 @@ grid Rows = lit≤ tt
 grid Columns = lit≤ tt
 
 -- the first no, at the axis' limit
-asked : (d : tie.After-partition-refusal) → let a = d .before .before .before .before .before .before .before .before .before .before .before .args in
+asked : (d : tie.After-partition-refusal) → let a = d .before .before .before .before .before .before .before .before .before .before .before .before .before .before .before .before .args in
     d .partition-refusal .result ≡ firstNo (limitOf (a .axis)) (a .setup) (a .indexes .now) (a .sizes .now) (a .merge-firsts .now) (a .merge-lasts .now) (lentEven (a .run-firsts .now) (a .run-lasts .now) (a .run-sizes .now) (a .run-marks .now))
 asked d =
-    let a = d .before .before .before .before .before .before .before .before .before .before .before .args in
+    let a = d .before .before .before .before .before .before .before .before .before .before .before .before .before .before .before .before .args in
     d .partition-refusal .ensures
-    ∙ ap (λ (n : ℕ). firstNo n (a .setup) (a .indexes .now) (a .sizes .now) (a .merge-firsts .now) (a .merge-lasts .now) (lentEven (a .run-firsts .now) (a .run-lasts .now) (a .run-sizes .now) (a .run-marks .now))) (d .before .limit .ensures)
+    ∙ ap₂ (λ (n : ℕ) (even : Bool). firstNo n (a .setup) (a .indexes .now) (a .sizes .now) (a .merge-firsts .now) (a .merge-lasts .now) even) (d .before .limit .ensures) (d .before .before .lists-even .ensures)
+
+lists-even-requires : tie.Need-lists-even-requires
+lists-even-requires c κs = search needs
 
 limit-requires : tie.Need-limit-requires
 limit-requires c κs = search needs
 
 partition-refusal-requires : tie.Need-partition-refusal-requires
 partition-refusal-requires c κs = search needs
-
-returns : tie.Need-returns
-returns c =
-    let a = c .before .before .before .before .before .before .before .before .before .before .before .before .args in
-    refuses _ (bodyRuns (a .setup) (a .indexes .now) (a .sizes .now) (a .merge-firsts .now) (a .merge-lasts .now) (a .breaks .now)) (c .before .partition-refusal .result) (a .run-firsts .now) (a .run-lasts .now) (a .run-sizes .now) (a .run-marks .now) (is-refused (limitOf (a .axis)) (a .setup) (a .indexes .now) (a .sizes .now) (a .merge-firsts .now) (a .merge-lasts .now) (a .breaks .now) (a .run-firsts .now) (a .run-lasts .now) (a .run-sizes .now) (a .run-marks .now) (c .before .partition-refusal .result) (asked (c .before)) (c .if1 .taken))
-
-partition-body-requires : tie.Need-partition-body-requires
-partition-body-requires c κs =
-    let a = c .before .before .before .before .before .before .before .before .before .before .before .before .before .before .before .before .args in
-    let d = c .before .before .before .before .before in
-    let y = is-asked (limitOf (a .axis)) (a .setup) (a .indexes .now) (a .sizes .now) (a .merge-firsts .now) (a .merge-lasts .now) (a .breaks .now) (a .run-firsts .now) (a .run-lasts .now) (a .run-sizes .now) (a .run-marks .now) (d .partition-refusal .result) (asked d) (c .before .before .before .before .if1 .left) (grid (a .axis)) in
-    (y .merges, (y .slots, y .lists))
 
 same-length : tie.Need-same-length
 same-length c = search needs
@@ -59,9 +46,33 @@ same-length-3 c = search needs
 same-length-4 : tie.Need-same-length-4
 same-length-4 c = search needs
 
+returns : tie.Need-returns
+returns c =
+    let a = c .before .before .before .before .before .before .before .before .before .before .before .before .before .before .before .before .before .args in
+    refuses _ (bodyRuns (a .setup) (a .indexes .now) (a .sizes .now) (a .merge-firsts .now) (a .merge-lasts .now) (a .breaks .now)) (c .before .partition-refusal .result) (a .run-firsts .now) (a .run-lasts .now) (a .run-sizes .now) (a .run-marks .now) (is-refused (limitOf (a .axis)) (a .setup) (a .indexes .now) (a .sizes .now) (a .merge-firsts .now) (a .merge-lasts .now) (a .breaks .now) (a .run-firsts .now) (a .run-lasts .now) (a .run-sizes .now) (a .run-marks .now) (c .before .partition-refusal .result) (asked (c .before)) (c .if1 .taken))
+
+partition-body-requires : tie.Need-partition-body-requires
+partition-body-requires c κs =
+    let a = c .before .before .before .before .before .before .before .before .before .before .before .before .before .before .before .before .before .before .before .before .before .args in
+    let d = c .before .before .before .before .before in
+    let y = is-asked (limitOf (a .axis)) (a .setup) (a .indexes .now) (a .sizes .now) (a .merge-firsts .now) (a .merge-lasts .now) (a .breaks .now) (a .run-firsts .now) (a .run-lasts .now) (a .run-sizes .now) (a .run-marks .now) (d .partition-refusal .result) (asked d) (c .before .before .before .before .if1 .left) (grid (a .axis)) in
+    (y .merges, (y .slots, y .lists))
+
+same-length-5 : tie.Need-same-length-5
+same-length-5 c = search needs
+
+same-length-6 : tie.Need-same-length-6
+same-length-6 c = search needs
+
+same-length-7 : tie.Need-same-length-7
+same-length-7 c = search needs
+
+same-length-8 : tie.Need-same-length-8
+same-length-8 c = search needs
+
 returns-2 : tie.Need-returns-2
 returns-2 c =
-    let a = c .before .before .before .before .before .before .before .before .before .before .before .before .before .before .before .before .before .before .before .before .before .before .before .before .before .args in
+    let a = c .before .before .before .before .before .before .before .before .before .before .before .before .before .before .before .before .before .before .before .before .before .before .before .before .before .before .before .before .before .before .args in
     let d = c .before .before .before .before .before .before .before .before .before .before .before .before .before .before in
     let p = c .before .before .before .before .before .before .before .before .partition-body in
     let y = is-asked (limitOf (a .axis)) (a .setup) (a .indexes .now) (a .sizes .now) (a .merge-firsts .now) (a .merge-lasts .now) (a .breaks .now) (a .run-firsts .now) (a .run-lasts .now) (a .run-sizes .now) (a .run-marks .now) (d .partition-refusal .result) (asked d) (c .before .before .before .before .before .before .before .before .before .before .before .before .before .if1 .left) (grid (a .axis)) in
@@ -71,12 +82,17 @@ pub partition-axis-with-breaks-spec : {M : Type 1} → statement M
 partition-axis-with-breaks-spec =
     tie.close
     (tie.spec
+    lists-even-requires
     limit-requires
     partition-refusal-requires
-    returns
-    partition-body-requires
     same-length
     same-length-2
     same-length-3
     same-length-4
+    returns
+    partition-body-requires
+    same-length-5
+    same-length-6
+    same-length-7
+    same-length-8
     returns-2)

@@ -1,7 +1,7 @@
--- `planner::plan::frame_at` meets its contract. Assumes nothing.
+-- `planner::scale::frame_at` meets its contract. Assumes nothing.
 use native.Mathlib.Omega.{arith}
-use Rattle.planner.proofs.plan.frame_at.Statement.{statement}
-use Rattle.planner.proofs.plan.frame_at.Tie as tie
+use Rattle.planner.proofs.scale.frame_at.Statement.{statement}
+use Rattle.planner.proofs.scale.frame_at.Tie as tie
 
 capacity-at-requires : tie.Need-capacity-at-requires
 capacity-at-requires c κs =

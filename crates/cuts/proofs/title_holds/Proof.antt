@@ -1,8 +1,8 @@
--- `planner::runs::title_holds` meets its contract. Assumes nothing.
+-- `cuts::title_holds` meets its contract. Assumes nothing.
 use borrow.Author.Tests.{lt-ltb, le-ltb, le-leb, lt-leb}
 use borrow.Author.Needs.{needs}
-use Rattle.planner.proofs.runs.title_holds.Statement.{statement}
-use Rattle.planner.proofs.runs.title_holds.Tie as tie
+use Rattle.cuts.proofs.title_holds.Statement.{statement}
+use Rattle.cuts.proofs.title_holds.Tie as tie
 use Rattle.rules.specs.Titles.{titleHolds}
 
 enum-known-title : tie.Need-enum-known-title

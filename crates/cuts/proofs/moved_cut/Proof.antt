@@ -1,10 +1,10 @@
--- `planner::runs::moved_cut` meets its contract. Assumes nothing.
+-- `cuts::moved_cut` meets its contract. Assumes nothing.
 use Rattle.rules.proofs.AxisLaws.{moved-start, moved-past}
 use Prim.Native.Nat.{ℕ, _+_}
 use mathlib.Core.Path.{_≡_, ap, _∙_}
 use borrow.Author.Needs.{needs}
-use Rattle.planner.proofs.runs.moved_cut.Statement.{statement}
-use Rattle.planner.proofs.runs.moved_cut.Tie as tie
+use Rattle.cuts.proofs.moved_cut.Statement.{statement}
+use Rattle.cuts.proofs.moved_cut.Tie as tie
 use Rattle.rules.specs.Slots.{below}
 use Rattle.rules.specs.Runs.{moved}
 

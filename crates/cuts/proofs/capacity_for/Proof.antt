@@ -1,8 +1,8 @@
--- `planner::runs::capacity_for` meets its contract. Assumes nothing.
+-- `cuts::capacity_for` meets its contract. Assumes nothing.
 use borrow.Author.Tests.{lt-ltb, le-ltb}
 use borrow.Author.Needs.{needs}
-use Rattle.planner.proofs.runs.capacity_for.Statement.{statement}
-use Rattle.planner.proofs.runs.capacity_for.Tie as tie
+use Rattle.cuts.proofs.capacity_for.Statement.{statement}
+use Rattle.cuts.proofs.capacity_for.Tie as tie
 use Rattle.rules.specs.Titles.{pastTitle}
 use Rattle.rules.specs.Runs.{capacityAt}
 

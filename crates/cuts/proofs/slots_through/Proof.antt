@@ -1,4 +1,4 @@
--- `planner::runs::slots_through` meets its contract. The loop comes from the end: none of the slots that it passed is at or below. Assumes nothing.
+-- `cuts::slots_through` meets its contract. The loop comes from the end: none of the slots that it passed is at or below. Assumes nothing.
 use mathlib.Core.Path.{_≡_, refl, ap, sym, _∙_}
 use Prim.Native.Nat.{ℕ, zero, suc, _+_, _-_, _≤_}
 use lib.ListN.{length, drop}
@@ -6,8 +6,8 @@ use Rattle.rules.specs.Slots.{through}
 use Rattle.rules.proofs.EndLaws.{through-none, through-found, through-passed, through-front}
 use borrow.Author.Needs.{needs}
 use native.Mathlib.Omega.{arith}
-use Rattle.planner.proofs.runs.slots_through.Statement.{statement}
-use Rattle.planner.proofs.runs.slots_through.Tie as tie
+use Rattle.cuts.proofs.slots_through.Statement.{statement}
+use Rattle.cuts.proofs.slots_through.Tie as tie
 
 abbrev Inv-loop : tie.InvT-loop
 Inv-loop indexes last i₀ i = (i ≤ length indexes) × (through last (drop i indexes) ≡ 0)

@@ -1,11 +1,11 @@
--- `planner::runs::merge_step` meets its contract. Assumes nothing.
+-- `cuts::merge_step` meets its contract. Assumes nothing.
 use mathlib.Core.Path.{_≡_, ap, _∙_}
 use Prim.Native.Nat.{ℕ, _+_}
 use Rattle.rules.proofs.EndLaws.{step-start, step-far, step-stay}
 use borrow.Author.Tests.{lt-ltb, le-ltb, le-leb, lt-leb}
 use borrow.Author.Needs.{needs}
-use Rattle.planner.proofs.runs.merge_step.Statement.{statement}
-use Rattle.planner.proofs.runs.merge_step.Tie as tie
+use Rattle.cuts.proofs.merge_step.Statement.{statement}
+use Rattle.cuts.proofs.merge_step.Tie as tie
 use Rattle.rules.specs.Slots.{below}
 use Rattle.rules.specs.Runs.{mergeStep, merged}
 

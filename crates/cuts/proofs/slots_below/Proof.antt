@@ -1,4 +1,4 @@
--- `planner::runs::slots_below` meets its contract. The loop's invariant: what is passed, and what the definition still counts from here, is the whole.
+-- `cuts::slots_below` meets its contract. The loop's invariant: what is passed, and what the definition still counts from here, is the whole.
 -- Assumes nothing.
 use Rattle.rules.proofs.EndLaws.{below-yes, below-no, below-end}
 use lib.ListN.{length, drop}
@@ -6,8 +6,8 @@ use Prim.Native.Nat.{_+_, _-_, _≤_, _<_}
 use mathlib.Core.Path.{_≡_}
 use borrow.Author.Needs.{needs}
 use native.Mathlib.Omega.{arith}
-use Rattle.planner.proofs.runs.slots_below.Statement.{statement}
-use Rattle.planner.proofs.runs.slots_below.Tie as tie
+use Rattle.cuts.proofs.slots_below.Statement.{statement}
+use Rattle.cuts.proofs.slots_below.Tie as tie
 use Rattle.rules.specs.Slots.{below}
 
 abbrev Inv-loop : tie.InvT-loop

@@ -1,0 +1,157 @@
+// Single steps of cutting an axis: which merge holds a boundary, where a place stands among the slots, and where a merge moves an end or a cut.
+// Document 01, section "Runs".
+use questions::lesser;
+use questions::wide;
+use rules::Cut;
+use rules::Frame;
+use rules::Held;
+use rules::RunEnd;
+use rules::Title;
+ghost use mathlib.Core.Path.{_≡_};
+ghost use Prim.Native.Nat.{_≤_, min};
+ghost use lib.ListN.{length};
+ghost use Rattle.rules.specs.Slots.{below, through};
+ghost use Rattle.rules.specs.Titles.{titleHolds};
+ghost use Rattle.rules.specs.Runs.{earlier, nearer, capacityAt, mergeStep, moved};
+
+// The earlier of two pairs, by first, then last.
+fn earlier_of(first: u32, last: u32, held: Held) -> Held
+    ensures { λ r. ⌜ r ≡ earlier first last held ⌝ }
+{
+    let Held::By(f, l) = held else {
+        return Held::By(first, last);
+    };
+    if first < f {
+        return Held::By(first, last);
+    }
+    if f < first {
+        return Held::By(f, l);
+    }
+    Held::By(first, lesser(last, l))
+}
+
+// What holds b, of a pair and of what was found before.
+pub fn nearer_of(first: u32, last: u32, b: u32, held: Held) -> Held
+    ensures { λ r. ⌜ r ≡ nearer first last b held ⌝ }
+{
+    if first < b {
+        if b <= last {
+            return earlier_of(first, last, held);
+        }
+    }
+    held
+}
+
+// How many slots at the front have an index below the limit.
+pub fn slots_below(indexes: &[u32], limit: u64) -> usize
+    ensures { λ r. ⌜ r ≡ below limit (now (indexes .entry)) ⌝ }
+    ensures { λ r. ⌜ r ≤ length (now (indexes .entry)) ⌝ }
+{
+    let mut n = 0;
+    while n < indexes.len() {
+        if wide(indexes[n]) >= limit {
+            return n;
+        }
+        n += 1;
+    }
+    n
+}
+
+// How many slots there are up to the last one at or below an index.
+fn slots_through(indexes: &[u32], last: u32) -> usize
+    ensures { λ r. ⌜ r ≡ through last (now (indexes .entry)) ⌝ }
+    ensures { λ r. ⌜ r ≤ length (now (indexes .entry)) ⌝ }
+{
+    let mut i = indexes.len();
+    while i > 0 {
+        if indexes[i - 1] <= last {
+            return i;
+        }
+        i -= 1;
+    }
+    0
+}
+
+// The capacity of a run whose first slot has this index.
+pub fn capacity_for(k: Frame, index: u32) -> u64
+    ensures { λ r. ⌜ r ≡ capacityAt k index ⌝ }
+{
+    let title = k.title;
+    let Title::Pair(_, last) = title else {
+        return k.untitled;
+    };
+    if index > last {
+        return k.titled;
+    }
+    k.untitled
+}
+
+// The merge step, where a run has n slots and `held` holds the boundary after them.
+pub fn merge_step(indexes: &[u32], n: usize, held: Held) -> RunEnd
+    ensures { λ r. ⌜ r ≡ mergeStep held n (now (indexes .entry)) ⌝ }
+{
+    let Held::By(first, last) = held else {
+        return RunEnd { slots: n, grown: 0 };
+    };
+    let start = slots_below(indexes, wide(first));
+    if start > 0 {
+        return RunEnd {
+            slots: start,
+            grown: 0,
+        };
+    }
+    let end = slots_through(indexes, last);
+    if end > n {
+        return RunEnd {
+            slots: end,
+            grown: 1,
+        };
+    }
+    RunEnd { slots: n, grown: 0 }
+}
+
+// Whether the title holds b.
+pub fn title_holds(title: Title, b: u32) -> bool
+    ensures { λ r. ⌜ r ≡ titleHolds title b ⌝ }
+{
+    let Title::Pair(first, last) = title else {
+        return false;
+    };
+    if first < b {
+        if b <= last {
+            return true;
+        }
+    }
+    false
+}
+
+// The cut of a break at the place p, whose boundary `held` holds.
+pub fn moved_cut(held: Held, prev: usize, p: usize, indexes: &[u32]) -> Cut
+    ensures { λ r. ⌜ r ≡ moved held prev p (now (indexes .entry)) ⌝ }
+{
+    let Held::By(first, last) = held else {
+        return Cut {
+            place: p,
+            shifted: 0,
+        };
+    };
+    let start = slots_below(indexes, wide(first));
+    if start > prev {
+        return Cut {
+            place: start,
+            shifted: 1,
+        };
+    }
+    let end = slots_through(indexes, last);
+    Cut {
+        place: end,
+        shifted: 1,
+    }
+}
+
+// The mark of a run that starts at a cut: every cut past 0 is a kept manual break.
+pub fn mark_of(cut: usize) -> u8
+    ensures { λ r. ⌜ r ≡ min cut 1 ⌝ }
+{
+    if cut > 0 { 1 } else { 0 }
+}

@@ -1,0 +1,54 @@
+-- `planner::scale::fit_passes` meets its contract: the runs that are asked about are those at the permille. Assumes nothing.
+use mathlib.Core.Path.{ap, _∙_}
+use mathlib.Core.Bool.{Bool, _&&_}
+use native.Mathlib.Omega.{arith}
+use lib.ListN.{length}
+use Rattle.rules.specs.declared.runs.Frame.{Frame}
+use Rattle.rules.specs.Runs.{run, runs}
+use Rattle.rules.specs.Scale.{runsAt, allFit, meets, spaceOf, bodyFor, titled}
+use Rattle.rules.specs.Plan.{readyFrame}
+use Rattle.rules.proofs.Laws.{none, some}
+use Rattle.rules.proofs.ScaleLaws.{no-runs, some-runs}
+use borrow.Author.Needs.{needs}
+use Rattle.planner.proofs.scale.fit_passes.Statement.{statement}
+use Rattle.planner.proofs.scale.fit_passes.Tie as tie
+
+add-fits-side : tie.Need-add-fits-side
+add-fits-side c = search needs
+
+fits-side-requires : tie.Need-fits-side-requires
+fits-side-requires c κs = search needs
+
+returns : tie.Need-returns
+unfolding runsAt runs
+returns c =
+    let a = c .before .before .before .before .before .before .before .before .args in
+    let b = bodyFor (a .fit .stretch) (a .mfirsts .now) (a .mlasts .now) (a .indexes .now) (a .sizes .now) in
+    c .fits-side .ensures ∙ no-runs (spaceOf (a .fit .page)) b (a .fit .target) (a .permille) (none (run (readyFrame (a .fit) (a .permille)) (a .mfirsts .now) (a .mlasts .now)) (a .indexes .now) (a .sizes .now) (omega (arith, c .before .before .if1 .taken)))
+
+frame-at-requires : tie.Need-frame-at-requires
+frame-at-requires c κs = search needs
+
+runs-pass-requires : tie.Need-runs-pass-requires
+runs-pass-requires c κs = search needs
+
+returns-2 : tie.Need-returns-2
+unfolding runsAt runs
+returns-2 c =
+    let s = c .before .before .before .before .before .before .before .before in
+    let a = s .args in
+    let b = bodyFor (a .fit .stretch) (a .mfirsts .now) (a .mlasts .now) (a .indexes .now) (a .sizes .now) in
+    let passes : Frame → Bool = λ f. let rs = runs f (a .mfirsts .now) (a .mlasts .now) (a .indexes .now) (a .sizes .now) in allFit (spaceOf (a .fit .page)) (titled (f .title)) (a .permille) rs && meets (a .fit .target) (length rs) in
+    c .runs-pass .ensures ∙ ap passes (c .before .frame-at .ensures)
+    ∙ some-runs (spaceOf (a .fit .page)) b (a .fit .target) (a .permille) (some (run (readyFrame (a .fit) (a .permille)) (a .mfirsts .now) (a .mlasts .now)) (a .indexes .now) (a .sizes .now) (omega (arith, c .before .before .if1 .left)) (s .pre .slots .even))
+
+pub fit-passes-spec : {M : Type 1} → statement M
+fit-passes-spec =
+    tie.close
+    (tie.spec
+    add-fits-side
+    fits-side-requires
+    returns
+    frame-at-requires
+    runs-pass-requires
+    returns-2)
