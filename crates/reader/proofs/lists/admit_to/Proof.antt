@@ -1,0 +1,16 @@
+use mathlib.Core.Path.{_≡_, refl, sym, ap, _∙_}
+use borrow.Author.Needs.{needs}
+use Rattle.reader.proofs.lists.admit_to.Statement.{statement}
+use Rattle.reader.proofs.lists.admit_to.Tie as tie
+
+lent-even-requires : tie.Need-lent-even-requires
+lent-even-requires c κs = search needs
+
+admit-requires : tie.Need-admit-requires
+admit-requires c κs = search needs
+
+returns : tie.Need-returns
+returns c = rw (← (c .before .lent-even .ensures)) (c .admit .ensures)
+
+pub admit-to-spec : {M : Type 1} → statement M
+admit-to-spec = tie.close (tie.spec lent-even-requires admit-requires returns)

@@ -1,0 +1,18 @@
+use mir.Syntax.{w64}
+use mir.Facts.{toZ-ofZ}
+use native.Mathlib.Omega.{arith}
+use borrow.Author.Needs.{needs}
+use Rattle.reader.proofs.lists.column_measured.Statement.{statement}
+use Rattle.reader.proofs.lists.column_measured.Tie as tie
+
+cast-t3 : tie.Need-cast-t3
+cast-t3 c = search needs
+
+magnitude-requires : tie.Need-magnitude-requires
+magnitude-requires c κs = search needs
+
+returns : tie.Need-returns
+returns c = rw (c .magnitude .ensures, toZ-ofZ {w = w64} {z = c .before .before .before .args .slot .size} (record { sfits = omega arith }))
+
+pub column-measured-spec : {M : Type 1} → statement M
+column-measured-spec = tie.close (tie.spec cast-t3 magnitude-requires returns)

@@ -1,0 +1,126 @@
+use Rattle.reader.specs.Reading.{lists}
+use Rattle.reader.proofs.ReadingLaws.{given-sorted, given-room, job-given, job-refused}
+use borrow.Author.Needs.{needs}
+use Rattle.reader.proofs.lists.read_job.Statement.{statement}
+use Rattle.reader.proofs.lists.read_job.Tie as tie
+
+admit-to-requires : tie.Need-admit-to-requires
+admit-to-requires c κs = search needs
+
+enum-known-admitted : tie.Need-enum-known-admitted
+enum-known-admitted c = search needs
+
+enum-known-admitted-2 : tie.Need-enum-known-admitted-2
+enum-known-admitted-2 c = search needs
+
+write-items-requires : tie.Need-write-items-requires
+write-items-requires c κs =
+    let a = c .before .before .before .before .before .before .before .before .before .before .before .before .before .before .before .before .before .before .before .before .before .before .before .before .before .before .before .before .before .before .before .before .before .before .before .args in
+    (given-sorted (a .bytes .now) (lists (a .row-indexes .now) (a .row-sizes .now) (a .column-indexes .now) (a .column-sizes .now) (a .merge-first-rows .now) (a .merge-first-columns .now) (a .merge-last-rows .now) (a .merge-last-columns .now) (a .row-breaks .now) (a .column-breaks .now)) (c .before .before .before .before .before .before .before .before .before .before .before .before .before .admit-to .result) (c .before .before .before .before .before .before .before .before .before .before .before .before .before .admit-to .ensures) _ (c .before .before .before .before .before .before .before .before .before .before .before .admitted2 .given .1), given-room (a .bytes .now) (lists (a .row-indexes .now) (a .row-sizes .now) (a .column-indexes .now) (a .column-sizes .now) (a .merge-first-rows .now) (a .merge-first-columns .now) (a .merge-last-rows .now) (a .merge-last-columns .now) (a .row-breaks .now) (a .column-breaks .now)) (c .before .before .before .before .before .before .before .before .before .before .before .before .before .admit-to .result) (c .before .before .before .before .before .before .before .before .before .before .before .before .before .admit-to .ensures) _ (c .before .before .before .before .before .before .before .before .before .before .before .admitted2 .given .1))
+
+settings-of-requires : tie.Need-settings-of-requires
+settings-of-requires c κs =
+    let a = c .before .before .before .before .before .before .before .before .before .before .before .before .before .before .before .before .before .before .before .before .before .before .before .before .before .before .before .before .before .before .before .before .before .before .before .before .before .before .before .before .before .before .before .before .before .before .before .before .before .before .before .before .before .before .before .before .args in
+    given-sorted (a .bytes .now) (lists (a .row-indexes .now) (a .row-sizes .now) (a .column-indexes .now) (a .column-sizes .now) (a .merge-first-rows .now) (a .merge-first-columns .now) (a .merge-last-rows .now) (a .merge-last-columns .now) (a .row-breaks .now) (a .column-breaks .now)) (c .before .before .before .before .before .before .before .before .before .before .before .before .before .before .before .before .before .before .before .before .before .before .before .before .before .before .before .before .before .before .before .before .before .before .admit-to .result) (c .before .before .before .before .before .before .before .before .before .before .before .before .before .before .before .before .before .before .before .before .before .before .before .before .before .before .before .before .before .before .before .before .before .before .admit-to .ensures) _ (c .before .before .before .before .before .before .before .before .before .before .before .before .before .before .before .before .before .before .before .before .before .before .before .before .before .before .before .before .before .before .before .before .admitted2 .given .1)
+
+same-length : tie.Need-same-length
+same-length c = search needs
+
+same-length-2 : tie.Need-same-length-2
+same-length-2 c = search needs
+
+same-length-3 : tie.Need-same-length-3
+same-length-3 c = search needs
+
+same-length-4 : tie.Need-same-length-4
+same-length-4 c = search needs
+
+same-length-5 : tie.Need-same-length-5
+same-length-5 c = search needs
+
+same-length-6 : tie.Need-same-length-6
+same-length-6 c = search needs
+
+same-length-7 : tie.Need-same-length-7
+same-length-7 c = search needs
+
+same-length-8 : tie.Need-same-length-8
+same-length-8 c = search needs
+
+same-length-9 : tie.Need-same-length-9
+same-length-9 c = search needs
+
+same-length-10 : tie.Need-same-length-10
+same-length-10 c = search needs
+
+returns : tie.Need-returns
+returns c =
+    let a = c .before .before .before .before .before .before .before .before .before .before .before .before .before .before .before .before .before .before .before .before .before .before .before .before .before .args in
+    job-refused (a .bytes .now) (lists (a .row-indexes .now) (a .row-sizes .now) (a .column-indexes .now) (a .column-sizes .now) (a .merge-first-rows .now) (a .merge-first-columns .now) (a .merge-last-rows .now) (a .merge-last-columns .now) (a .row-breaks .now) (a .column-breaks .now)) (c .before .before .before .admit-to .result) _ (c .before .before .before .admit-to .ensures) (c .before .admitted .given .1)
+
+same-length-11 : tie.Need-same-length-11
+same-length-11 c = search needs
+
+same-length-12 : tie.Need-same-length-12
+same-length-12 c = search needs
+
+same-length-13 : tie.Need-same-length-13
+same-length-13 c = search needs
+
+same-length-14 : tie.Need-same-length-14
+same-length-14 c = search needs
+
+same-length-15 : tie.Need-same-length-15
+same-length-15 c = search needs
+
+same-length-16 : tie.Need-same-length-16
+same-length-16 c = search needs
+
+same-length-17 : tie.Need-same-length-17
+same-length-17 c = search needs
+
+same-length-18 : tie.Need-same-length-18
+same-length-18 c = search needs
+
+same-length-19 : tie.Need-same-length-19
+same-length-19 c = search needs
+
+same-length-20 : tie.Need-same-length-20
+same-length-20 c = search needs
+
+returns-2 : tie.Need-returns-2
+returns-2 c =
+    let a = c .before .before .before .before .before .before .before .before .before .before .before .before .before .before .before .before .before .before .before .before .before .before .before .before .before .before .before .before .before .before .before .before .before .before .before .before .before .before .before .before .before .before .before .before .before .before .before .before .before .before .before .before .before .before .before .before .before .args in
+    job-given (a .bytes .now) (lists (a .row-indexes .now) (a .row-sizes .now) (a .column-indexes .now) (a .column-sizes .now) (a .merge-first-rows .now) (a .merge-first-columns .now) (a .merge-last-rows .now) (a .merge-last-columns .now) (a .row-breaks .now) (a .column-breaks .now)) (c .before .before .before .before .before .before .before .before .before .before .before .before .before .before .before .before .before .before .before .before .before .before .before .before .before .before .before .before .before .before .before .before .before .before .before .admit-to .result) (c .before .before .before .before .before .before .before .before .before .before .before .before .before .before .before .before .before .before .before .before .before .before .before .before .before .before .before .before .before .before .before .before .before .before .before .admit-to .ensures) _ (c .before .before .before .before .before .before .before .before .before .before .before .before .before .before .before .before .before .before .before .before .before .before .before .before .before .before .before .before .before .before .before .before .before .admitted2 .given .1) _ _ (c .settings-of .ensures) (c .before .before .before .before .before .before .before .before .before .before .before .before .before .before .before .before .before .before .before .before .before .write-items .ensures)
+
+pub read-job-spec : {M : Type 1} → statement M
+read-job-spec =
+    tie.close
+    (tie.spec
+    admit-to-requires
+    enum-known-admitted
+    enum-known-admitted-2
+    write-items-requires
+    settings-of-requires
+    same-length
+    same-length-2
+    same-length-3
+    same-length-4
+    same-length-5
+    same-length-6
+    same-length-7
+    same-length-8
+    same-length-9
+    same-length-10
+    returns
+    same-length-11
+    same-length-12
+    same-length-13
+    same-length-14
+    same-length-15
+    same-length-16
+    same-length-17
+    same-length-18
+    same-length-19
+    same-length-20
+    returns-2)

@@ -1,0 +1,141 @@
+use mathlib.Core.Path.{ap}
+use lib.ListN.{length}
+use Rattle.records.specs.declared.records.Range.{Range}
+use Rattle.records.specs.Records.{field, records, marked}
+use Rattle.records.proofs.RecordLaws.{length-part}
+use Rattle.reader.proofs.WalkLaws.{Going, going-start, kind-past, kind-end, kind-rank, kind-used, kind-head, kind-on}
+use Rattle.reader.proofs.Lent.{One, one-start, one-room, one-store, one-done}
+use borrow.Author.Needs.{needs}
+use native.Mathlib.Omega.{arith}
+use Rattle.reader.proofs.lists.write_merges.Statement.{statement}
+use Rattle.reader.proofs.lists.write_merges.Tie as tie
+
+abbrev Inv-loop : tie.InvT-loop
+Inv-loop bytes first-rows₀ first-columns₀ last-rows₀ last-columns₀ s₀ k₀ first-rows first-columns last-rows last-columns s k = Going 16 17 bytes s × One (field 0) (marked 16 (records bytes)) first-rows₀ k (marked 16 (records s)) first-rows × One (field 1) (marked 16 (records bytes)) first-columns₀ k (marked 16 (records s)) first-columns × One (field 2) (marked 16 (records bytes)) last-rows₀ k (marked 16 (records s)) last-rows × One (field 3) (marked 16 (records bytes)) last-columns₀ k (marked 16 (records s)) last-columns
+
+abbrev μ-loop : tie.MeasureT-loop
+μ-loop bytes first-rows₀ first-columns₀ last-rows₀ last-columns₀ s₀ k₀ first-rows first-columns last-rows last-columns s k = length s
+
+loop-holds : tie.Need-loop-holds Inv-loop μ-loop
+loop-holds c = (going-start 16 _ (c .before .before .before .before .before .args .bytes .now) (c .before .before .before .before .before .pre .0), one-start _ _ _, one-start _ _ _, one-start _ _ _, one-start _ _ _)
+
+next-of-requires : tie.Need-next-of-requires Inv-loop μ-loop
+next-of-requires c κs = search needs
+
+enum-known-found : tie.Need-enum-known-found Inv-loop μ-loop
+enum-known-found c = search needs
+
+enum-told : tie.Need-enum-told Inv-loop μ-loop
+enum-told c = search needs
+
+sub-result : tie.Need-sub-result Inv-loop μ-loop
+sub-result c = c .before .before .before .loop .inv .0 .suffix .long
+
+same-length : tie.Need-same-length Inv-loop μ-loop
+same-length c = c .before .before .before .loop .inv .1 .wrote .long
+
+same-length-2 : tie.Need-same-length-2 Inv-loop μ-loop
+same-length-2 c = c .before .before .before .loop .inv .2 .wrote .long
+
+same-length-3 : tie.Need-same-length-3 Inv-loop μ-loop
+same-length-3 c = c .before .before .before .loop .inv .3 .wrote .long
+
+same-length-4 : tie.Need-same-length-4 Inv-loop μ-loop
+same-length-4 c = c .before .before .before .loop .inv .4 .wrote .long
+
+returns : tie.Need-returns Inv-loop μ-loop
+returns c =
+    let a = c .before .before .before .before .before .before .before .before .before .args in
+    (kind-past 16 (a .bytes .now) (c .before .before .before .loop .s .now) (c .before .before .before .loop .inv .0) (c .before .before .next-of .result) (c .before .before .next-of .ensures) (c .enum-told .given .1), (one-done _ _ _ _ _ _ (c .before .before .before .loop .inv .1) (kind-end 16 (a .bytes .now) (c .before .before .before .loop .s .now) (c .before .before .before .loop .inv .0) (c .before .before .next-of .result) (c .before .before .next-of .ensures) (c .enum-told .given .1)), (one-done _ _ _ _ _ _ (c .before .before .before .loop .inv .2) (kind-end 16 (a .bytes .now) (c .before .before .before .loop .s .now) (c .before .before .before .loop .inv .0) (c .before .before .next-of .result) (c .before .before .next-of .ensures) (c .enum-told .given .1)), (one-done _ _ _ _ _ _ (c .before .before .before .loop .inv .3) (kind-end 16 (a .bytes .now) (c .before .before .before .loop .s .now) (c .before .before .before .loop .inv .0) (c .before .before .next-of .result) (c .before .before .next-of .ensures) (c .enum-told .given .1)), one-done _ _ _ _ _ _ (c .before .before .before .loop .inv .4) (kind-end 16 (a .bytes .now) (c .before .before .before .loop .s .now) (c .before .before .before .loop .inv .0) (c .before .before .next-of .result) (c .before .before .next-of .ensures) (c .enum-told .given .1))))))
+
+sub-s : tie.Need-sub-s Inv-loop μ-loop
+sub-s c = omega (arith, kind-used 16 (c .before .before .before .before .before .before .before .before .before .before .args .bytes .now) (c .before .before .before .before .loop .s .now) (c .before .before .before .before .loop .inv .0) (c .before .before .before .next-of .result) (c .before .before .before .next-of .ensures) _ _ (c .before .found .given .1))
+
+part-s-start : tie.Need-part-s-start Inv-loop μ-loop
+part-s-start c = omega (arith, kind-used 16 (c .before .before .before .before .before .before .before .before .before .before .args .bytes .now) (c .before .before .before .before .loop .s .now) (c .before .before .before .before .loop .inv .0) (c .before .before .before .next-of .result) (c .before .before .before .next-of .ensures) _ _ (c .before .found .given .1))
+
+part-s-end : tie.Need-part-s-end Inv-loop μ-loop
+part-s-end c = omega (arith, kind-used 16 (c .before .before .before .before .before .before .before .before .before .before .args .bytes .now) (c .before .before .before .before .loop .s .now) (c .before .before .before .before .loop .inv .0) (c .before .before .before .next-of .result) (c .before .before .before .next-of .ensures) _ _ (c .before .found .given .1))
+
+cells-of-requires : tie.Need-cells-of-requires Inv-loop μ-loop
+cells-of-requires c κs = kind-rank 16 (c .before .before .before .before .before .before .before .before .before .before .before .args .bytes .now) (c .before .before .before .before .before .loop .s .now) (c .before .before .before .before .before .loop .inv .0) (c .before .before .before .before .next-of .result) (c .before .before .before .before .next-of .ensures) _ _ (c .before .before .found .given .1)
+
+mul-first-rows : tie.Need-mul-first-rows Inv-loop μ-loop
+mul-first-rows c = omega (arith, one-room _ _ _ _ _ _ (c .before .before .before .before .before .before .loop .inv .1) _ _ (kind-head 16 (c .before .before .before .before .before .before .before .before .before .before .before .before .args .bytes .now) (c .before .before .before .before .before .before .loop .s .now) (c .before .before .before .before .before .before .loop .inv .0) (c .before .before .before .before .before .next-of .result) (c .before .before .before .before .before .next-of .ensures) _ _ (c .before .before .before .found .given .1)) (c .before .before .before .before .before .before .before .before .before .before .before .before .pre .1 .0))
+
+slice-write-first-rows : tie.Need-slice-write-first-rows Inv-loop μ-loop
+slice-write-first-rows c = one-room _ _ _ _ _ _ (c .before .before .before .before .before .before .loop .inv .1) _ _ (kind-head 16 (c .before .before .before .before .before .before .before .before .before .before .before .before .args .bytes .now) (c .before .before .before .before .before .before .loop .s .now) (c .before .before .before .before .before .before .loop .inv .0) (c .before .before .before .before .before .next-of .result) (c .before .before .before .before .before .next-of .ensures) _ _ (c .before .before .before .found .given .1)) (c .before .before .before .before .before .before .before .before .before .before .before .before .pre .1 .0)
+
+cast-first-columns : tie.Need-cast-first-columns Inv-loop μ-loop
+cast-first-columns c = search needs
+
+mul-first-columns : tie.Need-mul-first-columns Inv-loop μ-loop
+mul-first-columns c = omega (arith, one-room _ _ _ _ _ _ (c .before .before .before .before .before .before .before .loop .inv .2) _ _ (kind-head 16 (c .before .before .before .before .before .before .before .before .before .before .before .before .before .args .bytes .now) (c .before .before .before .before .before .before .before .loop .s .now) (c .before .before .before .before .before .before .before .loop .inv .0) (c .before .before .before .before .before .before .next-of .result) (c .before .before .before .before .before .before .next-of .ensures) _ _ (c .before .before .before .before .found .given .1)) (omega (arith, c .before .before .before .before .before .before .before .before .before .before .before .before .before .pre .1 .0, c .before .before .before .before .before .before .before .before .before .before .before .before .before .pre .1 .1 .0)))
+
+slice-write-first-columns : tie.Need-slice-write-first-columns Inv-loop μ-loop
+slice-write-first-columns c = one-room _ _ _ _ _ _ (c .before .before .before .before .before .before .before .loop .inv .2) _ _ (kind-head 16 (c .before .before .before .before .before .before .before .before .before .before .before .before .before .args .bytes .now) (c .before .before .before .before .before .before .before .loop .s .now) (c .before .before .before .before .before .before .before .loop .inv .0) (c .before .before .before .before .before .before .next-of .result) (c .before .before .before .before .before .before .next-of .ensures) _ _ (c .before .before .before .before .found .given .1)) (omega (arith, c .before .before .before .before .before .before .before .before .before .before .before .before .before .pre .1 .0, c .before .before .before .before .before .before .before .before .before .before .before .before .before .pre .1 .1 .0))
+
+mul-last-rows : tie.Need-mul-last-rows Inv-loop μ-loop
+mul-last-rows c = omega (arith, one-room _ _ _ _ _ _ (c .before .before .before .before .before .before .before .loop .inv .3) _ _ (kind-head 16 (c .before .before .before .before .before .before .before .before .before .before .before .before .before .args .bytes .now) (c .before .before .before .before .before .before .before .loop .s .now) (c .before .before .before .before .before .before .before .loop .inv .0) (c .before .before .before .before .before .before .next-of .result) (c .before .before .before .before .before .before .next-of .ensures) _ _ (c .before .before .before .before .found .given .1)) (omega (arith, c .before .before .before .before .before .before .before .before .before .before .before .before .before .pre .1 .0, c .before .before .before .before .before .before .before .before .before .before .before .before .before .pre .1 .1 .1 .0)))
+
+slice-write-last-rows : tie.Need-slice-write-last-rows Inv-loop μ-loop
+slice-write-last-rows c = one-room _ _ _ _ _ _ (c .before .before .before .before .before .before .before .loop .inv .3) _ _ (kind-head 16 (c .before .before .before .before .before .before .before .before .before .before .before .before .before .args .bytes .now) (c .before .before .before .before .before .before .before .loop .s .now) (c .before .before .before .before .before .before .before .loop .inv .0) (c .before .before .before .before .before .before .next-of .result) (c .before .before .before .before .before .before .next-of .ensures) _ _ (c .before .before .before .before .found .given .1)) (omega (arith, c .before .before .before .before .before .before .before .before .before .before .before .before .before .pre .1 .0, c .before .before .before .before .before .before .before .before .before .before .before .before .before .pre .1 .1 .1 .0))
+
+cast-last-columns : tie.Need-cast-last-columns Inv-loop μ-loop
+cast-last-columns c = search needs
+
+mul-last-columns : tie.Need-mul-last-columns Inv-loop μ-loop
+mul-last-columns c = omega (arith, one-room _ _ _ _ _ _ (c .before .before .before .before .before .before .before .before .loop .inv .4) _ _ (kind-head 16 (c .before .before .before .before .before .before .before .before .before .before .before .before .before .before .args .bytes .now) (c .before .before .before .before .before .before .before .before .loop .s .now) (c .before .before .before .before .before .before .before .before .loop .inv .0) (c .before .before .before .before .before .before .before .next-of .result) (c .before .before .before .before .before .before .before .next-of .ensures) _ _ (c .before .before .before .before .before .found .given .1)) (omega (arith, c .before .before .before .before .before .before .before .before .before .before .before .before .before .before .pre .1 .0, c .before .before .before .before .before .before .before .before .before .before .before .before .before .before .pre .1 .1 .1 .1)))
+
+slice-write-last-columns : tie.Need-slice-write-last-columns Inv-loop μ-loop
+slice-write-last-columns c = one-room _ _ _ _ _ _ (c .before .before .before .before .before .before .before .before .loop .inv .4) _ _ (kind-head 16 (c .before .before .before .before .before .before .before .before .before .before .before .before .before .before .args .bytes .now) (c .before .before .before .before .before .before .before .before .loop .s .now) (c .before .before .before .before .before .before .before .before .loop .inv .0) (c .before .before .before .before .before .before .before .next-of .result) (c .before .before .before .before .before .before .before .next-of .ensures) _ _ (c .before .before .before .before .before .found .given .1)) (omega (arith, c .before .before .before .before .before .before .before .before .before .before .before .before .before .before .pre .1 .0, c .before .before .before .before .before .before .before .before .before .before .before .before .before .before .pre .1 .1 .1 .1))
+
+add-k : tie.Need-add-k Inv-loop μ-loop
+add-k c = omega (arith, one-room _ _ _ _ _ _ (c .before .before .before .before .before .before .before .before .loop .inv .1) _ _ (kind-head 16 (c .before .before .before .before .before .before .before .before .before .before .before .before .before .before .args .bytes .now) (c .before .before .before .before .before .before .before .before .loop .s .now) (c .before .before .before .before .before .before .before .before .loop .inv .0) (c .before .before .before .before .before .before .before .next-of .result) (c .before .before .before .before .before .before .before .next-of .ensures) _ _ (c .before .before .before .before .before .found .given .1)) (c .before .before .before .before .before .before .before .before .before .before .before .before .before .before .pre .1 .0))
+
+loop-less : tie.Need-loop-less Inv-loop μ-loop
+loop-less c = omega (arith, kind-used 16 (c .before .before .before .before .before .before .before .before .before .before .before .before .before .before .args .bytes .now) (c .before .before .before .before .before .before .before .before .loop .s .now) (c .before .before .before .before .before .before .before .before .loop .inv .0) (c .before .before .before .before .before .before .before .next-of .result) (c .before .before .before .before .before .before .before .next-of .ensures) _ _ (c .before .before .before .before .before .found .given .1), length-part (c .before .before .before .before .before .found .given .0 .1 .0) (c .before .before .before .before .before .before .before .before .loop .s .now))
+
+loop-again : tie.Need-loop-again Inv-loop μ-loop
+loop-again c =
+    let a = c .before .before .before .before .before .before .before .before .before .before .before .before .before .before .args in (
+      kind-on 16 (a .bytes .now) (c .before .before .before .before .before .before .before .before .loop .s .now) (c .before .before .before .before .before .before .before .before .loop .inv .0) (c .before .before .before .before .before .before .before .next-of .result) (c .before .before .before .before .before .before .before .next-of .ensures) _ _ (c .before .before .before .before .before .found .given .1),
+      one-store _ _ _ _ _ _ (c .before .before .before .before .before .before .before .before .loop .inv .1) _ _ (c .before .before .cells-of .result .«first_row») (kind-head 16 (a .bytes .now) (c .before .before .before .before .before .before .before .before .loop .s .now) (c .before .before .before .before .before .before .before .before .loop .inv .0) (c .before .before .before .before .before .before .before .next-of .result) (c .before .before .before .before .before .before .before .next-of .ensures) _ _ (c .before .before .before .before .before .found .given .1)) (c .before .before .before .before .before .before .before .before .before .before .before .before .before .before .pre .1 .0) (ap (λ (m : Range). m .«first_row») (c .before .before .cells-of .ensures)),
+      one-store _ _ _ _ _ _ (c .before .before .before .before .before .before .before .before .loop .inv .2) _ _ (c .before .before .cells-of .result .«first_column») (kind-head 16 (a .bytes .now) (c .before .before .before .before .before .before .before .before .loop .s .now) (c .before .before .before .before .before .before .before .before .loop .inv .0) (c .before .before .before .before .before .before .before .next-of .result) (c .before .before .before .before .before .before .before .next-of .ensures) _ _ (c .before .before .before .before .before .found .given .1)) (omega (arith, c .before .before .before .before .before .before .before .before .before .before .before .before .before .before .pre .1 .0, c .before .before .before .before .before .before .before .before .before .before .before .before .before .before .pre .1 .1 .0)) (ap (λ (m : Range). m .«first_column») (c .before .before .cells-of .ensures)),
+      one-store _ _ _ _ _ _ (c .before .before .before .before .before .before .before .before .loop .inv .3) _ _ (c .before .before .cells-of .result .«last_row») (kind-head 16 (a .bytes .now) (c .before .before .before .before .before .before .before .before .loop .s .now) (c .before .before .before .before .before .before .before .before .loop .inv .0) (c .before .before .before .before .before .before .before .next-of .result) (c .before .before .before .before .before .before .before .next-of .ensures) _ _ (c .before .before .before .before .before .found .given .1)) (omega (arith, c .before .before .before .before .before .before .before .before .before .before .before .before .before .before .pre .1 .0, c .before .before .before .before .before .before .before .before .before .before .before .before .before .before .pre .1 .1 .1 .0)) (ap (λ (m : Range). m .«last_row») (c .before .before .cells-of .ensures)),
+      one-store _ _ _ _ _ _ (c .before .before .before .before .before .before .before .before .loop .inv .4) _ _ (c .before .before .cells-of .result .«last_column») (kind-head 16 (a .bytes .now) (c .before .before .before .before .before .before .before .before .loop .s .now) (c .before .before .before .before .before .before .before .before .loop .inv .0) (c .before .before .before .before .before .before .before .next-of .result) (c .before .before .before .before .before .before .before .next-of .ensures) _ _ (c .before .before .before .before .before .found .given .1)) (omega (arith, c .before .before .before .before .before .before .before .before .before .before .before .before .before .before .pre .1 .0, c .before .before .before .before .before .before .before .before .before .before .before .before .before .before .pre .1 .1 .1 .1)) (ap (λ (m : Range). m .«last_column») (c .before .before .cells-of .ensures)),
+    )
+
+pub write-merges-spec : {M : Type 1} → statement M
+write-merges-spec =
+    tie.close
+    (tie.spec
+    Inv-loop
+    μ-loop
+    loop-holds
+    next-of-requires
+    enum-known-found
+    enum-told
+    sub-result
+    same-length
+    same-length-2
+    same-length-3
+    same-length-4
+    returns
+    sub-s
+    part-s-start
+    part-s-end
+    cells-of-requires
+    mul-first-rows
+    slice-write-first-rows
+    cast-first-columns
+    mul-first-columns
+    slice-write-first-columns
+    mul-last-rows
+    slice-write-last-rows
+    cast-last-columns
+    mul-last-columns
+    slice-write-last-columns
+    add-k
+    loop-less
+    loop-again)

@@ -1,0 +1,25 @@
+use mathlib.Core.Path.{_≡_, refl, sym, ap, _∙_}
+use Rattle.records.specs.Records.{records}
+use Rattle.reader.specs.Settings.{isThere}
+use Rattle.reader.proofs.WalkLaws.{from-none, from-one}
+use borrow.Author.Needs.{needs}
+use Rattle.reader.proofs.settings.is_there.Statement.{statement}
+use Rattle.reader.proofs.settings.is_there.Tie as tie
+
+find-record-requires : tie.Need-find-record-requires
+find-record-requires c κs = c .before .pre
+
+enum-told : tie.Need-enum-told
+enum-told c = search needs
+
+enum-told-2 : tie.Need-enum-told-2
+enum-told-2 c = search needs
+
+returns : tie.Need-returns
+returns c = from-none (c .before .before .before .before .args .wanted) (records (c .before .before .before .before .args .bytes .now)) (c .before .before .find-record .result) (c .before .before .find-record .ensures) isThere _ (c .enum-told2 .given .1) refl
+
+returns-2 : tie.Need-returns-2
+returns-2 c = from-one (c .before .before .before .before .args .wanted) (records (c .before .before .before .before .args .bytes .now)) (c .before .before .find-record .result) (c .before .before .find-record .ensures) isThere _ _ _ (c .enum-told .given .1) refl (λ t. refl)
+
+pub is-there-spec : {M : Type 1} → statement M
+is-there-spec = tie.close (tie.spec find-record-requires enum-told enum-told-2 returns returns-2)

@@ -1,0 +1,120 @@
+-- Document 01, section "Jobs": the settings of a job, each with whether its record is there, and what is meant where it is not.
+-- Assumes nothing.
+use Prim.Native.Nat.{ℕ}
+use mathlib.Core.Bool.{Bool, true, false, _||_}
+use mathlib.Core.List.{List, [], _∷_}
+use lib.Dec.{eqb}
+use Rattle.geometry.specs.declared.paper.Setting.{Setting}
+use Rattle.geometry.specs.declared.paper.Setting.the-variants as number
+use Rattle.geometry.specs.declared.paper.Margins.{Margins}
+use Rattle.geometry.specs.declared.paper.MarginSetting.{MarginSetting}
+use Rattle.geometry.specs.declared.paper.MarginSetting.the-variants as inches
+use Rattle.rules.specs.declared.titles.Title.{Title}
+use Rattle.rules.specs.declared.titles.Title.the-variants as title
+use Rattle.records.specs.Numbers.{f64Of}
+use Rattle.records.specs.Records.{PC, LA, MG, SC, FW, FH, FT, OD, HD, LP, AR, TR, TC, field, marked}
+use Rattle.records.specs.declared.records.Range.{Range}
+use Rattle.records.specs.declared.records.MarginBits.{MarginBits}
+use Rattle.records.specs.declared.records.Record.{Record}
+use Rattle.reader.specs.declared.settings.MarginsRead.{MarginsRead}
+use Rattle.reader.specs.declared.settings.MarginsRead.the-variants as margins
+use Rattle.reader.specs.declared.settings.FlagSetting.{FlagSetting}
+use Rattle.reader.specs.declared.settings.FlagSetting.the-variants as flag
+use Rattle.reader.specs.declared.settings.LimitSetting.{LimitSetting}
+use Rattle.reader.specs.declared.settings.LimitSetting.the-variants as limit
+use Rattle.reader.specs.declared.settings.JobSettings.{JobSettings}
+
+-- ---- a setting, from the records with its mark: "Only RW, CL, MR, BR and BC repeat", so there is one at most
+
+-- "PC paper u16", "SC percent u16", "FW, FH targets u16"
+abbrev pub numberFrom : List Record → Setting
+numberFrom [] = number.Absent
+numberFrom (r ∷ rs) = number.Given (field 0 r)
+
+-- "LA landscape", "HD headings": a record that "has no body" is there or not
+abbrev pub isThere : List Record → Bool
+isThere [] = false
+isThere (r ∷ rs) = true
+
+-- "MG six f64": "left, right, top, bottom, header, footer"
+abbrev pub marginsFrom : List Record → MarginsRead
+marginsFrom [] = margins.Absent
+marginsFrom (r ∷ rs) =
+    margins.Given (record { left = field 0 r; right = field 1 r; top = field 2 r; bottom = field 3 r; header = field 4 r; footer = field 5 r })
+
+-- "FT fit u8", "OD u8"
+abbrev pub flagFrom : List Record → FlagSetting
+flagFrom [] = flag.Absent
+flagFrom (r ∷ rs) = flag.Given (field 0 r)
+
+-- "LP page limit u64"
+abbrev pub limitFrom : List Record → LimitSetting
+limitFrom [] = limit.Absent
+limitFrom (r ∷ rs) = limit.Given (field 0 r)
+
+-- what stands for a range that is not there: question 4 finds it there
+abbrev pub nowhere : Range
+nowhere = record { «first_row» = 0; «first_column» = 0; «last_row» = 0; «last_column» = 0 }
+
+-- "AR range u32, u16, u32, u16 as first row, first column, last row, last column"
+abbrev pub rangeFrom : List Record → Range
+rangeFrom [] = nowhere
+rangeFrom (r ∷ rs) = record { «first_row» = field 0 r; «first_column» = field 1 r; «last_row» = field 2 r; «last_column» = field 3 r }
+
+-- "A title is absent or a pair first, last.": "TR two u32; TC two u16"
+abbrev pub titleFrom : List Record → Title
+titleFrom [] = title.Absent
+titleFrom (r ∷ rs) = title.Pair (field 0 r) (field 1 r)
+
+abbrev pub settingsOf : List Record → JobSettings
+settingsOf rs = record {
+  paper = numberFrom (marked PC rs);
+  landscape = isThere (marked LA rs);
+  margins = marginsFrom (marked MG rs);
+  percent = numberFrom (marked SC rs);
+  «fit_width» = numberFrom (marked FW rs);
+  «fit_height» = numberFrom (marked FH rs);
+  fit = flagFrom (marked FT rs);
+  order = flagFrom (marked OD rs);
+  headings = isThere (marked HD rs);
+  «page_limit» = limitFrom (marked LP rs);
+  range = rangeFrom (marked AR rs);
+  «row_title» = titleFrom (marked TR rs);
+  «column_title» = titleFrom (marked TC rs);
+}
+
+-- ---- what is meant
+
+abbrev pub isGiven : Setting → Bool
+isGiven number.Absent = false
+isGiven (number.Given x) = true
+
+-- "FT fit u8 (absent: on if FW or FH is present)"
+abbrev pub fitOn : FlagSetting → Setting → Setting → Bool
+fitOn flag.Absent width height = isGiven width || isGiven height
+fitOn (flag.Given x) width height = eqb x 1
+
+-- "OD u8, 1 for over then down"
+abbrev pub overThenDown : FlagSetting → Bool
+overThenDown flag.Absent = false
+overThenDown (flag.Given x) = eqb x 1
+
+-- "LP page limit u64 (absent 10,000)"
+abbrev pub limitOf : LimitSetting → ℕ
+limitOf limit.Absent = 10000
+limitOf (limit.Given x) = x
+
+-- "Six margins travel together: left, right, top, bottom, header, footer, in inches."
+abbrev pub inchesOf : MarginBits → Margins
+inchesOf m = record {
+  left = f64Of (m .left);
+  right = f64Of (m .right);
+  top = f64Of (m .top);
+  bottom = f64Of (m .bottom);
+  header = f64Of (m .header);
+  footer = f64Of (m .footer);
+}
+
+abbrev pub marginSetting : MarginsRead → MarginSetting
+marginSetting margins.Absent = inches.Absent
+marginSetting (margins.Given m) = inches.Given (inchesOf m)

@@ -1,0 +1,4 @@
+-- Laws that belong to no one function.
+pub mod NumberLaws
+pub mod RecordLaws
+pub mod PassLaws

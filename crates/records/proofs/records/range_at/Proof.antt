@@ -1,0 +1,23 @@
+use borrow.Author.Needs.{needs}
+use Rattle.records.proofs.records.range_at.Statement.{statement}
+use Rattle.records.proofs.records.range_at.Tie as tie
+
+u32-at-requires : tie.Need-u32-at-requires
+u32-at-requires c κs = search needs
+
+u16-at-requires : tie.Need-u16-at-requires
+u16-at-requires c κs = search needs
+
+u32-at-requires-2 : tie.Need-u32-at-requires-2
+u32-at-requires-2 c κs = search needs
+
+u16-at-requires-2 : tie.Need-u16-at-requires-2
+u16-at-requires-2 c κs = search needs
+
+returns : tie.Need-returns
+returns c = rw (c .u16-at2 .ensures, c .before .u32-at2 .ensures, c .before .before .u16-at .ensures, c .before .before .before .u32-at .ensures)
+
+pub range-at-spec : {M : Type 1} → statement M
+range-at-spec =
+    tie.close
+    (tie.spec u32-at-requires u16-at-requires u32-at-requires-2 u16-at-requires-2 returns)
