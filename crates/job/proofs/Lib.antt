@@ -1,8 +1,4 @@
 -- Laws that belong to no one function.
-pub mod NumberLaws
-pub mod RecordLaws
-pub mod PassLaws
-pub mod WalkLaws
-pub mod SizeLaws
-pub mod Lent
-pub mod ReadingLaws
+pub mod JobLaws
+pub mod Refusals
+pub mod Agreement

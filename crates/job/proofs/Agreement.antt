@@ -1,0 +1,104 @@
+-- "The reader and the plan agree": the plan of a job's bytes is the planner's plan of what was read. Assumes nothing.
+use mathlib.Core.Path.{_≡_, refl, sym, ap, ap₂, _∙_}
+use mathlib.Core.Bool.{Bool, true, false, true≢false, _&&_}
+use mathlib.Core.List.{List}
+use Prim.Native.Nat.{ℕ}
+use lib.ListN.{take}
+use Rattle.geometry.specs.Outcome.{Outcome, given, refused, andThen}
+use Rattle.rules.specs.declared.plan.Settings.{Settings}
+use Rattle.rules.specs.Questions.{ask, equallyLong}
+use Rattle.rules.specs.Pages.{RunLists, evenLists}
+use Rattle.rules.specs.Plan.{AxisInput, Layout, formed, planned}
+use Rattle.rules.proofs.QuestionLaws.{both}
+use Rattle.rules.proofs.PlanLaws.{formed-of}
+use Rattle.records.specs.declared.questions.Items.{Items}
+use Rattle.reader.specs.declared.lists.Job.{Job}
+use Rattle.reader.specs.declared.lists.Reading.the-variants.{Value}
+use Rattle.records.specs.Records.{RW, CL, MR, BR, BC, records}
+use Rattle.records.specs.Verdict.{questions, question6, inOrder, itemsOf, verdictLent}
+use Rattle.reader.specs.Reading.{Lists, evenLists as itemsEven, roomIn, asked, jobOf, readJob, JobRead}
+use Rattle.records.proofs.PassLaws.{All}
+use Rattle.reader.proofs.ReadingLaws.{in-order-given, all-given}
+use Rattle.reader.proofs.ItemRoom.{all-in-order}
+use Rattle.job.specs.Plan.{settingsFor, rowsRead, columnsRead, jobSettings, jobRows, jobColumns, planJob}
+use Rattle.job.proofs.JobLaws.{Front, front, settings-for, rows-for, columns-for}
+
+-- run lists that are not equally long are refused with 6, by the questions of a job
+uneven-job : (s : List ℕ) → All (questions true s) → verdictLent false s ≡ refused 6
+unfolding verdictLent
+uneven-job s a = rw (a .0, a .1 .0, a .1 .1 .0, a .1 .1 .1 .0, a .1 .1 .1 .1 .0)
+
+-- and by those of the planner
+refused-six : (q : Bool) (rest : Outcome Layout) → (q ≡ true → ⊥) → ask 6 q rest ≡ refused 6
+refused-six true rest h = absurd (h refl)
+refused-six false rest h = refl
+
+uneven-plan : (set : Settings) (a b : AxisInput) (rows columns : RunLists) → evenLists rows && evenLists columns ≡ false → planned set a b rows columns ≡ refused 6
+unfolding planned
+uneven-plan set a b rows columns e =
+    refused-six (formed a (evenLists rows) && formed b (evenLists columns) && equallyLong (a .merge-firsts) (b .merge-firsts)) _
+    (λ t.
+    let six = both (formed a (evenLists rows) && formed b (evenLists columns)) (equallyLong (a .merge-firsts) (b .merge-firsts)) t in
+    let each = both (formed a (evenLists rows)) (formed b (evenLists columns)) (six .0) in
+    let x = formed-of a (evenLists rows) (each .0) .lent-even in
+    let y = formed-of b (evenLists columns) (each .1) .lent-even in
+    true≢false (sym (ap₂ _&&_ x y) ∙ e))
+
+module _ (s : List ℕ) (rows columns : RunLists) (yes : All (questions true s)) where
+  abbrev read-plan : Outcome Layout
+  read-plan = planned (jobSettings s) (jobRows s) (jobColumns s) rows columns
+
+  questioned : verdictLent true s ≡ given (itemsOf (records s))
+  unfolding verdictLent
+  questioned = all-in-order (itemsOf (records s)) 1 (questions true s) yes
+
+  either-way : (even : Bool) → evenLists rows && evenLists columns ≡ even → andThen (verdictLent even s) (λ (items : Items). read-plan) ≡ read-plan
+  either-way true e = ap (λ (o : Outcome Items). andThen o (λ (items : Items). read-plan)) questioned
+  either-way false e =
+      ap (λ (o : Outcome Items). andThen o (λ (items : Items). read-plan)) (uneven-job s yes)
+      ∙ sym (uneven-plan (jobSettings s) (jobRows s) (jobColumns s) rows columns e)
+
+  -- a job whose questions 1 to 9 are answered yes, but for the run lists
+  plan-read : planJob s rows columns ≡ read-plan
+  unfolding planJob
+  plan-read = either-way (evenLists rows && evenLists columns) refl
+
+same-plan : (rows columns : RunLists) {s t : Settings} {a c b d : AxisInput} → s ≡ t → a ≡ c → b ≡ d → planned s a b rows columns ≡ planned t c d rows columns
+same-plan rows columns e f g = rw (e, f, g)
+
+-- what `read_job` read, planned, is what `plan_job` plans
+module _ (s : List ℕ) (before after : Lists) (j : Job) (rows columns : RunLists) (w : JobRead s (Value j) before after) where
+  given-is : given j ≡ inOrder 1 (asked (itemsEven before) (roomIn before) s) (jobOf (records s))
+  unfolding readJob
+  given-is = w .answer
+
+  job-is : j ≡ jobOf (records s)
+  job-is = in-order-given (jobOf (records s)) (jobOf (records s)) 1 (asked (itemsEven before) (roomIn before) s) j given-is .0
+
+  answered : All (questions true s)
+  answered =
+      let a = all-given (jobOf (records s)) 1 (asked (itemsEven before) (roomIn before) s) j given-is in
+      let six = both (itemsEven before) (question6 true s) (a .1 .1 .1 .1 .1 .0) .1 in
+      (a .0, (a .1 .0, (a .1 .1 .0, (a .1 .1 .1 .0, (a .1 .1 .1 .1 .0, (six, (a .1 .1 .1 .1 .1 .1 .0, (a .1 .1 .1 .1 .1 .1 .1 .0, (a .1 .1 .1 .1 .1 .1 .1 .1 .0, tt)))))))))
+
+  pub plan-agrees : planJob s rows columns
+      ≡ planned (settingsFor (j .settings))
+      (rowsRead (j .settings) (take (j .items .rows) (after .row-indexes)) (take (j .items .rows) (after .row-sizes))
+      (take (j .items .merges) (after .merge-first-rows)) (take (j .items .merges) (after .merge-last-rows)) (take (j .items .«row_breaks») (after .row-breaks)))
+      (columnsRead (j .settings) (take (j .items .columns) (after .column-indexes)) (take (j .items .columns) (after .column-sizes))
+      (take (j .items .merges) (after .merge-first-columns)) (take (j .items .merges) (after .merge-last-columns)) (take (j .items .«column_breaks») (after .column-breaks)))
+      rows columns
+  plan-agrees =
+      let q : readJob s before ≡ given j = sym (w .answer) in
+      let f = front s (readJob s before) j q in
+      let e = ap (λ (x : Job). x .settings) job-is in
+      let n = ap (λ (x : Job). x .items .rows) job-is in
+      let c = ap (λ (x : Job). x .items .columns) job-is in
+      let m = ap (λ (x : Job). x .items .merges) job-is in
+      let a = rows-for s (j .settings) e (f RW 0 _ _ _ n (w .row-indexes-are) .is) (f RW 1 _ _ _ n (w .row-sizes-are) .is)
+      (f MR 0 _ _ _ m (w .merge-first-rows-are) .is) (f MR 2 _ _ _ m (w .merge-last-rows-are) .is)
+      (f BR 0 _ _ _ (ap (λ (x : Job). x .items .«row_breaks») job-is) (w .row-breaks-are) .is) in
+      let b = columns-for s (j .settings) e (f CL 0 _ _ _ c (w .column-indexes-are) .is) (f CL 1 _ _ _ c (w .column-sizes-are) .is)
+      (f MR 1 _ _ _ m (w .merge-first-columns-are) .is) (f MR 3 _ _ _ m (w .merge-last-columns-are) .is)
+      (f BC 0 _ _ _ (ap (λ (x : Job). x .items .«column_breaks») job-is) (w .column-breaks-are) .is) in
+      plan-read s rows columns answered ∙ sym (same-plan rows columns (settings-for s (j .settings) e) a b)

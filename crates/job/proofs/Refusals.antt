@@ -1,0 +1,59 @@
+-- What the plan of a job never meets: 10, and, with run lists of 5,000 entries an axis, 11 and 13. Assumes nothing.
+use mathlib.Core.Path.{_≡_, refl, sym, ap, _∙_}
+use mathlib.Core.Bool.{Bool, true, false, _&&_}
+use mathlib.Core.List.{List}
+use Prim.Native.Nat.{ℕ, _≤_, _<_}
+use native.Mathlib.Omega.{arith}
+use lib.Dec.{leb}
+use lib.ListN.{length, length-map}
+use Rattle.geometry.specs.Outcome.{Outcome, given, refused, andThen}
+use Rattle.rules.specs.Questions.{ask}
+use Rattle.rules.specs.Pages.{RunLists, evenLists}
+use Rattle.rules.specs.Plan.{Layout, planned, roomFor, layout}
+use Rattle.rules.proofs.NoTen.{never-ten, past-nine, asked, not-given}
+use Rattle.rules.proofs.RunCount.{never-eleven}
+use Rattle.records.specs.declared.questions.Items.{Items}
+use Rattle.records.specs.Records.{RW, CL, field, records, marked}
+use Rattle.records.specs.Verdict.{verdictLent, questions, itemsOf}
+use Rattle.reader.proofs.ItemRoom.{verdict-even, few-rows, few-columns, verdict-low}
+use Rattle.job.specs.Plan.{jobSettings, jobRows, jobColumns, planJob}
+
+-- a job that is refused with a number past 9 was questioned with yes, and its plan was refused
+module _ (s : List ℕ) (rows columns : RunLists) (k : ℕ) (h : 9 < k) (e : planJob s rows columns ≡ refused k) where
+  pub in-plan : (items : Items) × (verdictLent true s ≡ given items) × (planned (jobSettings s) (jobRows s) (jobColumns s) rows columns ≡ refused k)
+  unfolding planJob
+  in-plan = go (verdictLent (evenLists rows && evenLists columns) s) refl e
+    where
+      go : (o : Outcome Items) → verdictLent (evenLists rows && evenLists columns) s ≡ o
+          → andThen o (λ (items : Items). planned (jobSettings s) (jobRows s) (jobColumns s) rows columns) ≡ refused k
+          → (items : Items) × (verdictLent true s ≡ given items) × (planned (jobSettings s) (jobRows s) (jobColumns s) rows columns ≡ refused k)
+      go (given items) i j = (items, verdict-even (evenLists rows && evenLists columns) s items i, j)
+      go (refused n) i j =
+          let low = verdict-low (evenLists rows && evenLists columns) s n i in
+          let same : n ≡ k = cc in
+          absurd (omega (arith, low, h, same))
+
+-- "10. Arithmetic above within i64?" is never answered no
+pub job-never-ten : (s : List ℕ) (rows columns : RunLists) → planJob s rows columns ≡ refused 10 → ⊥
+job-never-ten s rows columns e = never-ten (jobSettings s) (jobRows s) (jobColumns s) rows columns (in-plan s rows columns 10 (omega arith) e .2)
+
+-- "Its run lists hold 5,000 entries an axis .. so it meets neither 11 nor 13"
+pub job-never-eleven : (s : List ℕ) (rows columns : RunLists) → 5000 ≤ length (rows .firsts) → 5000 ≤ length (columns .firsts) → planJob s rows columns ≡ refused 11 → ⊥
+job-never-eleven s rows columns hr hc e =
+    let (items, v, i) = in-plan s rows columns 11 (omega arith) e in
+    let r = few-rows s items v in
+    let c = few-columns s items v in
+    let lr = length-map (marked RW (records s)) (field 0) in
+    let lc = length-map (marked CL (records s)) (field 0) in
+    never-eleven (jobSettings s) (jobRows s) (jobColumns s) rows columns (omega (arith, r, lr, hr)) (omega (arith, hr)) (omega (arith, c, lc, hc)) (omega (arith, hc)) i
+
+-- pages are taken by number, and no plan asks 13
+pub job-never-thirteen : (s : List ℕ) (rows columns : RunLists) → planJob s rows columns ≡ refused 13 → ⊥
+unfolding roomFor
+job-never-thirteen s rows columns e =
+    let w = past-nine (jobSettings s) (jobRows s) (jobColumns s) rows columns 13 (omega arith) (in-plan s rows columns 13 (omega arith) e .2) in
+    let l = layout (jobSettings s) (w .sides) (jobRows s) (jobColumns s) in
+    let fits = leb (length (l .rows)) (length (rows .firsts)) && leb (length (l .columns)) (length (columns .firsts)) in
+    let few = leb (l .plan .pages) (jobSettings s .«page_limit») in
+    let eleven = asked 11 13 fits (ask 12 few (given l)) (λ i. omega arith) (w .room) in
+    not-given l 13 (asked 12 13 few (given l) (λ i. omega arith) (eleven .1) .1)

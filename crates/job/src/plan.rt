@@ -1,0 +1,256 @@
+// The plan of a job's bytes: document 01, sections "Jobs" and "Questions in order".
+use planner::plan_pages;
+use questions::lists_even;
+use reader::FlagSetting;
+use reader::JobSettings;
+use reader::Reading;
+use reader::fit_on;
+use reader::margin_setting;
+use reader::over_then_down;
+use reader::page_limit;
+use reader::read_job;
+use records::Checked;
+use records::Items;
+use records::Range;
+use records::check_job_lent;
+use rules::PageOrder;
+use rules::Planning;
+use rules::PrintRange;
+use rules::Settings;
+ghost use mathlib.Core.Path.{_≡_};
+ghost use mathlib.Core.Bool.{true};
+ghost use Rattle.geometry.specs.Outcome.{given};
+ghost use Rattle.rules.specs.Pages as pages;
+ghost use Rattle.rules.specs.Plan as call;
+ghost use Rattle.rules.specs.Demand.{CoversPairs, FewestPlan, LargestPlan};
+ghost use Rattle.records.specs.Verdict.{verdictLent};
+ghost use Rattle.job.specs.Plan as section;
+
+// The most items that 60,000 bytes can bring, kind by kind.
+const ROWS: usize = 4285;
+
+const COLUMNS: usize = 5000;
+
+const MERGES: usize = 4285;
+
+const ROW_BREAKS: usize = 10_000;
+
+const COLUMN_BREAKS: usize = 15_000;
+
+fn order_for(order: FlagSetting) -> PageOrder
+    ensures { λ r. ⌜ r ≡ section.orderFor order ⌝ }
+{
+    if over_then_down(order) {
+        PageOrder::OverThenDown
+    } else {
+        PageOrder::DownThenOver
+    }
+}
+
+fn settings_for(read: JobSettings) -> Settings
+    ensures { λ r. ⌜ r ≡ section.settingsFor read ⌝ }
+{
+    let paper = read.paper;
+    let margins = read.margins;
+    let percent = read.percent;
+    let fit = read.fit;
+    let fit_width = read.fit_width;
+    let fit_height = read.fit_height;
+    let order = read.order;
+    let limit = read.page_limit;
+    Settings {
+        paper,
+        landscape: read.landscape,
+        margins: margin_setting(margins),
+        percent,
+        fit: fit_on(fit, fit_width, fit_height),
+        fit_width,
+        fit_height,
+        order: order_for(order),
+        headings: read.headings,
+        page_limit: page_limit(limit),
+    }
+}
+
+fn range_for(cells: Range) -> PrintRange
+    ensures { λ r. ⌜ r ≡ section.rangeFor cells ⌝ }
+{
+    PrintRange {
+        first_row: cells.first_row,
+        first_column: cells.first_column as u32,
+        last_row: cells.last_row,
+        last_column: cells.last_column as u32,
+    }
+}
+
+// Plans what was read.
+fn plan_read(
+    settings: JobSettings,
+    row_indexes: &[u32],
+    row_sizes: &[u64],
+    column_indexes: &[u32],
+    column_sizes: &[u64],
+    merge_first_rows: &[u32],
+    merge_first_columns: &[u32],
+    merge_last_rows: &[u32],
+    merge_last_columns: &[u32],
+    row_breaks: &[u32],
+    column_breaks: &[u32],
+    row_run_firsts: &mut [u32],
+    row_run_lasts: &mut [u32],
+    row_run_sizes: &mut [u64],
+    row_run_marks: &mut [u8],
+    column_run_firsts: &mut [u32],
+    column_run_lasts: &mut [u32],
+    column_run_sizes: &mut [u64],
+    column_run_marks: &mut [u8],
+) -> Planning
+    ensures planned { λ r. ⌜ call.Planned (call.planned (section.settingsFor settings) (section.rowsRead settings (now («row_indexes» .entry)) (now («row_sizes» .entry)) (now («merge_first_rows» .entry)) (now («merge_last_rows» .entry)) (now («row_breaks» .entry))) (section.columnsRead settings (now («column_indexes» .entry)) (now («column_sizes» .entry)) (now («merge_first_columns» .entry)) (now («merge_last_columns» .entry)) (now («column_breaks» .entry))) (pages.runLists (now («row_run_firsts» .entry)) (now («row_run_lasts» .entry)) (now («row_run_sizes» .entry)) (now («row_run_marks» .entry))) (pages.runLists (now («column_run_firsts» .entry)) (now («column_run_lasts» .entry)) (now («column_run_sizes» .entry)) (now («column_run_marks» .entry)))) r (pages.runLists (now («row_run_firsts» .entry)) (now («row_run_lasts» .entry)) (now («row_run_sizes» .entry)) (now («row_run_marks» .entry))) (pages.runLists (now («column_run_firsts» .entry)) (now («column_run_lasts» .entry)) (now («column_run_sizes» .entry)) (now («column_run_marks» .entry))) (pages.runLists (now («row_run_firsts» .exit)) (now («row_run_lasts» .exit)) (now («row_run_sizes» .exit)) (now («row_run_marks» .exit))) (pages.runLists (now («column_run_firsts» .exit)) (now («column_run_lasts» .exit)) (now («column_run_sizes» .exit)) (now («column_run_marks» .exit))) ⌝ }
+    ensures covered { λ r. ⌜ CoversPairs r (section.rowsRead settings (now («row_indexes» .entry)) (now («row_sizes» .entry)) (now («merge_first_rows» .entry)) (now («merge_last_rows» .entry)) (now («row_breaks» .entry))) (section.columnsRead settings (now («column_indexes» .entry)) (now («column_sizes» .entry)) (now («merge_first_columns» .entry)) (now («merge_last_columns» .entry)) (now («column_breaks» .entry))) (pages.runLists (now («row_run_firsts» .exit)) (now («row_run_lasts» .exit)) (now («row_run_sizes» .exit)) (now («row_run_marks» .exit))) (pages.runLists (now («column_run_firsts» .exit)) (now («column_run_lasts» .exit)) (now («column_run_sizes» .exit)) (now («column_run_marks» .exit))) ⌝ }
+    ensures fewest { λ r. ⌜ FewestPlan r (section.settingsFor settings) (section.rowsRead settings (now («row_indexes» .entry)) (now («row_sizes» .entry)) (now («merge_first_rows» .entry)) (now («merge_last_rows» .entry)) (now («row_breaks» .entry))) (section.columnsRead settings (now («column_indexes» .entry)) (now («column_sizes» .entry)) (now («merge_first_columns» .entry)) (now («merge_last_columns» .entry)) (now («column_breaks» .entry))) (pages.runLists (now («row_run_firsts» .exit)) (now («row_run_lasts» .exit)) (now («row_run_sizes» .exit)) (now («row_run_marks» .exit))) (pages.runLists (now («column_run_firsts» .exit)) (now («column_run_lasts» .exit)) (now («column_run_sizes» .exit)) (now («column_run_marks» .exit))) ⌝ }
+    ensures largest { λ r. ⌜ LargestPlan r (section.settingsFor settings) (section.rowsRead settings (now («row_indexes» .entry)) (now («row_sizes» .entry)) (now («merge_first_rows» .entry)) (now («merge_last_rows» .entry)) (now («row_breaks» .entry))) (section.columnsRead settings (now («column_indexes» .entry)) (now («column_sizes» .entry)) (now («merge_first_columns» .entry)) (now («merge_last_columns» .entry)) (now («column_breaks» .entry))) ⌝ }
+{
+    let range = settings.range;
+    let row_title = settings.row_title;
+    let column_title = settings.column_title;
+    plan_pages(
+        settings_for(settings),
+        range_for(range),
+        row_title,
+        column_title,
+        row_indexes,
+        row_sizes,
+        column_indexes,
+        column_sizes,
+        merge_first_rows,
+        merge_first_columns,
+        merge_last_rows,
+        merge_last_columns,
+        row_breaks,
+        column_breaks,
+        row_run_firsts,
+        row_run_lasts,
+        row_run_sizes,
+        row_run_marks,
+        column_run_firsts,
+        column_run_lasts,
+        column_run_sizes,
+        column_run_marks,
+    )
+}
+
+// Reads and plans a job whose questions 1 to 9 were answered yes.
+fn plan_checked(
+    bytes: &[u8],
+    items: Items,
+    row_run_firsts: &mut [u32],
+    row_run_lasts: &mut [u32],
+    row_run_sizes: &mut [u64],
+    row_run_marks: &mut [u8],
+    column_run_firsts: &mut [u32],
+    column_run_lasts: &mut [u32],
+    column_run_sizes: &mut [u64],
+    column_run_marks: &mut [u8],
+) -> Planning
+    requires { ⌜ verdictLent true (now bytes) ≡ given items ⌝ }
+    ensures planned { λ r. ⌜ call.Planned (call.planned (section.jobSettings (now (bytes .entry))) (section.jobRows (now (bytes .entry))) (section.jobColumns (now (bytes .entry))) (pages.runLists (now («row_run_firsts» .entry)) (now («row_run_lasts» .entry)) (now («row_run_sizes» .entry)) (now («row_run_marks» .entry))) (pages.runLists (now («column_run_firsts» .entry)) (now («column_run_lasts» .entry)) (now («column_run_sizes» .entry)) (now («column_run_marks» .entry)))) r (pages.runLists (now («row_run_firsts» .entry)) (now («row_run_lasts» .entry)) (now («row_run_sizes» .entry)) (now («row_run_marks» .entry))) (pages.runLists (now («column_run_firsts» .entry)) (now («column_run_lasts» .entry)) (now («column_run_sizes» .entry)) (now («column_run_marks» .entry))) (pages.runLists (now («row_run_firsts» .exit)) (now («row_run_lasts» .exit)) (now («row_run_sizes» .exit)) (now («row_run_marks» .exit))) (pages.runLists (now («column_run_firsts» .exit)) (now («column_run_lasts» .exit)) (now («column_run_sizes» .exit)) (now («column_run_marks» .exit))) ⌝ }
+    ensures covered { λ r. ⌜ CoversPairs r (section.jobRows (now (bytes .entry))) (section.jobColumns (now (bytes .entry))) (pages.runLists (now («row_run_firsts» .exit)) (now («row_run_lasts» .exit)) (now («row_run_sizes» .exit)) (now («row_run_marks» .exit))) (pages.runLists (now («column_run_firsts» .exit)) (now («column_run_lasts» .exit)) (now («column_run_sizes» .exit)) (now («column_run_marks» .exit))) ⌝ }
+    ensures fewest { λ r. ⌜ FewestPlan r (section.jobSettings (now (bytes .entry))) (section.jobRows (now (bytes .entry))) (section.jobColumns (now (bytes .entry))) (pages.runLists (now («row_run_firsts» .exit)) (now («row_run_lasts» .exit)) (now («row_run_sizes» .exit)) (now («row_run_marks» .exit))) (pages.runLists (now («column_run_firsts» .exit)) (now («column_run_lasts» .exit)) (now («column_run_sizes» .exit)) (now («column_run_marks» .exit))) ⌝ }
+    ensures largest { λ r. ⌜ LargestPlan r (section.jobSettings (now (bytes .entry))) (section.jobRows (now (bytes .entry))) (section.jobColumns (now (bytes .entry))) ⌝ }
+{
+    let mut row_indexes = [0u32; ROWS];
+    let mut row_sizes = [0u64; ROWS];
+    let mut column_indexes = [0u32; COLUMNS];
+    let mut column_sizes = [0u64; COLUMNS];
+    let mut merge_first_rows = [0u32; MERGES];
+    let mut merge_first_columns = [0u32; MERGES];
+    let mut merge_last_rows = [0u32; MERGES];
+    let mut merge_last_columns = [0u32; MERGES];
+    let mut row_breaks = [0u32; ROW_BREAKS];
+    let mut column_breaks = [0u32; COLUMN_BREAKS];
+    let reading = read_job(
+        bytes,
+        &mut row_indexes,
+        &mut row_sizes,
+        &mut column_indexes,
+        &mut column_sizes,
+        &mut merge_first_rows,
+        &mut merge_first_columns,
+        &mut merge_last_rows,
+        &mut merge_last_columns,
+        &mut row_breaks,
+        &mut column_breaks,
+    );
+    let Reading::Value(job) = reading else {
+        return Planning::Refused(11);
+    };
+    let settings = job.settings;
+    let rows = items.rows;
+    let columns = items.columns;
+    let merges = items.merges;
+    let row_break_count = items.row_breaks;
+    let column_break_count = items.column_breaks;
+    plan_read(
+        settings,
+        &row_indexes[..rows],
+        &row_sizes[..rows],
+        &column_indexes[..columns],
+        &column_sizes[..columns],
+        &merge_first_rows[..merges],
+        &merge_first_columns[..merges],
+        &merge_last_rows[..merges],
+        &merge_last_columns[..merges],
+        &row_breaks[..row_break_count],
+        &column_breaks[..column_break_count],
+        row_run_firsts,
+        row_run_lasts,
+        row_run_sizes,
+        row_run_marks,
+        column_run_firsts,
+        column_run_lasts,
+        column_run_sizes,
+        column_run_marks,
+    )
+}
+
+// Plans the pages of a job: the scale, the runs of rows and columns, which go to the fronts of eight lent lists, and the notes.
+pub fn plan_job(
+    bytes: &[u8],
+    row_run_firsts: &mut [u32],
+    row_run_lasts: &mut [u32],
+    row_run_sizes: &mut [u64],
+    row_run_marks: &mut [u8],
+    column_run_firsts: &mut [u32],
+    column_run_lasts: &mut [u32],
+    column_run_sizes: &mut [u64],
+    column_run_marks: &mut [u8],
+) -> Planning
+    ensures planned { λ r. ⌜ call.Planned (section.planJob (now (bytes .entry)) (pages.runLists (now («row_run_firsts» .entry)) (now («row_run_lasts» .entry)) (now («row_run_sizes» .entry)) (now («row_run_marks» .entry))) (pages.runLists (now («column_run_firsts» .entry)) (now («column_run_lasts» .entry)) (now («column_run_sizes» .entry)) (now («column_run_marks» .entry)))) r (pages.runLists (now («row_run_firsts» .entry)) (now («row_run_lasts» .entry)) (now («row_run_sizes» .entry)) (now («row_run_marks» .entry))) (pages.runLists (now («column_run_firsts» .entry)) (now («column_run_lasts» .entry)) (now («column_run_sizes» .entry)) (now («column_run_marks» .entry))) (pages.runLists (now («row_run_firsts» .exit)) (now («row_run_lasts» .exit)) (now («row_run_sizes» .exit)) (now («row_run_marks» .exit))) (pages.runLists (now («column_run_firsts» .exit)) (now («column_run_lasts» .exit)) (now («column_run_sizes» .exit)) (now («column_run_marks» .exit))) ⌝ }
+    ensures covered { λ r. ⌜ CoversPairs r (section.jobRows (now (bytes .entry))) (section.jobColumns (now (bytes .entry))) (pages.runLists (now («row_run_firsts» .exit)) (now («row_run_lasts» .exit)) (now («row_run_sizes» .exit)) (now («row_run_marks» .exit))) (pages.runLists (now («column_run_firsts» .exit)) (now («column_run_lasts» .exit)) (now («column_run_sizes» .exit)) (now («column_run_marks» .exit))) ⌝ }
+    ensures fewest { λ r. ⌜ FewestPlan r (section.jobSettings (now (bytes .entry))) (section.jobRows (now (bytes .entry))) (section.jobColumns (now (bytes .entry))) (pages.runLists (now («row_run_firsts» .exit)) (now («row_run_lasts» .exit)) (now («row_run_sizes» .exit)) (now («row_run_marks» .exit))) (pages.runLists (now («column_run_firsts» .exit)) (now («column_run_lasts» .exit)) (now («column_run_sizes» .exit)) (now («column_run_marks» .exit))) ⌝ }
+    ensures largest { λ r. ⌜ LargestPlan r (section.jobSettings (now (bytes .entry))) (section.jobRows (now (bytes .entry))) (section.jobColumns (now (bytes .entry))) ⌝ }
+{
+    let rows_even = lists_even(row_run_firsts, row_run_lasts, row_run_sizes, row_run_marks);
+    let columns_even = lists_even(
+        column_run_firsts,
+        column_run_lasts,
+        column_run_sizes,
+        column_run_marks,
+    );
+    let checked = check_job_lent(bytes, rows_even & columns_even);
+    match checked {
+        Checked::Refused(number) => Planning::Refused(number),
+        Checked::Value(items) => plan_checked(
+            bytes,
+            items,
+            row_run_firsts,
+            row_run_lasts,
+            row_run_sizes,
+            row_run_marks,
+            column_run_firsts,
+            column_run_lasts,
+            column_run_sizes,
+            column_run_marks,
+        ),
+    }
+}
