@@ -1,0 +1,5 @@
+-- Laws that belong to no one function.
+pub mod DecimalLaws
+pub mod TextLaws
+pub mod BlockLaws
+pub mod WholeLaws

@@ -1,0 +1,54 @@
+-- `report::lines::head_lines` meets its contract. Assumes nothing.
+use borrow.Author.Needs.{needs}
+use native.Mathlib.Omega.{arith}
+use mathlib.Core.Path.{sym, ap, _∙_}
+use mathlib.Core.List.{[]}
+use lib.ListN.{take}
+use Rattle.rules.specs.declared.plan.Planning.{Planning}
+use Rattle.rules.specs.Plan.{planOutcome}
+use Rattle.report.specs.Lines.{headLines}
+use Rattle.report.proofs.TextLaws.{and-then, counts}
+use Rattle.report.proofs.lines.head_lines.Statement.{statement}
+use Rattle.report.proofs.lines.head_lines.Tie as tie
+
+enum-known-planning : tie.Need-enum-known-planning
+enum-known-planning c = search needs
+
+plan-line-requires : tie.Need-plan-line-requires
+plan-line-requires c κs = search needs
+
+notes-line-requires : tie.Need-notes-line-requires
+notes-line-requires c κs = search needs
+
+enum-known-planning-2 : tie.Need-enum-known-planning-2
+enum-known-planning-2 c = search needs
+
+refusal-line-requires : tie.Need-refusal-line-requires
+refusal-line-requires c κs = search needs
+
+returns : tie.Need-returns
+unfolding headLines
+returns c =
+    let n = c .notes-line in
+    let p = c .before .before .before in
+    let g = p .before .before .before .planning .given in
+    (and-then [] (take (p .plan-line .result) (p .plan-line .last .0)) _ _ _ (p .plan-line .ensures .0) (n .ensures .0) ∙ ap (λ (l : Planning). headLines (planOutcome l)) (sym (g .1)), counts (n .result) (n .last .0) (omega arith))
+
+returns-2 : tie.Need-returns-2
+unfolding headLines
+returns-2 c =
+    let n = c .refusal-line in
+    let g = c .before .before .before .planning2 .given in
+    (n .ensures .0 ∙ ap (λ (l : Planning). headLines (planOutcome l)) (sym (g .1)), counts (n .result) (n .last .0) (omega arith))
+
+pub head-lines-spec : {M : Type 1} → statement M
+head-lines-spec =
+    tie.close
+    (tie.spec
+    enum-known-planning
+    plan-line-requires
+    notes-line-requires
+    enum-known-planning-2
+    refusal-line-requires
+    returns
+    returns-2)

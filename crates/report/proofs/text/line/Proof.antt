@@ -1,0 +1,29 @@
+-- `report::text::line` meets its contract. Assumes nothing.
+use native.Mathlib.Omega.{arith}
+use borrow.Author.Needs.{needs}
+use Rattle.report.proofs.TextLaws.{line-put}
+use Rattle.report.proofs.text.line.Statement.{statement}
+use Rattle.report.proofs.text.line.Tie as tie
+
+text-requires : tie.Need-text-requires
+text-requires c κs = search needs
+
+numbers-requires : tie.Need-numbers-requires
+numbers-requires c κs = search needs
+
+byte-requires : tie.Need-byte-requires
+byte-requires c κs = search needs
+
+same-length : tie.Need-same-length
+same-length c = search needs
+
+returns : tie.Need-returns
+returns c =
+    let b = c .before .before in
+    let n = b .before .before .before .before in
+    let t = n .before .before .before .before in
+    let a = t .before .before .before .before .before .args in
+    (line-put (a .out .now) (t .text .last .0) (n .numbers .last .0) (b .byte .last .0) (a .at) (t .text .result) (n .numbers .result) (b .byte .result) (a .word .now) (a .list .now) (t .text .ensures .0) (n .numbers .ensures .0) (b .byte .ensures .0), omega arith)
+
+pub line-spec : {M : Type 1} → statement M
+line-spec = tie.close (tie.spec text-requires numbers-requires byte-requires same-length returns)

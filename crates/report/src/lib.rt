@@ -1,0 +1,9 @@
+// What a plan is told by, as text: document 01, section "Jobs".
+mod blocks;
+mod lines;
+mod text;
+
+pub use blocks::Block;
+pub use blocks::page_block;
+pub use lines::head_lines;
+pub use lines::page_line;
