@@ -1,4 +1,5 @@
 // Pages of a plan: document 01, section "Pages".
+use questions::lists_even;
 use rules::Listing;
 use rules::Page;
 use rules::PageAnswer;
@@ -92,13 +93,6 @@ fn page_after(
     }
 }
 
-// 6, of the run lists of an axis.
-fn even_lists(firsts: &[u32], lasts: &[u32], sizes: &[u64], marks: &[u8]) -> bool
-    ensures { λ r. ⌜ r ≡ section.evenLists (section.runLists (now (firsts .entry)) (now (lasts .entry)) (now (sizes .entry)) (now (marks .entry))) ⌝ }
-{
-    (firsts.len() == lasts.len()) & (firsts.len() == sizes.len()) & (firsts.len() == marks.len())
-}
-
 // 14: by division, for the product of the run counts may be too large for a number.
 fn has_page(plan: Plan, number: u64) -> bool
     ensures { λ r. ⌜ r ≡ section.hasPage plan number ⌝ }
@@ -116,9 +110,9 @@ fn has_page(plan: Plan, number: u64) -> bool
     before as usize / plan.row_runs < plan.column_runs
 }
 
-// The first of the questions 6, 11 and 14 whose answer is no, or 0.
-fn first_no(plan: Plan, number: u64, even: bool, row_room: usize, column_room: usize) -> u8
-    ensures { λ r. ⌜ r ≡ section.firstNo plan number even «row_room» «column_room» ⌝ }
+// The first of the questions 6 and 11 whose answer is no, or 0.
+fn lists_no(plan: Plan, even: bool, row_room: usize, column_room: usize) -> u8
+    ensures { λ r. ⌜ r ≡ section.listsNo plan even «row_room» «column_room» ⌝ }
 {
     if !even {
         return 6;
@@ -128,6 +122,17 @@ fn first_no(plan: Plan, number: u64, even: bool, row_room: usize, column_room: u
     }
     if plan.column_runs > column_room {
         return 11;
+    }
+    0
+}
+
+// The first of the questions 6, 11 and 14 whose answer is no, or 0.
+fn first_no(plan: Plan, number: u64, even: bool, row_room: usize, column_room: usize) -> u8
+    ensures { λ r. ⌜ r ≡ section.firstNo plan number even «row_room» «column_room» ⌝ }
+{
+    let refusal = lists_no(plan, even, row_room, column_room);
+    if refusal > 0 {
+        return refusal;
     }
     if has_page(plan, number) { 0 } else { 14 }
 }
@@ -147,8 +152,8 @@ pub fn page_numbered(
 ) -> PageAnswer
     ensures { λ r. ⌜ section.pageOutcome r ≡ section.pageNumbered plan (section.runLists (now («row_firsts» .entry)) (now («row_lasts» .entry)) (now («row_sizes» .entry)) (now («row_marks» .entry))) (section.runLists (now («column_firsts» .entry)) (now («column_lasts» .entry)) (now («column_sizes» .entry)) (now («column_marks» .entry))) number ⌝ }
 {
-    let even = even_lists(row_firsts, row_lasts, row_sizes, row_marks)
-        & even_lists(column_firsts, column_lasts, column_sizes, column_marks);
+    let even = lists_even(row_firsts, row_lasts, row_sizes, row_marks)
+        & lists_even(column_firsts, column_lasts, column_sizes, column_marks);
     let refusal = first_no(plan, number, even, row_firsts.len(), column_firsts.len());
     if refusal > 0 {
         return PageAnswer::Refused(refusal);
@@ -165,22 +170,6 @@ pub fn page_numbered(
         column_sizes,
         column_marks,
     ))
-}
-
-// The first of the questions 6 and 11 whose answer is no, or 0.
-fn lists_no(plan: Plan, even: bool, row_room: usize, column_room: usize) -> u8
-    ensures { λ r. ⌜ r ≡ section.listsNo plan even «row_room» «column_room» ⌝ }
-{
-    if !even {
-        return 6;
-    }
-    if plan.row_runs > row_room {
-        return 11;
-    }
-    if plan.column_runs > column_room {
-        return 11;
-    }
-    0
 }
 
 // How many pages a plan has: by division, for the product of the run counts may be too large for a number.
@@ -211,8 +200,8 @@ fn listing(
 ) -> Listing
     ensures { λ r. ⌜ section.listOutcome r ≡ section.listPages plan (section.runLists (now («row_firsts» .entry)) (now («row_lasts» .entry)) (now («row_sizes» .entry)) (now («row_marks» .entry))) (section.runLists (now («column_firsts» .entry)) (now («column_lasts» .entry)) (now («column_sizes» .entry)) (now («column_marks» .entry))) room ⌝ }
 {
-    let even = even_lists(row_firsts, row_lasts, row_sizes, row_marks)
-        & even_lists(column_firsts, column_lasts, column_sizes, column_marks);
+    let even = lists_even(row_firsts, row_lasts, row_sizes, row_marks)
+        & lists_even(column_firsts, column_lasts, column_sizes, column_marks);
     let refusal = lists_no(plan, even, row_firsts.len(), column_firsts.len());
     if refusal > 0 {
         return Listing::Refused(refusal);

@@ -11,11 +11,11 @@ rows f = let a = f .before .before .before .before .before .before .before .befo
 abbrev columns : tie.After-lists-no → RunLists
 columns f = let a = f .before .before .before .before .before .before .before .before .before .before .before .args in runLists (a .column-firsts .now) (a .column-lasts .now) (a .column-sizes .now) (a .column-marks .now)
 
-even-lists-requires : tie.Need-even-lists-requires
-even-lists-requires c κs = search needs
+lists-even-requires : tie.Need-lists-even-requires
+lists-even-requires c κs = search needs
 
-even-lists-requires-2 : tie.Need-even-lists-requires-2
-even-lists-requires-2 c κs = search needs
+lists-even-requires-2 : tie.Need-lists-even-requires-2
+lists-even-requires-2 c κs = search needs
 
 lists-no-requires : tie.Need-lists-no-requires
 lists-no-requires c κs = search needs
@@ -24,7 +24,7 @@ returns : tie.Need-returns
 returns c =
     let f = c .before in
     let a = f .before .before .before .before .before .before .before .before .before .before .before .args in
-    list-refused (a .plan) (a .room) (rows f) (columns f) (f .before .before .even-lists .result) (f .before .even-lists2 .result) (f .lists-no .result) (f .before .before .even-lists .ensures) (f .before .even-lists2 .ensures) (f .lists-no .ensures) (c .if1 .taken)
+    list-refused (a .plan) (a .room) (rows f) (columns f) (f .before .before .lists-even .result) (f .before .lists-even2 .result) (f .lists-no .result) (f .before .before .lists-even .ensures) (f .before .lists-even2 .ensures) (f .lists-no .ensures) (c .if1 .taken)
 
 page-count-requires : tie.Need-page-count-requires
 page-count-requires c κs = search needs
@@ -33,22 +33,22 @@ returns-2 : tie.Need-returns-2
 returns-2 c =
     let f = c .before .before .before in
     let a = f .before .before .before .before .before .before .before .before .before .before .before .args in
-    list-long (a .plan) (a .room) (rows f) (columns f) (f .before .before .even-lists .result) (f .before .even-lists2 .result) (f .lists-no .result) (f .before .before .even-lists .ensures) (f .before .even-lists2 .ensures) (f .lists-no .ensures)
+    list-long (a .plan) (a .room) (rows f) (columns f) (f .before .before .lists-even .result) (f .before .lists-even2 .result) (f .lists-no .result) (f .before .before .lists-even .ensures) (f .before .lists-even2 .ensures) (f .lists-no .ensures)
     (c .before .before .if1 .left) (c .before .page-count .result) (c .before .page-count .ensures) (c .if2 .taken)
 
 returns-3 : tie.Need-returns-3
 returns-3 c =
     let f = c .before .before .before in
     let a = f .before .before .before .before .before .before .before .before .before .before .before .args in
-    list-fits (a .plan) (a .room) (rows f) (columns f) (f .before .before .even-lists .result) (f .before .even-lists2 .result) (f .lists-no .result) (f .before .before .even-lists .ensures) (f .before .even-lists2 .ensures) (f .lists-no .ensures)
+    list-fits (a .plan) (a .room) (rows f) (columns f) (f .before .before .lists-even .result) (f .before .lists-even2 .result) (f .lists-no .result) (f .before .before .lists-even .ensures) (f .before .lists-even2 .ensures) (f .lists-no .ensures)
     (c .before .before .if1 .left) (c .before .page-count .result) (c .before .page-count .ensures) (c .if2 .left)
 
 pub listing-spec : {M : Type 1} → statement M
 listing-spec =
     tie.close
     (tie.spec
-    even-lists-requires
-    even-lists-requires-2
+    lists-even-requires
+    lists-even-requires-2
     lists-no-requires
     returns
     page-count-requires

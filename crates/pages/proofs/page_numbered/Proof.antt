@@ -19,19 +19,19 @@ refuses : (f : tie.After-first-no) → let a = f .before .before .before .before
     0 < f .first-no .result → refused (f .first-no .result) ≡ pageNumbered (a .plan) (rows f) (columns f) (a .number)
 refuses f =
     let a = f .before .before .before .before .before .before .before .before .before .before .before .args in
-    is-refused (a .plan) (a .number) (rows f) (columns f) (f .before .before .even-lists .result) (f .before .even-lists2 .result) (f .first-no .result) (f .before .before .even-lists .ensures) (f .before .even-lists2 .ensures) (f .first-no .ensures)
+    is-refused (a .plan) (a .number) (rows f) (columns f) (f .before .before .lists-even .result) (f .before .lists-even2 .result) (f .first-no .result) (f .before .before .lists-even .ensures) (f .before .lists-even2 .ensures) (f .first-no .ensures)
 
 answers : (f : tie.After-first-no) → let a = f .before .before .before .before .before .before .before .before .before .before .before .args in
     f .first-no .result ≤ 0 → Answers (a .plan) (a .number) (rows f) (columns f)
 answers f =
     let a = f .before .before .before .before .before .before .before .before .before .before .before .args in
-    is-answered (a .plan) (a .number) (rows f) (columns f) (f .before .before .even-lists .result) (f .before .even-lists2 .result) (f .first-no .result) (f .before .before .even-lists .ensures) (f .before .even-lists2 .ensures) (f .first-no .ensures)
+    is-answered (a .plan) (a .number) (rows f) (columns f) (f .before .before .lists-even .result) (f .before .lists-even2 .result) (f .first-no .result) (f .before .before .lists-even .ensures) (f .before .lists-even2 .ensures) (f .first-no .ensures)
 
-even-lists-requires : tie.Need-even-lists-requires
-even-lists-requires c κs = search needs
+lists-even-requires : tie.Need-lists-even-requires
+lists-even-requires c κs = search needs
 
-even-lists-requires-2 : tie.Need-even-lists-requires-2
-even-lists-requires-2 c κs = search needs
+lists-even-requires-2 : tie.Need-lists-even-requires-2
+lists-even-requires-2 c κs = search needs
 
 first-no-requires : tie.Need-first-no-requires
 first-no-requires c κs = search needs
@@ -54,8 +54,8 @@ pub page-numbered-spec : {M : Type 1} → statement M
 page-numbered-spec =
     tie.close
     (tie.spec
-    even-lists-requires
-    even-lists-requires-2
+    lists-even-requires
+    lists-even-requires-2
     first-no-requires
     returns
     sub-page-after
