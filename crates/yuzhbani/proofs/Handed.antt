@@ -1,0 +1,114 @@
+-- The answer and the numbers of a plan call stand for what was planned. Assumes nothing.
+use mathlib.Core.Path.{_≡_, refl, sym, ap, ap₂, _∙_}
+use mathlib.Core.Bool.{Bool, true, false, _&&_}
+use mathlib.Core.List.{List, [], _∷_}
+use Prim.Native.Nat.{ℕ, zero, suc, _≤_, _<_}
+use native.Mathlib.Omega.{arith}
+use lib.Dec.{leb}
+use lib.ListN.{length}
+use Rattle.geometry.specs.Outcome.{Outcome, given, refused, andThen}
+use Rattle.rules.specs.declared.plan.Settings.{Settings}
+use Rattle.rules.specs.declared.plan.Planning.{Planning}
+use Rattle.rules.specs.declared.plan.Planning.the-variants.{Value, Refused}
+use Rattle.rules.specs.Questions.{ask, equallyLong, risingWithin, allSmall}
+use Rattle.rules.specs.Pages.{RunLists, evenLists}
+use Rattle.rules.specs.Plan.{AxisInput, Sides, Layout, Planned, contentSides, layout, formed, inGrid, roomFor, planned, planOutcome}
+use Rattle.rules.specs.Demand.{CoversPairs, FewestPlan, LargestPlan}
+use Rattle.rules.proofs.NoTen.{sides-given, asked, not-given}
+use Rattle.records.specs.declared.questions.Items.{Items}
+use Rattle.records.specs.Records.{records}
+use Rattle.records.specs.Verdict.{inOrder, questions, itemsOf, verdictLent}
+use Rattle.job.specs.Plan.{jobSettings, jobRows, jobColumns, planJob}
+use Rattle.yuzhbani.specs.Numbers.{planNumbers, told}
+use Rattle.yuzhbani.specs.Calls.{answerTo, planIn, answerOf, numbersOf, HadBack, PlanHanded}
+
+-- ---- no refusal has the number 0, so that 0 says that a plan was given
+
+from-first : {A : Type 0} (v : A) (k n : ℕ) (qs : List Bool) → inOrder k qs v ≡ refused n → k ≤ n
+from-first v k n [] e = absurd (not-given v n e)
+from-first v k n (true ∷ qs) e = let i = from-first v (suc k) n qs e in omega (arith, i)
+from-first v k n (false ∷ qs) e = let same : k ≡ n = cc in omega (arith, same)
+
+questions-not-zero : (even : Bool) (s : List ℕ) → verdictLent even s ≡ refused 0 → ⊥
+unfolding verdictLent
+questions-not-zero even s e = let i = from-first (itemsOf (records s)) 1 0 (questions even s) e in omega (arith, i)
+
+plan-not-zero : (s : Settings) (rows columns : AxisInput) (lr lc : RunLists) → planned s rows columns lr lc ≡ refused 0 → ⊥
+unfolding planned roomFor
+plan-not-zero s rows columns lr lc e =
+    let q6 = formed rows (evenLists lr) && formed columns (evenLists lc) && equallyLong (rows .merge-firsts) (columns .merge-firsts) in
+    let q7 = inGrid rows && inGrid columns in
+    let q8 = risingWithin (rows .limit) (rows .indexes) && risingWithin (columns .limit) (columns .indexes) in
+    let q9 = allSmall (rows .sizes) && allSmall (columns .sizes) in
+    let next : Sides → Outcome Layout = λ x. roomFor (layout s x rows columns) (length (lr .firsts)) (length (lc .firsts)) (s .«page_limit») in
+    let after = andThen (contentSides s) next in
+    let six = asked 6 0 q6 (ask 7 q7 (ask 8 q8 (ask 9 q9 after))) (λ i. omega arith) e in
+    let seven = asked 7 0 q7 (ask 8 q8 (ask 9 q9 after)) (λ i. omega arith) (six .1) in
+    let eight = asked 8 0 q8 (ask 9 q9 after) (λ i. omega arith) (seven .1) in
+    let nine = asked 9 0 q9 after (λ i. omega arith) (eight .1) in
+    let c = sides-given s in
+    let l = layout s (c .0) rows columns in
+    let room = sym (ap (λ (o : Outcome Sides). andThen o next) (c .1)) ∙ nine .1 in
+    let fits = leb (length (l .rows)) (length (lr .firsts)) && leb (length (l .columns)) (length (lc .firsts)) in
+    let few = leb (l .plan .pages) (s .«page_limit») in
+    let eleven = asked 11 0 fits (ask 12 few (given l)) (λ i. omega arith) room in
+    let twelve = asked 12 0 few (given l) (λ i. omega arith) (eleven .1) in
+    not-given l 0 (twelve .1)
+
+pub job-not-zero : (s : List ℕ) (rows columns : RunLists) → planJob s rows columns ≡ refused 0 → ⊥
+unfolding planJob
+job-not-zero s rows columns e = go (verdictLent (evenLists rows && evenLists columns) s) refl e
+  where
+    go : (o : Outcome Items) → verdictLent (evenLists rows && evenLists columns) s ≡ o
+        → andThen o (λ (items : Items). planned (jobSettings s) (jobRows s) (jobColumns s) rows columns) ≡ refused 0 → ⊥
+    go (given items) i j = plan-not-zero (jobSettings s) (jobRows s) (jobColumns s) rows columns j
+    go (refused n) i j =
+        let same : n ≡ 0 = cc in
+        questions-not-zero (evenLists rows && evenLists columns) s (i ∙ ap refused same)
+
+-- ---- what was planned, by the answer and the numbers
+
+module _ (o : Outcome Layout) (p : Planning) (old : List ℕ) (e : planOutcome p ≡ andThen o (λ (l : Layout). given (l .plan))) where
+  answer-is : answerOf p ≡ answerTo o
+  answer-is = go o p e
+    where
+      go : (o : Outcome Layout) (p : Planning) → planOutcome p ≡ andThen o (λ (l : Layout). given (l .plan)) → answerOf p ≡ answerTo o
+      go (given l) (Value v) e = refl
+      go (given l) (Refused n) e = absurd (not-given (l .plan) n (sym e))
+      go (refused n) (Value v) e = absurd (not-given v n e)
+      go (refused n) (Refused m) e = cc
+
+  numbers-are : numbersOf p old ≡ planIn o old
+  numbers-are = go o p e
+    where
+      go : (o : Outcome Layout) (p : Planning) → planOutcome p ≡ andThen o (λ (l : Layout). given (l .plan)) → numbersOf p old ≡ planIn o old
+      go (given l) (Value v) e = let same : v ≡ l .plan = cc in ap planNumbers same
+      go (given l) (Refused n) e = absurd (not-given (l .plan) n (sym e))
+      go (refused n) (Value v) e = absurd (not-given v n e)
+      go (refused n) (Refused m) e = refl
+
+  told-is : (o ≡ refused 0 → ⊥) → HadBack p → told (answerOf p) (numbersOf p old) ≡ p
+  told-is never back = go o p e never back
+    where
+      go : (o : Outcome Layout) (p : Planning) → planOutcome p ≡ andThen o (λ (l : Layout). given (l .plan)) → (o ≡ refused 0 → ⊥)
+          → HadBack p → told (answerOf p) (numbersOf p old) ≡ p
+      go o (Value v) e never back = ap Value back
+      go (given l) (Refused n) e never back = absurd (not-given (l .plan) n (sym e))
+      go (refused n) (Refused zero) e never back = let same : n ≡ 0 = cc in absurd (never (ap refused same))
+      go (refused n) (Refused (suc m)) e never back = refl
+
+-- the clauses of `yuzhbani_plan`, of those of `plan_job`
+pub handed-job : (s : List ℕ) (rows₀ columns₀ rows columns : RunLists) (p : Planning) (old : List ℕ) (r : ℕ) (numbers : List ℕ)
+    → Planned (planJob s rows₀ columns₀) p rows₀ columns₀ rows columns
+    × (CoversPairs p (jobRows s) (jobColumns s) rows columns × (FewestPlan p (jobSettings s) (jobRows s) (jobColumns s) rows columns × LargestPlan p (jobSettings s) (jobRows s) (jobColumns s)))
+    → (r ≡ answerOf p) × ((numbers ≡ numbersOf p old) × HadBack p)
+    → PlanHanded (planJob s rows₀ columns₀) r old numbers rows₀ columns₀ rows columns
+    × (CoversPairs (told r numbers) (jobRows s) (jobColumns s) rows columns
+    × (FewestPlan (told r numbers) (jobSettings s) (jobRows s) (jobColumns s) rows columns × LargestPlan (told r numbers) (jobSettings s) (jobRows s) (jobColumns s)))
+handed-job s rows₀ columns₀ rows columns p old r numbers w (a, (n, back)) =
+    let o = planJob s rows₀ columns₀ in
+    let e = w .0 .answer in
+    let t : told r numbers ≡ p = ap₂ told a n ∙ told-is o p old e (job-not-zero s rows₀ columns₀) back in (
+      record { answer = a ∙ answer-is o p old e; numbers-are = n ∙ numbers-are o p old e; stands = ap planOutcome t ∙ e; rows-are = w .0 .rows-are; columns-are = w .0 .columns-are },
+      rw t (w .1),
+    )

@@ -1,0 +1,17 @@
+-- `yuzhbani::yuzhbani_block` meets its contract: a block of the plan that the numbers stand for. Assumes nothing.
+use Rattle.yuzhbani.proofs.NumberLaws.{block-handed}
+use borrow.Author.Needs.{needs}
+use Rattle.yuzhbani.proofs.yuzhbani_block.Statement.{statement}
+use Rattle.yuzhbani.proofs.yuzhbani_block.Tie as tie
+
+plan-from-requires : tie.Need-plan-from-requires
+plan-from-requires c κs = search needs
+
+page-block-requires : tie.Need-page-block-requires
+page-block-requires c κs = search needs
+
+returns : tie.Need-returns
+returns c = block-handed (c .before .before .before .plan-from .ensures) _ _ _ _ _ (c .page-block .ensures)
+
+pub yuzhbani-block-spec : {M : Type 1} → statement M
+yuzhbani-block-spec = tie.close (tie.spec plan-from-requires page-block-requires returns)

@@ -1,0 +1,3 @@
+-- What the contracts of `yuzhbani` cite.
+pub mod Numbers
+pub mod Calls

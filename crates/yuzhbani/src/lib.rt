@@ -1,0 +1,139 @@
+// Plans, pages and their text for a program in another language. `rt staticlib yuzhbani` makes an archive of these calls, which C or Rust
+// can link. A plan is handed over as sixteen numbers and a page as twelve, in the order that `specs/Numbers.antt` says.
+mod numbers;
+
+use crate::numbers::plan_from;
+use crate::numbers::put_page;
+use crate::numbers::put_planning;
+use crate::numbers::told;
+use job::plan_job;
+use pages::page_numbered;
+use report::head_lines;
+use report::page_block;
+ghost use mathlib.Core.Path.{_≡_};
+ghost use Prim.Native.Nat.{_≤_};
+ghost use lib.ListN.{length, take};
+ghost use Rattle.rules.specs.Pages.{runLists, pageNumbered};
+ghost use Rattle.rules.specs.Plan.{planOutcome};
+ghost use Rattle.rules.specs.Demand.{CoversPairs, FewestPlan, LargestPlan};
+ghost use Rattle.job.specs.Plan as job;
+ghost use Rattle.report.specs.Lines.{headLines};
+ghost use Rattle.report.specs.Blocks.{BlockOf};
+ghost use Rattle.yuzhbani.specs.Numbers as section;
+ghost use Rattle.yuzhbani.specs.Calls.{PlanHanded, PageHanded, blockTo};
+
+// Plans the pages of a job: 0, with the plan's numbers in `numbers` and its runs at the fronts of eight lent lists; or the number of a
+// refusal, and nothing is written.
+#[no_mangle]
+pub extern "C" fn yuzhbani_plan(
+    bytes: &[u8],
+    numbers: &mut [u64; 16],
+    row_run_firsts: &mut [u32],
+    row_run_lasts: &mut [u32],
+    row_run_sizes: &mut [u64],
+    row_run_marks: &mut [u8],
+    column_run_firsts: &mut [u32],
+    column_run_lasts: &mut [u32],
+    column_run_sizes: &mut [u64],
+    column_run_marks: &mut [u8],
+) -> u8
+    ensures planned { λ r. ⌜ PlanHanded (job.planJob (now (bytes .entry)) (runLists (now («row_run_firsts» .entry)) (now («row_run_lasts» .entry)) (now («row_run_sizes» .entry)) (now («row_run_marks» .entry))) (runLists (now («column_run_firsts» .entry)) (now («column_run_lasts» .entry)) (now («column_run_sizes» .entry)) (now («column_run_marks» .entry)))) r (now (numbers .entry)) (now (numbers .exit)) (runLists (now («row_run_firsts» .entry)) (now («row_run_lasts» .entry)) (now («row_run_sizes» .entry)) (now («row_run_marks» .entry))) (runLists (now («column_run_firsts» .entry)) (now («column_run_lasts» .entry)) (now («column_run_sizes» .entry)) (now («column_run_marks» .entry))) (runLists (now («row_run_firsts» .exit)) (now («row_run_lasts» .exit)) (now («row_run_sizes» .exit)) (now («row_run_marks» .exit))) (runLists (now («column_run_firsts» .exit)) (now («column_run_lasts» .exit)) (now («column_run_sizes» .exit)) (now («column_run_marks» .exit))) ⌝ }
+    ensures covered { λ r. ⌜ CoversPairs (section.told r (now (numbers .exit))) (job.jobRows (now (bytes .entry))) (job.jobColumns (now (bytes .entry))) (runLists (now («row_run_firsts» .exit)) (now («row_run_lasts» .exit)) (now («row_run_sizes» .exit)) (now («row_run_marks» .exit))) (runLists (now («column_run_firsts» .exit)) (now («column_run_lasts» .exit)) (now («column_run_sizes» .exit)) (now («column_run_marks» .exit))) ⌝ }
+    ensures fewest { λ r. ⌜ FewestPlan (section.told r (now (numbers .exit))) (job.jobSettings (now (bytes .entry))) (job.jobRows (now (bytes .entry))) (job.jobColumns (now (bytes .entry))) (runLists (now («row_run_firsts» .exit)) (now («row_run_lasts» .exit)) (now («row_run_sizes» .exit)) (now («row_run_marks» .exit))) (runLists (now («column_run_firsts» .exit)) (now («column_run_lasts» .exit)) (now («column_run_sizes» .exit)) (now («column_run_marks» .exit))) ⌝ }
+    ensures largest { λ r. ⌜ LargestPlan (section.told r (now (numbers .exit))) (job.jobSettings (now (bytes .entry))) (job.jobRows (now (bytes .entry))) (job.jobColumns (now (bytes .entry))) ⌝ }
+{
+    let planning = plan_job(
+        bytes,
+        row_run_firsts,
+        row_run_lasts,
+        row_run_sizes,
+        row_run_marks,
+        column_run_firsts,
+        column_run_lasts,
+        column_run_sizes,
+        column_run_marks,
+    );
+    put_planning(planning, numbers)
+}
+
+// The page of a plan with a number from 1 to its count, of the plan's numbers and the lists that were lent to it: 0, with the page's numbers
+// in `page`; or the number of a refusal, and nothing is written.
+#[no_mangle]
+pub extern "C" fn yuzhbani_page(
+    numbers: &[u64; 16],
+    number: u64,
+    row_firsts: &[u32],
+    row_lasts: &[u32],
+    row_sizes: &[u64],
+    row_marks: &[u8],
+    column_firsts: &[u32],
+    column_lasts: &[u32],
+    column_sizes: &[u64],
+    column_marks: &[u8],
+    page: &mut [u64; 12],
+) -> u8
+    ensures { λ r. ⌜ PageHanded (pageNumbered (section.planFrom (now (numbers .entry))) (runLists (now («row_firsts» .entry)) (now («row_lasts» .entry)) (now («row_sizes» .entry)) (now («row_marks» .entry))) (runLists (now («column_firsts» .entry)) (now («column_lasts» .entry)) (now («column_sizes» .entry)) (now («column_marks» .entry))) number) r (now (page .entry)) (now (page .exit)) ⌝ }
+{
+    let plan = plan_from(numbers);
+    let answer = page_numbered(
+        plan,
+        number,
+        row_firsts,
+        row_lasts,
+        row_sizes,
+        row_marks,
+        column_firsts,
+        column_lasts,
+        column_sizes,
+        column_marks,
+    );
+    put_page(answer, page)
+}
+
+// The first two lines of what a plan is told by, of the answer of a plan call and the plan's numbers, or the line of a refusal, at the start
+// of `out`; it answers how many bytes.
+#[no_mangle]
+pub extern "C" fn yuzhbani_head(answer: u8, numbers: &[u64; 16], out: &mut [u8; 256]) -> usize
+    ensures { λ r. ⌜ take r (now (out .exit)) ≡ headLines (planOutcome (section.told answer (now (numbers .entry)))) ⌝ }
+    ensures { λ r. ⌜ r ≤ length (now (out .exit)) ⌝ }
+{
+    let planning = told(answer, numbers);
+    head_lines(planning, out)
+}
+
+// Puts the lines of the pages from the number `next` on at the start of `out`, as long as there is a page and 256 bytes are left. It answers
+// how many bytes, and leaves in `next` the number of the first page that is not among them.
+#[no_mangle]
+pub extern "C" fn yuzhbani_block(
+    numbers: &[u64; 16],
+    next: &mut u64,
+    row_firsts: &[u32],
+    row_lasts: &[u32],
+    row_sizes: &[u64],
+    row_marks: &[u8],
+    column_firsts: &[u32],
+    column_lasts: &[u32],
+    column_sizes: &[u64],
+    column_marks: &[u8],
+    out: &mut [u8; 65536],
+) -> usize
+    ensures { λ r. ⌜ BlockOf (section.planFrom (now (numbers .entry))) (runLists (now («row_firsts» .entry)) (now («row_lasts» .entry)) (now («row_sizes» .entry)) (now («row_marks» .entry))) (runLists (now («column_firsts» .entry)) (now («column_lasts» .entry)) (now («column_sizes» .entry)) (now («column_marks» .entry))) (now (next .entry)) (blockTo (now (next .exit)) r) (now (out .exit)) ⌝ }
+{
+    let plan = plan_from(numbers);
+    let from = *next;
+    let block = page_block(
+        plan,
+        from,
+        row_firsts,
+        row_lasts,
+        row_sizes,
+        row_marks,
+        column_firsts,
+        column_lasts,
+        column_sizes,
+        column_marks,
+        out,
+    );
+    *next = block.next;
+    block.end
+}

@@ -1,0 +1,330 @@
+//! Page plans of measured worksheets: a safe face of the static library `yuzhbani`.
+//!
+//! A job's bytes are planned by [`Plan::of`]. Whoever keeps run lists of his own calls [`plan_into`] and [`page_of`].
+
+use std::fmt;
+use std::io::{self, Write};
+
+/// The most bytes of a job. More are refused with 1.
+pub const MOST_BYTES: usize = 60_000;
+
+/// Run lists of so many entries have room for the runs of every job: none is refused with 11.
+pub const MOST_RUNS: usize = 5_000;
+
+/// The numbers of a plan: permille, row runs, column runs, rows empty, columns empty, pages, order, nine notes.
+pub type Numbers = [u64; 16];
+
+/// The bytes that a block of page lines has room for.
+const BLOCK: usize = 65_536;
+
+mod raw {
+    // A slice of Rattle is a pointer and a length here, an array or a number that is lent a pointer.
+    extern "C" {
+        pub fn yuzhbani_plan(
+            bytes: *const u8,
+            bytes_len: usize,
+            numbers: *mut [u64; 16],
+            row_run_firsts: *mut u32,
+            row_run_firsts_len: usize,
+            row_run_lasts: *mut u32,
+            row_run_lasts_len: usize,
+            row_run_sizes: *mut u64,
+            row_run_sizes_len: usize,
+            row_run_marks: *mut u8,
+            row_run_marks_len: usize,
+            column_run_firsts: *mut u32,
+            column_run_firsts_len: usize,
+            column_run_lasts: *mut u32,
+            column_run_lasts_len: usize,
+            column_run_sizes: *mut u64,
+            column_run_sizes_len: usize,
+            column_run_marks: *mut u8,
+            column_run_marks_len: usize,
+        ) -> u8;
+
+        pub fn yuzhbani_page(
+            numbers: *const [u64; 16],
+            number: u64,
+            row_firsts: *const u32,
+            row_firsts_len: usize,
+            row_lasts: *const u32,
+            row_lasts_len: usize,
+            row_sizes: *const u64,
+            row_sizes_len: usize,
+            row_marks: *const u8,
+            row_marks_len: usize,
+            column_firsts: *const u32,
+            column_firsts_len: usize,
+            column_lasts: *const u32,
+            column_lasts_len: usize,
+            column_sizes: *const u64,
+            column_sizes_len: usize,
+            column_marks: *const u8,
+            column_marks_len: usize,
+            page: *mut [u64; 12],
+        ) -> u8;
+
+        pub fn yuzhbani_head(answer: u8, numbers: *const [u64; 16], out: *mut [u8; 256]) -> usize;
+
+        pub fn yuzhbani_block(
+            numbers: *const [u64; 16],
+            next: *mut u64,
+            row_firsts: *const u32,
+            row_firsts_len: usize,
+            row_lasts: *const u32,
+            row_lasts_len: usize,
+            row_sizes: *const u64,
+            row_sizes_len: usize,
+            row_marks: *const u8,
+            row_marks_len: usize,
+            column_firsts: *const u32,
+            column_firsts_len: usize,
+            column_lasts: *const u32,
+            column_lasts_len: usize,
+            column_sizes: *const u64,
+            column_sizes_len: usize,
+            column_marks: *const u8,
+            column_marks_len: usize,
+            out: *mut [u8; 65_536],
+        ) -> usize;
+    }
+}
+
+/// The number of the question, 1 to 14, that an input did not pass.
+#[derive(Debug, Clone, Copy, PartialEq, Eq)]
+pub struct Refusal(pub u8);
+
+impl Refusal {
+    /// `no` and the number, as program `plan` prints it.
+    pub fn text(self) -> String {
+        head_of(self.0, &[0; 16])
+    }
+}
+
+impl fmt::Display for Refusal {
+    fn fmt(&self, f: &mut fmt::Formatter) -> fmt::Result {
+        write!(f, "refused with {}", self.0)
+    }
+}
+
+impl std::error::Error for Refusal {}
+
+fn answered(answer: u8) -> Result<(), Refusal> {
+    match answer {
+        0 => Ok(()),
+        number => Err(Refusal(number)),
+    }
+}
+
+/// A run of rows or columns.
+#[derive(Debug, Clone, Copy, PartialEq, Eq)]
+pub struct Run {
+    pub first: u32,
+    pub last: u32,
+    pub size: u64,
+    pub empty_body: bool,
+    pub manual_break: bool,
+}
+
+/// A page: the numbers of its two runs, from 0, and the runs.
+#[derive(Debug, Clone, Copy, PartialEq, Eq)]
+pub struct Page {
+    pub vertical: u64,
+    pub horizontal: u64,
+    pub rows: Run,
+    pub columns: Run,
+}
+
+/// The runs of an axis in four lists, which are lent to a plan. Four that are not equally long are refused with 6.
+#[derive(Debug, Clone, PartialEq, Eq)]
+pub struct RunLists {
+    pub firsts: Vec<u32>,
+    pub lasts: Vec<u32>,
+    pub sizes: Vec<u64>,
+    pub marks: Vec<u8>,
+}
+
+impl RunLists {
+    /// Lists with room for so many runs.
+    pub fn with_room(runs: usize) -> Self {
+        Self { firsts: vec![0; runs], lasts: vec![0; runs], sizes: vec![0; runs], marks: vec![0; runs] }
+    }
+
+    /// The first `count` runs, as far as the lists have them.
+    fn runs(&self, count: u64, empty_body: bool) -> Vec<Run> {
+        let count = usize::try_from(count).unwrap_or(usize::MAX);
+        let lists = self.firsts.iter().zip(&self.lasts).zip(&self.sizes).zip(&self.marks);
+        let run = |(((&first, &last), &size), &mark)| Run { first, last, size, empty_body, manual_break: mark > 0 };
+        lists.map(run).take(count).collect()
+    }
+}
+
+/// Plans a job: the plan's numbers go to `numbers`, its runs to the fronts of the lists. A refusal writes nothing.
+pub fn plan_into(bytes: &[u8], numbers: &mut Numbers, rows: &mut RunLists, columns: &mut RunLists) -> Result<(), Refusal> {
+    // Safe: each pointer and length are those of a slice or an array that is borrowed over the call, and what is lent as
+    // `&mut` is lent once.
+    answered(unsafe {
+        raw::yuzhbani_plan(
+            bytes.as_ptr(),
+            bytes.len(),
+            numbers,
+            rows.firsts.as_mut_ptr(),
+            rows.firsts.len(),
+            rows.lasts.as_mut_ptr(),
+            rows.lasts.len(),
+            rows.sizes.as_mut_ptr(),
+            rows.sizes.len(),
+            rows.marks.as_mut_ptr(),
+            rows.marks.len(),
+            columns.firsts.as_mut_ptr(),
+            columns.firsts.len(),
+            columns.lasts.as_mut_ptr(),
+            columns.lasts.len(),
+            columns.sizes.as_mut_ptr(),
+            columns.sizes.len(),
+            columns.marks.as_mut_ptr(),
+            columns.marks.len(),
+        )
+    })
+}
+
+/// The page with a number, from 1 to the count, of a plan's numbers and the lists that were lent to it. Numbers and lists that
+/// were changed have an answer too: 6, 11, 14, or the page that they hold at that place.
+pub fn page_of(numbers: &Numbers, number: u64, rows: &RunLists, columns: &RunLists) -> Result<Page, Refusal> {
+    let mut page = [0; 12];
+    // Safe: as in `plan_into`.
+    answered(unsafe {
+        raw::yuzhbani_page(
+            numbers,
+            number,
+            rows.firsts.as_ptr(),
+            rows.firsts.len(),
+            rows.lasts.as_ptr(),
+            rows.lasts.len(),
+            rows.sizes.as_ptr(),
+            rows.sizes.len(),
+            rows.marks.as_ptr(),
+            rows.marks.len(),
+            columns.firsts.as_ptr(),
+            columns.firsts.len(),
+            columns.lasts.as_ptr(),
+            columns.lasts.len(),
+            columns.sizes.as_ptr(),
+            columns.sizes.len(),
+            columns.marks.as_ptr(),
+            columns.marks.len(),
+            &mut page,
+        )
+    })?;
+    let run = |at: usize| Run {
+        first: page[at] as u32,
+        last: page[at + 1] as u32,
+        size: page[at + 2],
+        empty_body: page[at + 3] > 0,
+        manual_break: page[at + 4] > 0,
+    };
+    Ok(Page { vertical: page[0], horizontal: page[1], rows: run(2), columns: run(7) })
+}
+
+/// The first lines that program `plan` prints, of the answer of a plan call and the plan's numbers.
+pub fn head_of(answer: u8, numbers: &Numbers) -> String {
+    let mut out = [0; 256];
+    // Safe: as in `plan_into`.
+    let end = unsafe { raw::yuzhbani_head(answer, numbers, &mut out) };
+    String::from_utf8_lossy(&out[..end]).into_owned()
+}
+
+/// Lines of pages from the number `next` on, as many as a block of bytes has room for, and moves `next` past them. No lines: there
+/// is no page with that number.
+pub fn block_of(numbers: &Numbers, next: &mut u64, rows: &RunLists, columns: &RunLists) -> Vec<u8> {
+    let mut out = Box::new([0; BLOCK]);
+    // Safe: as in `plan_into`.
+    let end = unsafe {
+        raw::yuzhbani_block(
+            numbers,
+            next,
+            rows.firsts.as_ptr(),
+            rows.firsts.len(),
+            rows.lasts.as_ptr(),
+            rows.lasts.len(),
+            rows.sizes.as_ptr(),
+            rows.sizes.len(),
+            rows.marks.as_ptr(),
+            rows.marks.len(),
+            columns.firsts.as_ptr(),
+            columns.firsts.len(),
+            columns.lasts.as_ptr(),
+            columns.lasts.len(),
+            columns.sizes.as_ptr(),
+            columns.sizes.len(),
+            columns.marks.as_ptr(),
+            columns.marks.len(),
+            &mut *out,
+        )
+    };
+    out[..end].to_vec()
+}
+
+/// A finished plan with its runs.
+#[derive(Debug, Clone, PartialEq, Eq)]
+pub struct Plan {
+    numbers: Numbers,
+    rows: RunLists,
+    columns: RunLists,
+}
+
+impl Plan {
+    /// Plans a job, with run lists that have room for the runs of every job.
+    pub fn of(bytes: &[u8]) -> Result<Self, Refusal> {
+        let lists = || RunLists::with_room(MOST_RUNS);
+        let mut plan = Self { numbers: [0; 16], rows: lists(), columns: lists() };
+        plan_into(bytes, &mut plan.numbers, &mut plan.rows, &mut plan.columns)?;
+        Ok(plan)
+    }
+
+    /// The scale in thousandths.
+    pub fn permille(&self) -> u64 {
+        self.numbers[0]
+    }
+
+    pub fn row_runs(&self) -> Vec<Run> {
+        self.rows.runs(self.numbers[1], self.numbers[3] > 0)
+    }
+
+    pub fn column_runs(&self) -> Vec<Run> {
+        self.columns.runs(self.numbers[2], self.numbers[4] > 0)
+    }
+
+    pub fn pages(&self) -> u64 {
+        self.numbers[5]
+    }
+
+    pub fn over_then_down(&self) -> bool {
+        self.numbers[6] > 0
+    }
+
+    /// Unknown paper, margins, clamp, unreachable, titles ignored, titles expanded, merge expansions, break shifts, overflowing runs.
+    pub fn notes(&self) -> [u64; 9] {
+        let mut notes = [0; 9];
+        notes.copy_from_slice(&self.numbers[7..]);
+        notes
+    }
+
+    /// The page with a number from 1 to the count.
+    pub fn page(&self, number: u64) -> Result<Page, Refusal> {
+        page_of(&self.numbers, number, &self.rows, &self.columns)
+    }
+
+    /// Writes what program `plan` prints.
+    pub fn print(&self, out: &mut impl Write) -> io::Result<()> {
+        out.write_all(head_of(0, &self.numbers).as_bytes())?;
+        let mut next = 1;
+        loop {
+            let block = block_of(&self.numbers, &mut next, &self.rows, &self.columns);
+            if block.is_empty() {
+                return Ok(());
+            }
+            out.write_all(&block)?;
+        }
+    }
+}
