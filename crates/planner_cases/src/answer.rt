@@ -145,12 +145,3 @@ pub fn write(out: &[u8; LINE], end: usize) {
     let written = &out[..];
     word(&written[0..end]);
 }
-
-// Whether the text that ends at a place is this.
-pub fn is(out: &[u8; LINE], end: usize, expected: &[u8]) -> bool {
-    if end > LINE {
-        return false;
-    }
-    let written = &out[..];
-    check::same(&written[0..end], expected)
-}
