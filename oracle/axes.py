@@ -1,6 +1,6 @@
 """Lines of input for the functions of the crate planner: titles with merges, and axes with all that cuts them.
 
-The format of a line stands in planner.rs.
+The format of a line stands in axes.rs.
 """
 
 import itertools

@@ -1,11 +1,11 @@
 #!/usr/bin/env python3
-"""Lines of input for the functions of the crates geometry and planner, the same at every run.
+"""Lines of input for the functions of the crates geometry, planner and job, the same at every run.
 
     inputs.py NAME COUNT SEED
 
 prints COUNT lines for the function NAME: first its limits, then lines drawn by the seed, most of them near a place
-where the answer changes its kind. The format of a line stands in geometry.rs, planner.rs and plans.rs. Those of
-planner are made by axes.py and plans.py.
+where the answer changes its kind. The format of a line stands in geometry.rs, axes.rs, plans.rs and jobs.rs. Those of
+planner are made by axes.py and plans.py, those of job by jobs.py.
 """
 
 import itertools
@@ -13,6 +13,7 @@ import random
 import sys
 
 import axes
+import jobs
 import plans
 from margins import ABOVE_ALL, BAD_MARGINS, INFINITE, LEAST, MOST, PAPER_SIZES, UNITS
 from margins import bits, inches, margins_drawn, near, stepped
@@ -239,8 +240,9 @@ PLANNER = {
     "plan_pages": (plans.plan_limits, plans.plans_drawn),
     "page_numbered": (plans.page_limits, plans.pages_drawn),
 }
-CRATES = {"geometry": GEOMETRY, "planner": PLANNER}
-FUNCTIONS = GEOMETRY | PLANNER
+JOBS = {"plan_job": (jobs.job_limits, jobs.jobs_drawn)}
+CRATES = {"geometry": GEOMETRY, "planner": PLANNER, "jobs": JOBS}
+FUNCTIONS = GEOMETRY | PLANNER | JOBS
 
 
 def lines(name, seed):

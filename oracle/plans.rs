@@ -1,4 +1,4 @@
-// Plans and pages by the Rust's own functions. planner.rs includes this file at its root.
+// Plans and pages by the Rust's own functions. A driver includes this file at its root, after axes.rs.
 //
 // The fields of a line, each a space and so many hexadecimal digits:
 //
