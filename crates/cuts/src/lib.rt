@@ -1,8 +1,7 @@
-// Single steps of cutting an axis: which merge holds a boundary, where a place stands among the slots, and where a merge moves an end or a cut.
+// Single steps of cutting an axis: which merge holds a boundary, which capacity a run has, and where a merge moves its end.
 // Document 01, section "Runs".
 use questions::lesser;
 use questions::wide;
-use rules::Cut;
 use rules::Frame;
 use rules::Held;
 use rules::RunEnd;
@@ -12,7 +11,7 @@ ghost use Prim.Native.Nat.{_≤_, min};
 ghost use lib.ListN.{length};
 ghost use Rattle.rules.specs.Slots.{below, through};
 ghost use Rattle.rules.specs.Titles.{titleHolds};
-ghost use Rattle.rules.specs.Runs.{earlier, nearer, capacityAt, mergeStep, moved};
+ghost use Rattle.rules.specs.Runs.{earlier, nearer, capacityAt, mergeStep};
 
 // The earlier of two pairs, by first, then last.
 fn earlier_of(first: u32, last: u32, held: Held) -> Held
@@ -43,7 +42,7 @@ pub fn nearer_of(first: u32, last: u32, b: u32, held: Held) -> Held
 }
 
 // How many slots at the front have an index below the limit.
-pub fn slots_below(indexes: &[u32], limit: u64) -> usize
+fn slots_below(indexes: &[u32], limit: u64) -> usize
     ensures { λ r. ⌜ r ≡ below limit (now (indexes .entry)) ⌝ }
     ensures { λ r. ⌜ r ≤ length (now (indexes .entry)) ⌝ }
 {
@@ -123,30 +122,6 @@ pub fn title_holds(title: Title, b: u32) -> bool
         }
     }
     false
-}
-
-// The cut of a break at the place p, whose boundary `held` holds.
-pub fn moved_cut(held: Held, prev: usize, p: usize, indexes: &[u32]) -> Cut
-    ensures { λ r. ⌜ r ≡ moved held prev p (now (indexes .entry)) ⌝ }
-{
-    let Held::By(first, last) = held else {
-        return Cut {
-            place: p,
-            shifted: 0,
-        };
-    };
-    let start = slots_below(indexes, wide(first));
-    if start > prev {
-        return Cut {
-            place: start,
-            shifted: 1,
-        };
-    }
-    let end = slots_through(indexes, last);
-    Cut {
-        place: end,
-        shifted: 1,
-    }
 }
 
 // The mark of a run that starts at a cut: every cut past 0 is a kept manual break.

@@ -1,6 +1,7 @@
 // Page plans of measured worksheets: document 01, sections "Titles", "Runs", "Scale" and "Pages".
 mod overflow;
 mod partition;
+mod places;
 mod plan;
 mod runs;
 mod scale;

@@ -1,7 +1,7 @@
 // The call that cuts an axis into lent lists: document 01, sections "Titles" and "Runs".
+use crate::places::place_of;
 use crate::runs::count_axis;
 use crate::runs::write_axis;
-use cuts::slots_below;
 use questions::lists_even;
 use questions::partition_refusal;
 use questions::wide;
@@ -77,8 +77,8 @@ fn partition_body(
     let last = setup.last;
     let title = setup.title;
     let start = body_start(title, first);
-    let from = slots_below(indexes, start);
-    let to = slots_below(indexes, wide(last) + 1);
+    let from = place_of(indexes, start);
+    let to = place_of(indexes, wide(last) + 1);
     if to <= from {
         return Partition::Value(Tally {
             runs: 0,

@@ -1,11 +1,11 @@
 // The plan call: questions, scale, cuts and notes for both axes of a range.
 use crate::overflow::overflowing_runs;
+use crate::places::place_of;
 use crate::runs::count_axis;
 use crate::runs::write_axis;
 use crate::scale::fit_scale;
 use crate::scale::frame_at;
 use crate::title::title_total;
-use cuts::slots_below;
 use geometry::Fixed;
 use questions::lists_even;
 use questions::plan_refusal;
@@ -66,8 +66,8 @@ fn ready_axis(
     let title = widened.title;
     let titles = title_total(title, indexes, sizes);
     let start = body_start(title, axis.first);
-    let from = slots_below(indexes, start);
-    let end = slots_below(indexes, wide(axis.last) + 1);
+    let from = place_of(indexes, start);
+    let end = place_of(indexes, wide(axis.last) + 1);
     Ready {
         fit: Fit {
             page: PageSide {

@@ -1,10 +1,10 @@
 // Where the slots of an axis are cut into runs: document 01, section "Runs".
+use crate::places::moved_cut;
+use crate::places::place_of;
 use cuts::capacity_for;
 use cuts::mark_of;
 use cuts::merge_step;
-use cuts::moved_cut;
 use cuts::nearer_of;
-use cuts::slots_below;
 use cuts::title_holds;
 use questions::greater;
 use questions::lesser;
@@ -19,7 +19,7 @@ use rules::Title;
 ghost use mathlib.Core.Path.{_≡_};
 ghost use Prim.Native.Nat.{_≤_, _<_};
 ghost use lib.ListN.{length};
-ghost use Rattle.rules.specs.Slots.{Small, Slots, sum};
+ghost use Rattle.rules.specs.Slots.{Small, Rising, Slots, sum};
 ghost use Rattle.rules.specs.Runs.{holding, natural, resumed, resumption, taken, merged, runEnd, runs, firstMarked, placed, nextCut, stretch, axisRuns, axisTally};
 ghost use Rattle.rules.specs.Lent.{Room, Written, RoomAt, WrittenAt, counted};
 
@@ -237,6 +237,7 @@ fn placed_cut(
     p: usize,
 ) -> Cut
     requires { ⌜ length (now mfirsts) ≡ length (now mlasts) ⌝ }
+    requires { ⌜ Rising (now indexes) ⌝ }
     ensures { λ r. ⌜ r ≡ placed k (now (mfirsts .entry)) (now (mlasts .entry)) (now (indexes .entry)) prev p ⌝ }
 {
     if p == 0 {
@@ -268,11 +269,12 @@ fn placed_cut(
 // The last kept cut after the break b.
 fn next_cut(k: Frame, mfirsts: &[u32], mlasts: &[u32], indexes: &[u32], prev: usize, b: u32) -> Cut
     requires { ⌜ length (now mfirsts) ≡ length (now mlasts) ⌝ }
+    requires { ⌜ Rising (now indexes) ⌝ }
     requires { ⌜ prev ≤ length (now indexes) ⌝ }
     ensures { λ r. ⌜ r ≡ nextCut k (now (mfirsts .entry)) (now (mlasts .entry)) (now (indexes .entry)) prev b ⌝ }
     ensures { λ r. ⌜ (prev ≤ r .place) × (r .place ≤ length (now (indexes .entry))) × (r .shifted ≤ 1) ⌝ }
 {
-    let p = slots_below(indexes, wide(b));
+    let p = place_of(indexes, wide(b));
     let c = placed_cut(k, mfirsts, mlasts, indexes, prev, p);
     let place = c.place;
     let shifted = c.shifted;

@@ -1,6 +1,6 @@
 // What a title takes of a page: document 01, section "Titles".
+use crate::places::place_of;
 use crate::runs::total;
-use cuts::slots_below;
 use questions::wide;
 use rules::Title;
 ghost use mathlib.Core.Path.{_≡_};
@@ -15,8 +15,8 @@ pub(crate) fn title_total(title: Title, indexes: &[u32], sizes: &[u64]) -> u64
     let Title::Pair(first, last) = title else {
         return 0;
     };
-    let start = slots_below(indexes, wide(first));
-    let end = slots_below(indexes, wide(last) + 1);
+    let start = place_of(indexes, wide(first));
+    let end = place_of(indexes, wide(last) + 1);
     if end <= start {
         return 0;
     }

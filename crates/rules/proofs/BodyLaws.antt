@@ -7,24 +7,23 @@ use native.Mathlib.Omega.{arith}
 use lib.IntN.{ℤ}
 use lib.ListN.{length, getD, drop, length-map}
 use lib.Seq.{getD-take, getD-drop}
-use borrow.Author.Tests.{lt-ltb}
 use Rattle.rules.specs.declared.titles.Title.the-variants.{Absent}
 use Rattle.rules.specs.declared.runs.Frame.{Frame}
-use Rattle.rules.specs.Slots.{sum, below}
+use Rattle.rules.specs.Slots.{Rising, sum, below}
 use Rattle.rules.specs.Titles.{titleTotal, normalized, widened, widenedFrom}
 use Rattle.rules.specs.Runs.{Run, axisRuns}
 use Rattle.rules.specs.Lent.{firsts, lasts, sizes}
 use Rattle.rules.specs.Scale.{frameFor}
 use Rattle.rules.specs.Pages.{orEmpty}
 use Rattle.rules.specs.Plan.{AxisInput, titleOf, startOf, bodyOf, spaceOn, cutRuns, pageRuns}
-use Rattle.rules.specs.Division.{_∈_, Division, counts, keptBreaks, Rising, InOneRun, FewestRuns}
+use Rattle.rules.specs.Division.{_∈_, Division, counts, keptBreaks, InOneRun, FewestRuns}
 use Rattle.rules.specs.Demand.{IsBody, Bare, bodyIndexes, bodySizes, capacityBeside}
-use Rattle.rules.proofs.Laws.{either-lt, length-mid}
+use Rattle.rules.proofs.Laws.{rising-take, rising-drop, length-mid}
 use Rattle.rules.proofs.EndLaws.{below-le}
 use Rattle.rules.proofs.Division.{split}
-use Rattle.rules.proofs.Places.{rising-take}
+use Rattle.rules.proofs.Places.{below-up-to, below-past-it}
 use Rattle.rules.proofs.Whole.{axis-division}
-use Rattle.rules.proofs.OneRun.{rising-drop, axis-covered}
+use Rattle.rules.proofs.OneRun.{axis-covered}
 use Rattle.rules.proofs.Fewest.{axis-fewest-runs, kept-plain}
 
 -- ---- places of indexes
@@ -38,23 +37,6 @@ in-place : (is : List ℕ) (k : ℕ) → k < length is → getD is k 0 ∈ is
 in-place [] k h = absurd (omega arith)
 in-place (x ∷ is) zero h = inl refl
 in-place (x ∷ is) (suc k) h = inr (in-place is k (omega arith))
-
--- no slot at a limit or past it is below it
-below-up-to : (limit : ℕ) (is : List ℕ) (k : ℕ) → k < length is → limit ≤ getD is k 0 → below limit is ≤ k
-unfolding below
-below-up-to limit [] k h l = absurd (omega arith)
-below-up-to limit (x ∷ is) zero h l = either-lt (λ (n : ℕ). n ≤ 0) x limit (λ q. absurd (omega arith)) (λ q. omega arith)
-below-up-to limit (x ∷ is) (suc k) h l =
-    either-lt (λ (n : ℕ). n ≤ suc k) x limit (λ q. omega (arith, below-up-to limit is k (omega arith) l)) (λ q. omega arith)
-
--- where indexes rise, a slot below a limit is among those below it
-below-past-it : (limit : ℕ) (is : List ℕ) → Rising is → (k : ℕ) → k < length is → getD is k 0 < limit → k < below limit is
-unfolding below
-below-past-it limit [] r k h l = absurd (omega arith)
-below-past-it limit (x ∷ is) r zero h l = rw (lt-ltb x limit l) (omega arith)
-below-past-it limit (x ∷ is) r (suc k) h l =
-    let q : x < limit = omega (arith, r 0 (suc k) (omega arith) h) in
-    rw (lt-ltb x limit q) (omega (arith, below-past-it limit is (rising-drop 1 (x ∷ is) r) k (omega arith) l))
 
 module _ (a : AxisInput) where
   abbrev from : ℕ

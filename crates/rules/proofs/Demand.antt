@@ -20,7 +20,8 @@ use Rattle.rules.specs.Runs.{Run}
 use Rattle.rules.specs.Lent.{firsts, lasts, sizes}
 use Rattle.rules.specs.Pages.{RunLists, evenLists, pageAt, inOrder, pagesOf, numbered, pageNumbered}
 use Rattle.rules.specs.Plan.{AxisInput, Sides, Layout, RunsLent, Planned, contentSides, chosenScale, pageRuns, planOf, layout, layoutAt, formed, inGrid, roomFor, planned, bodyOf, spaceOn}
-use Rattle.rules.specs.Division.{Rising, LiesIn, InOneRun}
+use Rattle.rules.specs.Slots.{Rising}
+use Rattle.rules.specs.Division.{LiesIn, InOneRun}
 use Rattle.rules.specs.Fitting.{Chosen}
 use Rattle.rules.specs.Demand.{Finished, OnPage, OnOnePage, CoversPairs, Bare, FewestPlan, Exceeds, EachReaches, LargestPlan}
 use Rattle.rules.proofs.QuestionLaws.{both, rising-of}

@@ -6,12 +6,12 @@ use native.Mathlib.Nat.{not-suc-le-zero, lt-of-not-le}
 use native.Mathlib.Decide.{decLe}
 use native.Mathlib.Numerals.{add-one}
 use native.Mathlib.Omega.{arith}
-use lib.ListN.{length, getD, take, drop, length-drop, List·getD-eq-default}
+use lib.ListN.{length, getD, take, drop, length-take, length-drop, List·getD-eq-default}
 use lib.Seq.{drop-cons, drop-length, take-all, getD-drop, getD-take, length-take-le}
 use borrow.Author.Tests.{le-leb, lt-leb, lt-ltb, le-ltb}
 use mathlib.Core.Bool.{Bool, true, false, cond}
 use lib.Dec.{leb, ltb, lit<}
-use Rattle.rules.specs.Slots.{Small, Slots, sum, mid}
+use Rattle.rules.specs.Slots.{Small, Rising, Slots, sum, mid}
 use Rattle.rules.specs.Runs.{more, natural, Run, runsBy}
 
 -- what holds of both is true of the one picked
@@ -102,6 +102,15 @@ rest n l = take-all (length l - n) (drop n l) (simp length-drop (omega arith))
 pub length-part : {A : Type 0} (n : ℕ) (l : List A) → length (part n l) ≡ length l - n
 length-part n l = ap length (rest n l) ∙ length-drop n l
 
+-- indexes still rise in a part
+
+pub rising-drop : (n : ℕ) (xs : List ℕ) → Rising xs → Rising (drop n xs)
+rising-drop n xs r j k h q = rw (getD-drop n xs j 0, getD-drop n xs k 0) (r (n + j) (n + k) (omega arith) (omega (arith, length-drop n xs)))
+
+pub rising-take : (n : ℕ) (xs : List ℕ) → Rising xs → Rising (take n xs)
+rising-take n xs r j k h q =
+    let l = length-take n xs in rw (getD-take n xs j 0 (omega arith), getD-take n xs k 0 (omega arith)) (r j k h (omega arith))
+
 pub slots-part : (n : ℕ) (is ss : List ℕ) → Slots is ss → Slots (part n is) (part n ss)
 slots-part n is ss h = rw (rest n is, rest n ss) (record {
   even = simp length-drop (omega arith);
@@ -109,6 +118,7 @@ slots-part n is ss h = rw (rest n is, rest n ss) (record {
     few = simp length-drop (omega (arith, h .small .few));
     each = λ k. rw getD-drop (h .small .each (n + k));
   };
+  rising = rising-drop n is (h .rising);
 })
 
 -- a turn of a loop that takes run after run: the run at the head, and the runs of the parts after it
@@ -172,4 +182,5 @@ slots-mid a e is ss h s =
     record {
       even = length-mid a e is (omega (arith, s .even)) ∙ sym (length-mid a e ss h);
       small = small-take (e - a) (drop a ss) (simp length-drop (omega arith)) (d .small);
+      rising = rising-take (e - a) (drop a is) (d .rising);
     }

@@ -7,18 +7,16 @@ use native.Mathlib.Omega.{arith}
 use lib.ListN.{length, getD, take, drop, length-drop}
 use lib.Seq.{getD-take, getD-drop, length-take-le}
 use Rattle.rules.specs.declared.runs.Frame.{Frame}
-use Rattle.rules.specs.Slots.{sum}
+use Rattle.rules.specs.Slots.{Rising, sum}
 use Rattle.rules.specs.Runs.{axisRuns}
 use Rattle.rules.specs.Lent.{firsts, lasts}
-use Rattle.rules.specs.Division.{Division, pieces, firstOf, lastOf, Rising, LiesIn, InOneRun, Covered}
+use Rattle.rules.specs.Division.{Division, pieces, firstOf, lastOf, LiesIn, InOneRun, Covered}
+use Rattle.rules.proofs.Laws.{rising-drop}
 use Rattle.rules.proofs.Division.{split}
 use Rattle.rules.proofs.Whole.{axis-division, axis-tells}
 
 rising-le : (xs : List ℕ) → Rising xs → (j k : ℕ) → j ≤ k → k < length xs → getD xs j 0 ≤ getD xs k 0
 rising-le xs r j k h q = split k j (λ l. let e : j ≡ k = omega arith in rw e (omega arith)) (λ l. omega (arith, r j k l q))
-
-pub rising-drop : (n : ℕ) (xs : List ℕ) → Rising xs → Rising (drop n xs)
-rising-drop n xs r j k h q = rw (getD-drop n xs j 0, getD-drop n xs k 0) (r (n + j) (n + k) (omega arith) (omega (arith, length-drop n xs)))
 
 -- ---- the first run of a division, and the others
 

@@ -4,17 +4,11 @@ use mathlib.Core.Path.{_≡_, refl}
 use mathlib.Core.List.{List, [], _∷_}
 use Prim.Native.Nat.{ℕ, zero, suc, _-_, _≤_, _<_, min}
 use native.Mathlib.Omega.{arith}
-use lib.ListN.{take, drop, length-take}
-use lib.Seq.{getD-take}
+use lib.ListN.{length, getD, take, drop}
 use borrow.Author.Tests.{lt-ltb, le-ltb, le-leb, lt-leb}
-use Rattle.rules.specs.Slots.{below, through, mid}
-use Rattle.rules.specs.Division.{Rising}
+use Rattle.rules.specs.Slots.{Rising, below, through, mid}
 use Rattle.rules.proofs.Division.{split}
-use Rattle.rules.proofs.OneRun.{rising-drop}
-
-pub rising-take : (n : ℕ) (xs : List ℕ) → Rising xs → Rising (take n xs)
-rising-take n xs r j k h q =
-    let l = length-take n xs in rw (getD-take n xs j 0 (omega arith), getD-take n xs k 0 (omega arith)) (r j k h (omega arith))
+use Rattle.rules.proofs.Laws.{either-lt, rising-take, rising-drop}
 
 -- ---- one slot
 
@@ -43,6 +37,23 @@ below-past k i [] r h = refl
 below-past k i (j ∷ is) r h = below-out k j is (omega (arith, r 0 1 (omega arith) (omega arith)))
 
 -- ---- places in rising indexes
+
+-- no slot at a limit or past it is below it
+pub below-up-to : (limit : ℕ) (is : List ℕ) (k : ℕ) → k < length is → limit ≤ getD is k 0 → below limit is ≤ k
+unfolding below
+below-up-to limit [] k h l = absurd (omega arith)
+below-up-to limit (x ∷ is) zero h l = either-lt (λ (n : ℕ). n ≤ 0) x limit (λ q. absurd (omega arith)) (λ q. omega arith)
+below-up-to limit (x ∷ is) (suc k) h l =
+    either-lt (λ (n : ℕ). n ≤ suc k) x limit (λ q. omega (arith, below-up-to limit is k (omega arith) l)) (λ q. omega arith)
+
+-- where indexes rise, a slot below a limit is among those below it
+pub below-past-it : (limit : ℕ) (is : List ℕ) → Rising is → (k : ℕ) → k < length is → getD is k 0 < limit → k < below limit is
+unfolding below
+below-past-it limit [] r k h l = absurd (omega arith)
+below-past-it limit (x ∷ is) r zero h l = rw (lt-ltb x limit l) (omega arith)
+below-past-it limit (x ∷ is) r (suc k) h l =
+    let q : x < limit = omega (arith, r 0 (suc k) (omega arith) h) in
+    rw (lt-ltb x limit q) (omega (arith, below-past-it limit is (rising-drop 1 (x ∷ is) r) k (omega arith) l))
 
 -- the last slot at or below an index stands before the first one not below the next index
 pub through-below : (k : ℕ) (is : List ℕ) → Rising is → through k is ≡ below (suc k) is

@@ -144,4 +144,5 @@ small-each ss h k = omega (arith, within-each 1073741823 ss h k)
 
 -- after questions 6, 8 and 9 the slots of an axis are what the private functions rely on
 pub slots-of : (limit : ℕ) (is ss : List ℕ) → limit ≤ 1048575 → length is ≡ length ss → risingWithin limit is ≡ true → allSmall ss ≡ true → Slots is ss
-slots-of limit is ss h e r s = record { even = e; small = record { few = omega (arith, few limit is r); each = small-each ss s } }
+slots-of limit is ss h e r s =
+    record { even = e; small = record { few = omega (arith, few limit is r); each = small-each ss s }; rising = rising-of limit is r }

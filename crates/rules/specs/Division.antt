@@ -103,9 +103,6 @@ pub record MarksKept (cuts ns marks : List ℕ) : Type 0 where
 
 -- ---- covering
 
-abbrev pub Rising : List ℕ → Type 0
-Rising is = (j k : ℕ) → j < k → k < length is → getD is j 0 < getD is k 0
-
 -- the index lies in run number r: "from first to last"
 pub record LiesIn (firsts lasts : List ℕ) (index r : ℕ) : Type 0 where
   pub there : r < length firsts

@@ -11,10 +11,15 @@ pub record Small (sizes : List ℕ) : Type 0 where
   pub few : length sizes ≤ 2 ^ 20
   pub each : (k : ℕ) → getD sizes k 0 < 2 ^ 30
 
+-- "Slot indexes strictly rising": any two of them
+abbrev pub Rising : List ℕ → Type 0
+Rising is = (j k : ℕ) → j < k → k < length is → getD is j 0 < getD is k 0
+
 -- as many indexes as sizes
 pub record Slots (indexes sizes : List ℕ) : Type 0 where
   pub even : length indexes ≡ length sizes
   pub small : Small sizes
+  pub rising : Rising indexes
 
 unfoldable pub sum : List ℕ → ℕ
 sum [] = 0

@@ -12,19 +12,19 @@ use Rattle.planner.proofs.partition.partition_body.Statement.{statement
 use Rattle.planner.proofs.partition.partition_body.Tie as tie
 
 -- where the body starts, and the places of its slots
-start-is : (d : tie.After-slots-below2) → let a = d .before .before .before .before .before .before .before .before .before .before .before .before .before .args in
+start-is : (d : tie.After-place-of2) → let a = d .before .before .before .before .before .before .before .before .before .before .before .before .before .args in
     d .before .before .before .body-start .result ≡ bodyStart (a .setup .title) (a .setup .first)
 start-is d = d .before .before .before .body-start .ensures
 
-from-is : (d : tie.After-slots-below2) → let a = d .before .before .before .before .before .before .before .before .before .before .before .before .before .args in
-    d .before .before .slots-below .result ≡ below (d .before .before .before .body-start .result) (a .indexes .now)
-from-is d = d .before .before .slots-below .ensures .0
+from-is : (d : tie.After-place-of2) → let a = d .before .before .before .before .before .before .before .before .before .before .before .before .before .args in
+    d .before .before .place-of .result ≡ below (d .before .before .before .body-start .result) (a .indexes .now)
+from-is d = d .before .before .place-of .ensures .0
 
-to-is : (d : tie.After-slots-below2) → let a = d .before .before .before .before .before .before .before .before .before .before .before .before .before .args in d .slots-below2 .result ≡ below (a .setup .last + 1) (a .indexes .now)
-to-is d = let a = d .before .before .before .before .before .before .before .before .before .before .before .before .before .args in d .slots-below2 .ensures .0 ∙ ap (λ (k : ℕ). below (k + 1) (a .indexes .now)) (d .before .wide .ensures)
+to-is : (d : tie.After-place-of2) → let a = d .before .before .before .before .before .before .before .before .before .before .before .before .before .args in d .place-of2 .result ≡ below (a .setup .last + 1) (a .indexes .now)
+to-is d = let a = d .before .before .before .before .before .before .before .before .before .before .before .before .before .args in d .place-of2 .ensures .0 ∙ ap (λ (k : ℕ). below (k + 1) (a .indexes .now)) (d .before .wide .ensures)
 
 -- some slots lie in the body
-within : (d : tie.After-slots-below2) → d .before .before .slots-below .result < d .slots-below2 .result → let a = d .before .before .before .before .before .before .before .before .before .before .before .before .before .args in
+within : (d : tie.After-place-of2) → d .before .before .place-of .result < d .place-of2 .result → let a = d .before .before .before .before .before .before .before .before .before .before .before .before .before .args in
     d .before .before .before .body-start .result ≤ a .setup .last
 within d h =
     let a = d .before .before .before .before .before .before .before .before .before .before .before .before .before .args in
@@ -33,17 +33,17 @@ within d h =
 body-start-requires : tie.Need-body-start-requires
 body-start-requires c κs = search needs
 
-slots-below-requires : tie.Need-slots-below-requires
-slots-below-requires c κs = search needs
+place-of-requires : tie.Need-place-of-requires
+place-of-requires c κs = search needs
 
 wide-requires : tie.Need-wide-requires
 wide-requires c κs = search needs
 
-add-slots-below : tie.Need-add-slots-below
-add-slots-below c = search needs
+add-place-of : tie.Need-add-place-of
+add-place-of c = search needs
 
-slots-below-requires-2 : tie.Need-slots-below-requires-2
-slots-below-requires-2 c κs = search needs
+place-of-requires-2 : tie.Need-place-of-requires-2
+place-of-requires-2 c κs = search needs
 
 returns : tie.Need-returns
 returns c =
@@ -85,7 +85,7 @@ partition-slots-requires c κs =
     let s = c .before .before .before .before .before .before .before .before .before .before .before .before .before .before .before .before .before .before .before .before in
     let d = c .before .before .before .before .before .before .before in
     let a = s .args in
-    (s .pre .0, (slots-mid (d .before .before .slots-below .result) (d .slots-below2 .result) (a .indexes .now) (a .sizes .now) (omega (arith, d .slots-below2 .ensures .1, s .pre .1 .0 .even)) (s .pre .1 .0), s .pre .1 .1))
+    (s .pre .0, (slots-mid (d .before .before .place-of .result) (d .place-of2 .result) (a .indexes .now) (a .sizes .now) (omega (arith, d .place-of2 .ensures .1, s .pre .1 .0 .even)) (s .pre .1 .0), s .pre .1 .1))
 
 same-length : tie.Need-same-length
 same-length c = search needs
@@ -104,7 +104,7 @@ returns-2 c =
     let a = c .before .before .before .before .before .before .before .before .before .before .before .before .before .before .before .before .before .before .before .before .before .before .before .before .before .before .before .before .before .args in
     let d = c .before .before .before .before .before .before .before .before .before .before .before .before .before .before .before .before in
     let p = c .before .before .before .before .before .before .before .before .partition-slots in
-    found-body (a .setup) (a .indexes .now) (a .sizes .now) (a .merge-firsts .now) (a .merge-lasts .now) (a .breaks .now) (d .before .before .before .body-start .result) (d .before .before .slots-below .result) (d .slots-below2 .result) (start-is d) (from-is d) (to-is d)
+    found-body (a .setup) (a .indexes .now) (a .sizes .now) (a .merge-firsts .now) (a .merge-lasts .now) (a .breaks .now) (d .before .before .before .body-start .result) (d .before .before .place-of .result) (d .place-of2 .result) (start-is d) (from-is d) (to-is d)
     (length (a .run-firsts .now)) (p .result) (a .run-firsts .now) (a .run-lasts .now) (a .run-sizes .now) (a .run-marks .now) _ _ _ _ (p .ensures)
 
 pub partition-body-spec : {M : Type 1} → statement M
@@ -112,10 +112,10 @@ partition-body-spec =
     tie.close
     (tie.spec
     body-start-requires
-    slots-below-requires
+    place-of-requires
     wide-requires
-    add-slots-below
-    slots-below-requires-2
+    add-place-of
+    place-of-requires-2
     returns
     cast-t22
     mul-partition-slots

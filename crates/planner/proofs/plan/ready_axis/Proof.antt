@@ -24,17 +24,17 @@ title-total-requires c κs =
 body-start-requires : tie.Need-body-start-requires
 body-start-requires c κs = search needs
 
-slots-below-requires : tie.Need-slots-below-requires
-slots-below-requires c κs = search needs
+place-of-requires : tie.Need-place-of-requires
+place-of-requires c κs = search needs
 
 wide-requires : tie.Need-wide-requires
 wide-requires c κs = search needs
 
-add-slots-below : tie.Need-add-slots-below
-add-slots-below c = search needs
+add-place-of : tie.Need-add-place-of
+add-place-of c = search needs
 
-slots-below-requires-2 : tie.Need-slots-below-requires-2
-slots-below-requires-2 c κs = search needs
+place-of-requires-2 : tie.Need-place-of-requires-2
+place-of-requires-2 c κs = search needs
 
 cast-t17 : tie.Need-cast-t17
 cast-t17 c =
@@ -60,8 +60,8 @@ returns c =
       lo-is = st;
       hi-is = refl;
       target-is = refl;
-      from-is = c .before .before .before .slots-below .ensures .0 ∙ ap (λ (x : ℕ). below x is) st;
-      to-is = c .later .ensures ∙ ap (λ (x : ℕ). max (c .before .before .before .slots-below .result) x) (c .before .slots-below2 .ensures .0 ∙ ap (λ (x : ℕ). below (x + 1) is) (c .before .before .wide .ensures));
+      from-is = c .before .before .before .place-of .ensures .0 ∙ ap (λ (x : ℕ). below x is) st;
+      to-is = c .later .ensures ∙ ap (λ (x : ℕ). max (c .before .before .before .place-of .result) x) (c .before .place-of2 .ensures .0 ∙ ap (λ (x : ℕ). below (x + 1) is) (c .before .before .wide .ensures));
       ignored-is = ap (λ (x : Widened). x .ignored) w;
       expanded-is = ap (λ (x : Widened). x .expanded) w;
       low = record { headings-low = s .pre .headings-low; titles-low = rw (c .before .before .before .before .before .title-total .ensures) (title-total-le _ is (s .args .sizes .now) (s .pre .slots)) };
@@ -74,10 +74,10 @@ ready-axis-spec =
     widened-title-requires
     title-total-requires
     body-start-requires
-    slots-below-requires
+    place-of-requires
     wide-requires
-    add-slots-below
-    slots-below-requires-2
+    add-place-of
+    place-of-requires-2
     cast-t17
     later-requires
     returns)

@@ -35,7 +35,9 @@ shared-slice-read-next-cut : tie.Need-shared-slice-read-next-cut Inv-loop μ-loo
 shared-slice-read-next-cut c = search needs
 
 next-cut-requires : tie.Need-next-cut-requires Inv-loop μ-loop
-next-cut-requires c κs = search needs
+next-cut-requires c κs =
+    let s = c .before .before .before .before .before .before .before .before in
+    (s .pre .0, (s .pre .1 .rising, omega (arith, s .pre .1 .even)))
 
 mul-count-runs : tie.Need-mul-count-runs Inv-loop μ-loop
 mul-count-runs c = search needs

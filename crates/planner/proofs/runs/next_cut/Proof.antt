@@ -14,8 +14,8 @@ use Rattle.rules.specs.Runs.{kept, nextCut}
 wide-requires : tie.Need-wide-requires
 wide-requires c κs = search needs
 
-slots-below-requires : tie.Need-slots-below-requires
-slots-below-requires c κs = search needs
+place-of-requires : tie.Need-place-of-requires
+place-of-requires c κs = search needs
 
 placed-cut-requires : tie.Need-placed-cut-requires
 placed-cut-requires c κs = search needs
@@ -27,7 +27,7 @@ so : (d : tie.After-placed-cut)
     × (d .placed-cut .result .shifted ≤ 1)
 so d =
     let a = d .before .before .before .before .before .before .args in
-    let p = d .before .slots-below in (
+    let p = d .before .place-of in (
       next-is (a .k) (a .mfirsts .now) (a .mlasts .now) (a .indexes .now) (a .prev) (a .b) (p .result) (d .placed-cut .result)
           (p .ensures .0 ∙ ap (λ (n : ℕ). below n (a .indexes .now)) (d .before .before .wide .ensures)) (d .placed-cut .ensures),
       subst (λ (c : Cut). c .shifted ≤ 1) (sym (d .placed-cut .ensures)) (placed-shifted (a .k) (a .mfirsts .now) (a .mlasts .now) (a .indexes .now) (a .prev) (p .result)),
@@ -54,4 +54,4 @@ returns-3 c =
 pub next-cut-spec : {M : Type 1} → statement M
 next-cut-spec =
     tie.close
-    (tie.spec wide-requires slots-below-requires placed-cut-requires returns returns-2 returns-3)
+    (tie.spec wide-requires place-of-requires placed-cut-requires returns returns-2 returns-3)

@@ -22,17 +22,17 @@ returns c = rw (c .enum-told .given .1)
 wide-requires : tie.Need-wide-requires
 wide-requires c κs = search needs
 
-slots-below-requires : tie.Need-slots-below-requires
-slots-below-requires c κs = search needs
+place-of-requires : tie.Need-place-of-requires
+place-of-requires c κs = search needs
 
 wide-requires-2 : tie.Need-wide-requires-2
 wide-requires-2 c κs = search needs
 
-add-slots-below : tie.Need-add-slots-below
-add-slots-below c = search needs
+add-place-of : tie.Need-add-place-of
+add-place-of c = search needs
 
-slots-below-requires-2 : tie.Need-slots-below-requires-2
-slots-below-requires-2 c κs = search needs
+place-of-requires-2 : tie.Need-place-of-requires-2
+place-of-requires-2 c κs = search needs
 
 returns-2 : tie.Need-returns-2
 returns-2 c =
@@ -40,8 +40,8 @@ returns-2 c =
     let is = a .indexes .now in
     let low = c .before .before .before .before in
     total-none (a .title) _ _ is (a .sizes .now) (low .before .before .title .given .1) _ _
-    (c .before .before .before .slots-below .ensures .0 ∙ ap (λ (x : ℕ). below x is) (low .wide .ensures))
-    (c .before .slots-below2 .ensures .0 ∙ ap (λ (x : ℕ). below (x + 1) is) (c .before .before .wide2 .ensures)) (c .if1 .taken)
+    (c .before .before .before .place-of .ensures .0 ∙ ap (λ (x : ℕ). below x is) (low .wide .ensures))
+    (c .before .place-of2 .ensures .0 ∙ ap (λ (x : ℕ). below (x + 1) is) (c .before .before .wide2 .ensures)) (c .if1 .taken)
 
 mul-total : tie.Need-mul-total
 mul-total c = search needs
@@ -58,7 +58,7 @@ part-total-end c = search needs
 total-requires : tie.Need-total-requires
 total-requires c κs =
     let s = c .before .before .before .before .before .before .before .before .before .before .before in
-    slots-mid (c .before .before .before .before .slots-below .result) (c .before .before .slots-below2 .result) (s .args .indexes .now) (s .args .sizes .now) (search needs) (s .pre) .small
+    slots-mid (c .before .before .before .before .place-of .result) (c .before .before .place-of2 .result) (s .args .indexes .now) (s .args .sizes .now) (search needs) (s .pre) .small
 
 returns-3 : tie.Need-returns-3
 returns-3 c =
@@ -66,8 +66,8 @@ returns-3 c =
     let is = a .indexes .now in
     let low = c .before .before .before .before .before .before in
     c .total .ensures ∙ total-some (a .title) _ _ is (a .sizes .now) (low .before .before .title .given .1) _ _
-    (c .before .before .before .before .before .slots-below .ensures .0 ∙ ap (λ (x : ℕ). below x is) (low .wide .ensures))
-    (c .before .before .before .slots-below2 .ensures .0 ∙ ap (λ (x : ℕ). below (x + 1) is) (c .before .before .before .before .wide2 .ensures))
+    (c .before .before .before .before .before .place-of .ensures .0 ∙ ap (λ (x : ℕ). below x is) (low .wide .ensures))
+    (c .before .before .before .place-of2 .ensures .0 ∙ ap (λ (x : ℕ). below (x + 1) is) (c .before .before .before .before .wide2 .ensures))
 
 pub title-total-spec : {M : Type 1} → statement M
 title-total-spec =
@@ -77,10 +77,10 @@ title-total-spec =
     enum-told
     returns
     wide-requires
-    slots-below-requires
+    place-of-requires
     wide-requires-2
-    add-slots-below
-    slots-below-requires-2
+    add-place-of
+    place-of-requires-2
     returns-2
     mul-total
     sub-total
