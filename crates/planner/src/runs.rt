@@ -1,4 +1,6 @@
 // Where the slots of an axis are cut into runs: document 01, section "Runs".
+use crate::filling::natural_fill;
+use crate::filling::total;
 use crate::places::moved_cut;
 use crate::places::place_of;
 use cuts::capacity_for;
@@ -19,8 +21,8 @@ use rules::Title;
 ghost use mathlib.Core.Path.{_≡_};
 ghost use Prim.Native.Nat.{_≤_, _<_};
 ghost use lib.ListN.{length};
-ghost use Rattle.rules.specs.Slots.{Small, Rising, Slots, sum};
-ghost use Rattle.rules.specs.Runs.{holding, natural, resumed, resumption, taken, merged, runEnd, runs, firstMarked, placed, nextCut, stretch, axisRuns, axisTally};
+ghost use Rattle.rules.specs.Slots.{Rising, Slots};
+ghost use Rattle.rules.specs.Runs.{holding, resumed, resumption, taken, merged, runEnd, runs, firstMarked, placed, nextCut, stretch, axisRuns, axisTally};
 ghost use Rattle.rules.specs.Lent.{Room, Written, RoomAt, WrittenAt, counted};
 
 // The earliest merge that holds b, clipped to the stretch.
@@ -37,40 +39,6 @@ fn holding_merge(firsts: &[u32], lasts: &[u32], lo: u32, hi: u32, b: u32) -> Hel
         held = nearer_of(f, l, b, held);
     }
     held
-}
-
-// How many slots a run takes by filling alone: the first, and the next while the sum stays within the capacity.
-fn natural_fill(sizes: &[u64], capacity: u64) -> usize
-    requires { ⌜ Small (now sizes) ⌝ }
-    requires { ⌜ 0 < length (now sizes) ⌝ }
-    ensures { λ r. ⌜ r ≡ natural capacity (now (sizes .entry)) ⌝ }
-    ensures { λ r. ⌜ (1 ≤ r) × (r ≤ length (now (sizes .entry))) ⌝ }
-{
-    let mut sum = sizes[0];
-    let mut n = 1;
-    while n < sizes.len() {
-        let next = sum + sizes[n];
-        if next > capacity {
-            return n;
-        }
-        sum = next;
-        n += 1;
-    }
-    n
-}
-
-// The sum of a stretch.
-pub(crate) fn total(sizes: &[u64]) -> u64
-    requires { ⌜ Small (now sizes) ⌝ }
-    ensures { λ r. ⌜ r ≡ sum (now (sizes .entry)) ⌝ }
-{
-    let mut i = sizes.len();
-    let mut t = 0;
-    while i > 0 {
-        i -= 1;
-        t += sizes[i];
-    }
-    t
 }
 
 // How many slots are taken on from a boundary that the title holds.

@@ -1,6 +1,6 @@
 // How large a worksheet is printed: document 01, section "Scale".
+use crate::filling::total;
 use crate::runs::run_end;
-use crate::runs::total;
 use geometry::Fixed;
 use geometry::Length;
 use rules::ChosenScale;

@@ -1,6 +1,6 @@
 // What a title takes of a page: document 01, section "Titles".
+use crate::filling::total;
 use crate::places::place_of;
-use crate::runs::total;
 use questions::wide;
 use rules::Title;
 ghost use mathlib.Core.Path.{_≡_};

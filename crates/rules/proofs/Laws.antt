@@ -7,7 +7,7 @@ use native.Mathlib.Decide.{decLe}
 use native.Mathlib.Numerals.{add-one}
 use native.Mathlib.Omega.{arith}
 use lib.ListN.{length, getD, take, drop, length-take, length-drop, List·getD-eq-default}
-use lib.Seq.{drop-cons, drop-length, take-all, getD-drop, getD-take, length-take-le}
+use lib.Seq.{drop-cons, drop-drop, drop-length, take-all, getD-drop, getD-take, length-take-le}
 use borrow.Author.Tests.{le-leb, lt-leb, lt-ltb, le-ltb}
 use mathlib.Core.Bool.{Bool, true, false, cond}
 use lib.Dec.{leb, ltb, lit<}
@@ -36,6 +36,23 @@ more-no cap s n l h k = rw (drop-cons l n 0, lt-leb (s + getD l n 0) cap)
 pub more-end : (cap s n : ℕ) (l : List ℕ) → length l ≤ n → more cap s (drop n l) ≡ 0
 unfolding more
 more-end cap s n l h = rw (lib.ListN.drop-of-length-le l h)
+
+-- as many as stay within the capacity go onto the sum at once
+more-many : (cap s m : ℕ) (l : List ℕ) → m ≤ length l → s + sum (take m l) ≤ cap → more cap s l ≡ m + more cap (s + sum (take m l)) (drop m l)
+unfolding more sum
+more-many cap s zero l h k = let e : s + 0 ≡ s = omega arith in rw e (omega arith)
+more-many cap s (suc m) [] h k = absurd (omega arith)
+more-many cap s (suc m) (x ∷ xs) h k =
+    let e : s + (x + sum (take m xs)) ≡ s + x + sum (take m xs) = omega arith in
+    rw (le-leb (s + x) cap (omega arith), e) (omega (arith, more-many cap (s + x) m xs (omega arith) (omega arith)))
+
+-- so the m slots from n on do
+pub more-part : (cap s m n : ℕ) (l : List ℕ) → n + m ≤ length l → s + sum (mid n (n + m) l) ≤ cap
+    → more cap s (drop n l) ≡ m + more cap (s + sum (mid n (n + m) l)) (drop (n + m) l)
+more-part cap s m n l h k =
+    let e : n + m - n ≡ m = omega arith in
+    let q = rw e at k in
+    rw (e, ← drop-drop) (more-many cap s m (drop n l) (simp length-drop (omega arith)) q)
 
 pub natural-start : (cap : ℕ) (l : List ℕ) → 0 < length l → 1 + more cap (getD l 0 0) (drop 1 l) ≡ natural cap l
 unfolding natural
@@ -111,15 +128,12 @@ pub rising-take : (n : ℕ) (xs : List ℕ) → Rising xs → Rising (take n xs)
 rising-take n xs r j k h q =
     let l = length-take n xs in rw (getD-take n xs j 0 (omega arith), getD-take n xs k 0 (omega arith)) (r j k h (omega arith))
 
+small-drop : (n : ℕ) (l : List ℕ) → Small l → Small (drop n l)
+small-drop n l s = record { few = simp length-drop (omega (arith, s .few)); each = λ k. rw getD-drop (s .each (n + k)) }
+
 pub slots-part : (n : ℕ) (is ss : List ℕ) → Slots is ss → Slots (part n is) (part n ss)
-slots-part n is ss h = rw (rest n is, rest n ss) (record {
-  even = simp length-drop (omega arith);
-  small = record {
-    few = simp length-drop (omega (arith, h .small .few));
-    each = λ k. rw getD-drop (h .small .each (n + k));
-  };
-  rising = rising-drop n is (h .rising);
-})
+slots-part n is ss h =
+    rw (rest n is, rest n ss) (record { even = simp length-drop (omega arith); small = small-drop n ss (h .small); rising = rising-drop n is (h .rising) })
 
 -- a turn of a loop that takes run after run: the run at the head, and the runs of the parts after it
 pub turn : (at : List ℕ → List ℕ → Run) (n : ℕ) (is ss : List ℕ) → Slots is ss → 0 < length ss → n ≡ at is ss .slots → 1 ≤ n
@@ -146,6 +160,25 @@ sum-back l i h k = rw (drop-back l i 0)
 pub sum-none : (l : List ℕ) → 0 ≡ sum (drop (length l) l)
 unfolding sum
 sum-none l = rw drop-length
+
+-- eight in two halves, each of two pairs
+pub sum-eight : (l : List ℕ) → length l ≡ 8
+    → getD l 0 0 + getD l 1 0 + (getD l 2 0 + getD l 3 0) + (getD l 4 0 + getD l 5 0 + (getD l 6 0 + getD l 7 0)) ≡ sum l
+sum-eight l e =
+    let at : (i : ℕ) → 0 < i → i ≤ 8 → sum (drop (i - 1) l) ≡ getD l (i - 1) 0 + sum (drop i l) = λ i h k. sum-back l i h (omega (arith, e)) in
+    let none : 0 ≡ sum (drop 8 l) = rw e at (sum-none l) in
+    omega (
+      arith,
+      none,
+      at 1 (omega arith) (omega arith),
+      at 2 (omega arith) (omega arith),
+      at 3 (omega arith) (omega arith),
+      at 4 (omega arith) (omega arith),
+      at 5 (omega arith) (omega arith),
+      at 6 (omega arith) (omega arith),
+      at 7 (omega arith) (omega arith),
+      at 8 (omega arith) (omega arith),
+    )
 
 pub some : (at : List ℕ → List ℕ → Run) (is ss : List ℕ) → 0 < length ss → length is ≡ length ss → 1 ≤ length (runsBy at zero is ss)
 unfolding runsBy
@@ -176,11 +209,12 @@ either-lt P a b {x} {y} f g =
 pub length-mid : {A : Type 0} (a e : ℕ) (l : List A) → e ≤ length l → length (mid a e l) ≡ e - a
 length-mid a e l h = length-take-le (e - a) (drop a l) (simp length-drop (omega arith))
 
+pub small-mid : (a e : ℕ) (l : List ℕ) → e ≤ length l → Small l → Small (mid a e l)
+small-mid a e l h s = small-take (e - a) (drop a l) (simp length-drop (omega arith)) (small-drop a l s)
+
 pub slots-mid : (a e : ℕ) (is ss : List ℕ) → e ≤ length ss → Slots is ss → Slots (mid a e is) (mid a e ss)
-slots-mid a e is ss h s =
-    let d : Slots (drop a is) (drop a ss) = rw (rest a is, rest a ss) at (slots-part a is ss s) in
-    record {
-      even = length-mid a e is (omega (arith, s .even)) ∙ sym (length-mid a e ss h);
-      small = small-take (e - a) (drop a ss) (simp length-drop (omega arith)) (d .small);
-      rising = rising-take (e - a) (drop a is) (d .rising);
-    }
+slots-mid a e is ss h s = record {
+  even = length-mid a e is (omega (arith, s .even)) ∙ sym (length-mid a e ss h);
+  small = small-mid a e ss h (s .small);
+  rising = rising-take (e - a) (drop a is) (rising-drop a is (s .rising));
+}

@@ -1,13 +1,13 @@
--- `planner::runs::natural_fill` meets its contract. The loop's invariant: what is taken, and what the definition still takes from here, is the whole.
+-- `planner::filling::natural_fill` meets its contract. The loop's invariant: what is taken, and what the definition still takes from here, is the whole.
 -- Assumes nothing.
-use Rattle.rules.proofs.Laws.{more-yes, more-no, more-end, natural-start}
+use Rattle.rules.proofs.Laws.{more-yes, more-no, more-end}
 use lib.ListN.{length, drop}
 use Prim.Native.Nat.{_+_, _*_, _-_, _≤_}
 use mathlib.Core.Path.{_≡_}
 use borrow.Author.Needs.{needs}
 use native.Mathlib.Omega.{arith}
-use Rattle.planner.proofs.runs.natural_fill.Statement.{statement}
-use Rattle.planner.proofs.runs.natural_fill.Tie as tie
+use Rattle.planner.proofs.filling.natural_fill.Statement.{statement}
+use Rattle.planner.proofs.filling.natural_fill.Tie as tie
 use Rattle.rules.specs.Runs.{more, natural}
 
 abbrev Inv-loop : tie.InvT-loop
@@ -17,12 +17,11 @@ Inv-loop sizes capacity sum₀ n₀ sum n =
 abbrev μ-loop : tie.MeasureT-loop
 μ-loop sizes capacity sum₀ n₀ sum n = length sizes - n
 
-shared-slice-read-sum : tie.Need-shared-slice-read-sum Inv-loop μ-loop
-shared-slice-read-sum c = search needs
+fill-by-eight-requires : tie.Need-fill-by-eight-requires Inv-loop μ-loop
+fill-by-eight-requires c κs = search needs
 
 loop-holds : tie.Need-loop-holds Inv-loop μ-loop
-loop-holds c =
-    (search needs, search needs, omega (arith, c .before .pre .0 .each 0), natural-start _ _ (c .before .pre .1))
+loop-holds c = let e = c .fill-by-eight .ensures in (e .1 .0, e .1 .1, e .1 .2, e .0)
 
 mul-next : tie.Need-mul-next Inv-loop μ-loop
 mul-next c = search needs
@@ -31,12 +30,12 @@ shared-slice-read-next : tie.Need-shared-slice-read-next Inv-loop μ-loop
 shared-slice-read-next c = search needs
 
 add-next : tie.Need-add-next Inv-loop μ-loop
-add-next c = omega (arith, c .before .before .before .before .pre .0 .each (c .before .before .loop .n))
+add-next c = omega (arith, c .before .before .before .before .before .pre .0 .each (c .before .before .loop .n))
 
 returns : tie.Need-returns Inv-loop μ-loop
 returns c =
     let l = c .before .before .before .loop in
-    let s = c .before .before .before .before .before in
+    let s = c .before .before .before .before .before .before in
     omega (arith, more-no (s .args .capacity) (l .sum) (l .n) (s .args .sizes .now) (c .before .before .loop-test .taken) (c .if1 .taken))
 
 add-n : tie.Need-add-n Inv-loop μ-loop
@@ -48,7 +47,7 @@ loop-less c = search needs
 loop-again : tie.Need-loop-again Inv-loop μ-loop
 loop-again c =
     let l = c .before .before .before .loop in
-    let s = c .before .before .before .before .before in (
+    let s = c .before .before .before .before .before .before in (
       search needs,
       search needs,
       omega (arith, s .pre .0 .each (l .n)),
@@ -58,7 +57,7 @@ loop-again c =
 returns-2 : tie.Need-returns-2 Inv-loop μ-loop
 returns-2 c =
     let l = c .before .loop in
-    let s = c .before .before .before in
+    let s = c .before .before .before .before in
     omega (arith, more-end (s .args .capacity) (l .sum) (l .n) (s .args .sizes .now) (c .loop-test .left))
 
 pub natural-fill-spec : {M : Type 1} → statement M
@@ -67,7 +66,7 @@ natural-fill-spec =
     (tie.spec
     Inv-loop
     μ-loop
-    shared-slice-read-sum
+    fill-by-eight-requires
     loop-holds
     mul-next
     shared-slice-read-next

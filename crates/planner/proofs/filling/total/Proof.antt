@@ -1,4 +1,4 @@
--- `planner::runs::total` meets its contract. The loop goes down, so that its invariant is the definition at what was passed.
+-- `planner::filling::total` meets its contract. The loop goes down, so that its invariant is the definition at what was passed.
 -- Assumes nothing.
 use Rattle.rules.proofs.Laws.{sum-back, sum-none}
 use lib.ListN.{length, drop}
@@ -6,8 +6,8 @@ use Prim.Native.Nat.{_+_, _*_, _-_, _≤_}
 use mathlib.Core.Path.{_≡_}
 use borrow.Author.Needs.{needs}
 use native.Mathlib.Omega.{arith}
-use Rattle.planner.proofs.runs.total.Statement.{statement}
-use Rattle.planner.proofs.runs.total.Tie as tie
+use Rattle.planner.proofs.filling.total.Statement.{statement}
+use Rattle.planner.proofs.filling.total.Tie as tie
 use Rattle.rules.specs.Slots.{sum}
 
 abbrev Inv-loop : tie.InvT-loop
