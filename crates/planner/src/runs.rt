@@ -34,9 +34,13 @@ fn holding_merge(firsts: &[u32], lasts: &[u32], lo: u32, hi: u32, b: u32) -> Hel
     let mut held = Held::Free;
     while i > 0 {
         i -= 1;
-        let f = greater(firsts[i], lo);
-        let l = lesser(lasts[i], hi);
-        held = nearer_of(f, l, b, held);
+        let first = firsts[i];
+        if first < b {
+            let last = lasts[i];
+            if b <= last {
+                held = nearer_of(greater(first, lo), lesser(last, hi), b, held);
+            }
+        }
     }
     held
 }

@@ -5,6 +5,9 @@ use Prim.Native.Nat.{ℕ, _-_, _≤_, _<_, min, max}
 use native.Mathlib.Omega.{arith}
 use lib.ListN.{length, getD, drop}
 use lib.Seq.{drop-length}
+use borrow.Author.Tests.{le-ltb, lt-leb}
+use mathlib.Core.Bool.{and-false}
+use Rattle.rules.specs.declared.runs.Held.{Held}
 use Rattle.rules.specs.declared.runs.Held.the-variants.{Free}
 use Rattle.rules.proofs.Laws.{drop-back}
 use Rattle.rules.specs.Runs.{nearer, holding}
@@ -18,3 +21,13 @@ pub holding-back : (lo hi b i : ℕ) (fs ls : List ℕ) → 0 < i → i ≤ leng
     ≡ nearer (max (getD fs (i - 1) 0) lo) (min (getD ls (i - 1) 0) hi) b (holding lo hi b (drop i fs) (drop i ls))
 unfolding holding
 holding-back lo hi b i fs ls h k m = rw (drop-back fs i 0, drop-back ls i 0)
+
+-- a pair that starts at b or past it does not hold b, wherever its first is clipped to
+pub nearer-late : (lo f l b : ℕ) (held : Held) → b ≤ f → nearer (max f lo) l b held ≡ held
+unfolding nearer
+nearer-late lo f l b held h = rw (le-ltb (max f lo) b (omega arith))
+
+-- nor does one that ends before b
+pub nearer-short : (hi f l b : ℕ) (held : Held) → l < b → nearer f (min l hi) b held ≡ held
+unfolding nearer
+nearer-short hi f l b held h = rw (lt-leb b (min l hi) (omega arith), and-false)

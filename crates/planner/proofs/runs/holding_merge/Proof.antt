@@ -1,9 +1,9 @@
 -- `planner::runs::holding_merge` meets its contract. The loop goes down, so that its invariant is the definition at the merges passed.
 -- Assumes nothing.
-use Rattle.rules.proofs.MergeLaws.{holding-none, holding-back}
+use Rattle.rules.proofs.MergeLaws.{holding-none, holding-back, nearer-late, nearer-short}
 use mathlib.Core.Path.{_≡_, sym, _∙_}
-use lib.ListN.{length, drop}
-use Prim.Native.Nat.{_+_, _*_, _-_, _≤_}
+use lib.ListN.{length, getD, drop}
+use Prim.Native.Nat.{_+_, _*_, _-_, _≤_, min, max}
 use borrow.Author.Needs.{needs}
 use native.Mathlib.Omega.{arith}
 use Rattle.planner.proofs.runs.holding_merge.Statement.{statement}
@@ -16,26 +16,35 @@ Inv-loop firsts lasts lo hi b i₀ held₀ i held = (i ≤ length firsts) × (he
 abbrev μ-loop : tie.MeasureT-loop
 μ-loop firsts lasts lo hi b i₀ held₀ i held = i
 
+-- what the merge at the loop's place does to what was found behind it
+step : (d : tie.In-loop Inv-loop μ-loop) → let a = d .before .before .before .before .args in let l = d .before .loop in
+    holding (a .lo) (a .hi) (a .b) (drop (l .i - 1) (a .firsts .now)) (drop (l .i - 1) (a .lasts .now))
+    ≡ nearer (max (getD (a .firsts .now) (l .i - 1) 0) (a .lo)) (min (getD (a .lasts .now) (l .i - 1) 0) (a .hi)) (a .b) (l .held)
+step d =
+    let a = d .before .before .before .before .args in
+    let l = d .before .loop in
+    holding-back (a .lo) (a .hi) (a .b) (l .i) (a .firsts .now) (a .lasts .now) (search needs) (search needs) (search needs) ∙ rw (l .inv .1)
+
 loop-holds : tie.Need-loop-holds Inv-loop μ-loop
 loop-holds c = let s = c .before .before .args in (search needs, holding-none (s .lo) (s .hi) (s .b) (s .firsts .now) (drop (length (s .firsts .now)) (s .lasts .now)))
 
 sub-i : tie.Need-sub-i Inv-loop μ-loop
 sub-i c = search needs
 
-mul-greater : tie.Need-mul-greater Inv-loop μ-loop
-mul-greater c = search needs
+mul-first : tie.Need-mul-first Inv-loop μ-loop
+mul-first c = search needs
 
-shared-slice-read-greater : tie.Need-shared-slice-read-greater Inv-loop μ-loop
-shared-slice-read-greater c = search needs
+shared-slice-read-first : tie.Need-shared-slice-read-first Inv-loop μ-loop
+shared-slice-read-first c = search needs
+
+mul-last : tie.Need-mul-last Inv-loop μ-loop
+mul-last c = search needs
+
+shared-slice-read-last : tie.Need-shared-slice-read-last Inv-loop μ-loop
+shared-slice-read-last c = search needs
 
 greater-requires : tie.Need-greater-requires Inv-loop μ-loop
 greater-requires c κs = search needs
-
-mul-lesser : tie.Need-mul-lesser Inv-loop μ-loop
-mul-lesser c = search needs
-
-shared-slice-read-lesser : tie.Need-shared-slice-read-lesser Inv-loop μ-loop
-shared-slice-read-lesser c = search needs
 
 lesser-requires : tie.Need-lesser-requires Inv-loop μ-loop
 lesser-requires c κs = search needs
@@ -47,18 +56,25 @@ loop-less : tie.Need-loop-less Inv-loop μ-loop
 loop-less c = search needs
 
 loop-again : tie.Need-loop-again Inv-loop μ-loop
-loop-again c =
-    let l = c .before .before .before .before .before .before .loop in
-    let s = c .before .before .before .before .before .before .before .before .before .args in (
-      search needs,
-      cc (
-        holding-back (s .lo) (s .hi) (s .b) (l .i) (s .firsts .now) (s .lasts .now) (search needs) (search needs) (search needs),
-        c .nearer-of .ensures,
-        c .before .lesser .ensures,
-        c .before .before .before .greater .ensures,
-        l .inv .1,
-      ),
-    )
+loop-again c = (search needs, cc (step (c .before .before .before .before .before .before .before), c .nearer-of .ensures, c .before .lesser .ensures, c .before .before .greater .ensures))
+
+loop-less-2 : tie.Need-loop-less-2 Inv-loop μ-loop
+loop-less-2 c = search needs
+
+loop-again-2 : tie.Need-loop-again-2 Inv-loop μ-loop
+loop-again-2 c =
+    let d = c .before .before .before .before in
+    let a = d .before .before .before .before .args in
+    (search needs, sym (step d ∙ nearer-short (a .hi) _ _ (a .b) _ (c .if2 .left)))
+
+loop-less-3 : tie.Need-loop-less-3 Inv-loop μ-loop
+loop-less-3 c = search needs
+
+loop-again-3 : tie.Need-loop-again-3 Inv-loop μ-loop
+loop-again-3 c =
+    let d = c .before .before in
+    let a = d .before .before .before .before .args in
+    (search needs, sym (step d ∙ nearer-late (a .lo) _ _ (a .b) _ (c .if1 .left)))
 
 returns : tie.Need-returns Inv-loop μ-loop
 returns c =
@@ -73,13 +89,17 @@ holding-merge-spec =
     μ-loop
     loop-holds
     sub-i
-    mul-greater
-    shared-slice-read-greater
+    mul-first
+    shared-slice-read-first
+    mul-last
+    shared-slice-read-last
     greater-requires
-    mul-lesser
-    shared-slice-read-lesser
     lesser-requires
     nearer-of-requires
     loop-less
     loop-again
+    loop-less-2
+    loop-again-2
+    loop-less-3
+    loop-again-3
     returns)
