@@ -2,15 +2,18 @@
 // Document 01, section "Runs".
 use questions::lesser;
 use questions::wide;
+use rules::FinalCut;
 use rules::Frame;
 use rules::Held;
 use rules::RunEnd;
+use rules::Tally;
 use rules::Title;
 ghost use mathlib.Core.Path.{_≡_};
 ghost use Prim.Native.Nat.{_≤_, min};
 ghost use lib.ListN.{length};
 ghost use Rattle.rules.specs.Slots.{below, through};
 ghost use Rattle.rules.specs.Titles.{titleHolds};
+ghost use Rattle.rules.specs.Plan.{cutFrom};
 ghost use Rattle.rules.specs.Runs.{earlier, nearer, capacityAt, mergeStep};
 
 // The earlier of two pairs, by first, then last.
@@ -129,4 +132,17 @@ pub fn mark_of(cut: usize) -> u8
     ensures { λ r. ⌜ r ≡ min cut 1 ⌝ }
 {
     if cut > 0 { 1 } else { 0 }
+}
+
+// The final cut of an axis, of what was counted: an axis without runs gets one.
+pub fn final_cut(tally: Tally) -> FinalCut
+    ensures { λ r. ⌜ r ≡ cutFrom tally ⌝ }
+{
+    let empty = tally.runs == 0;
+    FinalCut {
+        runs: if empty { 1 } else { tally.runs },
+        empty,
+        expansions: tally.expansions,
+        shifts: tally.shifts,
+    }
 }

@@ -6,9 +6,11 @@ use crate::runs::write_axis;
 use crate::scale::fit_scale;
 use crate::scale::frame_at;
 use crate::title::title_total;
+use cuts::final_cut;
 use geometry::Fixed;
 use questions::lists_even;
 use questions::plan_refusal;
+use questions::room_refusal;
 use questions::wide;
 use rules::AxisRange;
 use rules::ChosenScale;
@@ -163,13 +165,7 @@ fn count_cut(
         &indexes[from..to],
         &sizes[from..to],
     );
-    let empty = tally.runs == 0;
-    FinalCut {
-        runs: if empty { 1 } else { tally.runs },
-        empty,
-        expansions: tally.expansions,
-        shifts: tally.shifts,
-    }
+    final_cut(tally)
 }
 
 // Writes the run of an axis without slots: at the range's first, size 0.
@@ -364,15 +360,15 @@ fn plan_cut(
         column_indexes,
         column_sizes,
     );
-    if row_cut.runs > row_run_firsts.len() {
-        return Planning::Refused(11);
-    }
-    if column_cut.runs > column_run_firsts.len() {
-        return Planning::Refused(11);
-    }
-    let pages = (row_cut.runs as u64) * (column_cut.runs as u64);
-    if pages > settings.page_limit {
-        return Planning::Refused(12);
+    let refusal = room_refusal(
+        row_cut.runs,
+        column_cut.runs,
+        row_run_firsts.len(),
+        column_run_firsts.len(),
+        settings.page_limit,
+    );
+    if refusal > 0 {
+        return Planning::Refused(refusal);
     }
     let row_overflows = write_cut(
         rows,
@@ -411,7 +407,7 @@ fn plan_cut(
         column_runs: column_cut.runs,
         rows_empty: row_cut.empty,
         columns_empty: column_cut.empty,
-        pages,
+        pages: (row_cut.runs as u64) * (column_cut.runs as u64),
         order,
         notes: notes_of(
             sides,

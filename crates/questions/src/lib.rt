@@ -249,3 +249,28 @@ fn first_refused(six: bool, seven: bool, eight: bool, nine: bool) -> u8
     }
     if nine { 0 } else { 9 }
 }
+
+// 11, then 12, of so many runs of rows and of columns: the number of the first whose answer is no, or 0. The product of the runs is not
+// formed, since any two numbers may be handed over.
+pub fn room_refusal(
+    rows: usize,
+    columns: usize,
+    row_room: usize,
+    column_room: usize,
+    limit: u64,
+) -> u8
+    ensures { λ r. ⌜ r ≡ call.roomNo rows columns «row_room» «column_room» limit ⌝ }
+{
+    if rows > row_room {
+        return 11;
+    }
+    if columns > column_room {
+        return 11;
+    }
+    if rows > 0 {
+        if limit / (rows as u64) < columns as u64 {
+            return 12;
+        }
+    }
+    0
+}

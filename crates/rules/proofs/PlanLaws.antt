@@ -26,12 +26,12 @@ use Rattle.rules.specs.declared.plan.Planning.the-variants.{Value, Refus
 use Rattle.rules.specs.Slots.{Slots, sum, below}
 use Rattle.rules.specs.Questions.{ask, equallyLong, allOrdered, allWithin, risingWithin, allSmall}
 use Rattle.rules.specs.Titles.{limitOf, widened, bodyStart}
-use Rattle.rules.specs.Runs.{Run, axisRuns, shifts, expansions}
+use Rattle.rules.specs.Runs.{Run, axisRuns, shifts, expansions, tallies}
 use Rattle.rules.specs.Lent.{firsts, lasts, sizes, marks, Room, Written}
 use Rattle.rules.specs.Partition.{lentEven, noOr, Even}
 use Rattle.rules.specs.Scale.{Scale, Space, spaceOf, bodyFor, frameFor, fitsSide, axisPasses, fitPasses, fitScale, fixedScale}
 use Rattle.rules.specs.Pages.{RunLists, runLists, evenLists, none, orEmpty, printed, overflowing, Moderate}
-use Rattle.rules.specs.Plan.{AxisInput, rowsOf, columnsOf, AreRows, AreColumns, Sides, titleOf, startOf, bodyPart, bodyOf, spaceOn, lookedAt, contentSides, chosenScale, cutRuns, cutShifts, pageRuns, overflows, Layout, planOf, layoutAt, layout, RunsLent, roomFor, planned, formed, inGrid, firstNo, Planned, axisFor, Fine, ReadyFor, within, readyFrame, readyRuns, readyShifts, cutOf, Cuttable}
+use Rattle.rules.specs.Plan.{AxisInput, rowsOf, columnsOf, AreRows, AreColumns, Sides, titleOf, startOf, bodyPart, bodyOf, spaceOn, lookedAt, contentSides, chosenScale, cutRuns, cutShifts, pageRuns, overflows, Layout, planOf, layoutAt, layout, RunsLent, roomFor, planned, formed, inGrid, firstNo, Planned, axisFor, Fine, ReadyFor, within, readyFrame, readyRuns, readyShifts, cutOf, cutFrom, roomNo, Cuttable}
 use Rattle.rules.proofs.QuestionLaws.{both, slots-of}
 use Rattle.rules.proofs.PartitionLaws.{stops, goes}
 use Rattle.rules.proofs.Laws.{either}
@@ -204,16 +204,9 @@ pub as-many : (first : ℕ) (rs : List Run) → length (orEmpty first rs) ≡ le
 as-many first [] = refl
 as-many first (r ∷ rs) = refl
 
-abbrev pub cutAs : ℕ → Bool → ℕ → ℕ → FinalCut
-cutAs n empty grown k = record { runs = n; empty = empty; expansions = grown; shifts = k }
-
-pub cut-none : (rs : List Run) (k : ℕ) → length rs ≡ 0 → cutAs 1 (eqb (length rs) 0) (expansions rs) k ≡ cutOf rs k
-cut-none [] k e = refl
-cut-none (r ∷ rs) k e = absurd (omega arith)
-
-pub cut-some : (rs : List Run) (k : ℕ) → ¬ (length rs ≡ 0) → cutAs (length rs) (eqb (length rs) 0) (expansions rs) k ≡ cutOf rs k
-cut-some [] k e = absurd (e refl)
-cut-some (r ∷ rs) k e = rw (ne-eqb (length (r ∷ rs)) 0 (λ z. omega arith))
+pub cut-from : (rs : List Run) (k : ℕ) → cutFrom (tallies (length rs) (expansions rs) k) ≡ cutOf rs k
+cut-from [] k = refl
+cut-from (r ∷ rs) k = let e : max (length (r ∷ rs)) 1 ≡ length (r ∷ rs) = omega arith in rw (ne-eqb (length (r ∷ rs)) 0 (λ z. omega arith), e)
 
 -- a final cut is of the body's runs
 pub cut-of : (r : Ready) (side : ℤ) (a : AxisInput) → ReadyFor r side a → (p : ℕ) (c : FinalCut)
@@ -270,25 +263,51 @@ module _ (o : Outcome Layout) (l : Layout) (p : Plan) (e : o ≡ given l) (q : p
         columns-are = lent-of l (l .columns) n f₁ l₁ z₁ m₁ f₂ g₂ z₂ k₂ w;
       })
 
--- 11 and 12, way by way
-module _ (l : Layout) (row-room column-room limit : ℕ) where
-  pub no-row-room : row-room < length (l .rows) → roomFor l row-room column-room limit ≡ refused 11
+-- 11 and 12 of m runs of rows and n of columns, by the number r of the first that is answered no
+module _ (l : Layout) (m n row-room column-room limit r : ℕ) (rows-are : length (l .rows) ≡ m) (columns-are : length (l .columns) ≡ n)
+         (pages-are : l .plan .pages ≡ m * n) (e : r ≡ roomNo m n row-room column-room limit) where
+  abbrev fits : Bool
+  fits = leb (length (l .rows)) row-room && leb (length (l .columns)) column-room
+
+  abbrev few : Bool
+  few = leb (l .plan .pages) limit
+
+  by-number : r ≡ noOr 11 fits (noOr 12 few 0)
+  unfolding roomNo
+  by-number = rw (rows-are, columns-are, pages-are) e
+
+  pub room-refused : 0 < r → roomFor l row-room column-room limit ≡ refused r
   unfolding roomFor
-  no-row-room h = rw (lt-leb (length (l .rows)) row-room h)
+  room-refused h = go fits few by-number
+    where
+      go : (p q : Bool) → r ≡ noOr 11 p (noOr 12 q 0) → ask 11 p (ask 12 q (given l)) ≡ refused r
+      go true true e = absurd (omega arith)
+      go true false e = ap refused (sym e)
+      go false q e = ap refused (sym e)
 
-  module _ (rows-fit : length (l .rows) ≤ row-room) where
-    pub no-column-room : column-room < length (l .columns) → roomFor l row-room column-room limit ≡ refused 11
+  module _ (h : r ≤ 0) where
+    both-yes : (fits ≡ true) × (few ≡ true)
+    both-yes = go fits few by-number
+      where
+        go : (p q : Bool) → r ≡ noOr 11 p (noOr 12 q 0) → (p ≡ true) × (q ≡ true)
+        go true true e = (refl, refl)
+        go true false e = absurd (omega arith)
+        go false q e = absurd (omega arith)
+
+    pub room-given : roomFor l row-room column-room limit ≡ given l
     unfolding roomFor
-    no-column-room h = rw (le-leb (length (l .rows)) row-room rows-fit, lt-leb (length (l .columns)) column-room h)
+    room-given = rw (both-yes .0, both-yes .1)
 
-    module _ (columns-fit : length (l .columns) ≤ column-room) where
-      pub too-many : limit < l .plan .pages → roomFor l row-room column-room limit ≡ refused 12
-      unfolding roomFor
-      too-many h = rw (le-leb (length (l .rows)) row-room rows-fit, le-leb (length (l .columns)) column-room columns-fit, lt-leb (l .plan .pages) limit h)
+    both-fit : (length (l .rows) ≤ row-room) × (length (l .columns) ≤ column-room)
+    both-fit =
+        let f = both (leb (length (l .rows)) row-room) (leb (length (l .columns)) column-room) (both-yes .0) in
+        (leb-true _ _ (f .0), leb-true _ _ (f .1))
 
-      pub room-enough : l .plan .pages ≤ limit → roomFor l row-room column-room limit ≡ given l
-      unfolding roomFor
-      room-enough h = rw (le-leb (length (l .rows)) row-room rows-fit, le-leb (length (l .columns)) column-room columns-fit, le-leb (l .plan .pages) limit h)
+    pub rows-fit : m ≤ row-room
+    rows-fit = omega (arith, rows-are, both-fit .0)
+
+    pub columns-fit : n ≤ column-room
+    columns-fit = omega (arith, columns-are, both-fit .1)
 
 -- ---- the value of a plan
 

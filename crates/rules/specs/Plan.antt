@@ -4,7 +4,7 @@ use mathlib.Core.Path.{_≡_}
 use mathlib.Core.Bool.{Bool, true, false, cond, _&&_}
 use mathlib.Core.List.{List, []}
 use Prim.Native.Nat.{ℕ, _+_, _*_, _^_, _≤_, _<_, max}
-use lib.Dec.{leb}
+use lib.Dec.{leb, eqb}
 use lib.IntN.{ℤ}
 use lib.ListN.{length}
 use Rattle.geometry.specs.Outcome.{Outcome, given, refused, andThen}
@@ -13,6 +13,7 @@ use Rattle.rules.specs.declared.titles.Axis.the-variants.{Rows, Columns}
 use Rattle.rules.specs.declared.titles.Title.{Title}
 use Rattle.rules.specs.declared.titles.Widened.{Widened}
 use Rattle.rules.specs.declared.runs.Frame.{Frame}
+use Rattle.rules.specs.declared.runs.Tally.{Tally}
 use Rattle.rules.specs.declared.scale.Fit.{Fit}
 use Rattle.rules.specs.declared.pages.Plan.{Plan}
 use Rattle.rules.specs.declared.plan.Settings.{Settings}
@@ -347,6 +348,15 @@ readyShifts r p is fs ls bs = shifts (readyFrame (r .fit) p) fs ls (within r is)
 -- the numbers of a final cut
 abbrev pub cutOf : List Run → ℕ → FinalCut
 cutOf rs n = record { runs = length (orEmpty 0 rs); empty = none rs; expansions = expansions rs; shifts = n }
+
+-- the same, of what was counted: an axis without runs gets one
+abbrev pub cutFrom : Tally → FinalCut
+cutFrom t = record { runs = max (t .runs) 1; empty = eqb (t .runs) 0; expansions = t .expansions; shifts = t .shifts }
+
+-- the first of the questions 11 and 12 with the answer no, or 0, of so many runs of rows and of columns
+unfoldable pub roomNo : ℕ → ℕ → ℕ → ℕ → ℕ → ℕ
+roomNo rows columns row-room column-room limit =
+    noOr 11 (leb rows row-room && leb columns column-room) (noOr 12 (leb (rows * columns) limit) 0)
 
 -- the slots of a ready axis
 pub record Cuttable (r : Ready) (is ss fs ls : List ℕ) : Type 0 where

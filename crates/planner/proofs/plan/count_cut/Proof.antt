@@ -1,16 +1,12 @@
 -- `planner::plan::count_cut` meets its contract. Assumes nothing.
 use mathlib.Core.Path.{_≡_, sym, ap, _∙_}
 use Prim.Native.Nat.{_≤_, _^_}
-use lib.Dec.{eqb}
 use lib.ListN.{length}
-use borrow.Author.Tests.{eqb-true, eqb-false}
-use Rattle.rules.specs.declared.runs.Tally.{Tally}
 use Rattle.rules.specs.declared.runs.Frame.{Frame}
-use Rattle.rules.specs.declared.plan.FinalCut.{FinalCut}
 use Rattle.rules.specs.Runs.{axisTally, expansions, tallies}
-use Rattle.rules.specs.Plan.{readyRuns, readyShifts, within, readyFrame}
+use Rattle.rules.specs.Plan.{readyRuns, readyShifts, within, readyFrame, cutFrom}
 use Rattle.rules.proofs.Laws.{slots-mid}
-use Rattle.rules.proofs.PlanLaws.{cutAs, cut-none, cut-some}
+use Rattle.rules.proofs.PlanLaws.{cut-from}
 use native.Mathlib.Omega.{arith}
 use borrow.Author.Needs.{needs}
 use Rattle.planner.proofs.plan.count_cut.Statement.{statement}
@@ -59,28 +55,19 @@ count-axis-requires c κs =
     let p = s .pre in
     (p .merges, slots-mid (s .args .ready .from) (s .args .ready .to) (s .args .indexes .now) (s .args .sizes .now) (omega (arith, p .inside, p .slots .even)) (p .slots))
 
+final-cut-requires : tie.Need-final-cut-requires
+final-cut-requires c κs = search needs
+
 returns : tie.Need-returns
 returns c =
     let t = c .before in
     let a = t .before .before .before .before .before .before .before .before .before .before .args in
     let q = t .before .before .before .before .before .before .before .before .before .before .pre in
-    let e = counted t in
+    let rs = readyRuns (a .ready) (a .permille) (a .indexes .now) (a .sizes .now) (a .merge-firsts .now) (a .merge-lasts .now) (a .breaks .now) in
     let few = slots-mid (a .ready .from) (a .ready .to) (a .indexes .now) (a .sizes .now) (omega (arith, q .inside, q .slots .even)) (q .slots) .small .few in
-    let z : length (readyRuns (a .ready) (a .permille) (a .indexes .now) (a .sizes .now) (a .merge-firsts .now) (a .merge-lasts .now) (a .breaks .now)) ≡ 0 = sym (ap (λ (x : Tally). x .runs) e) ∙ eqb-true _ _ (c .if1 .taken) in (
-      ap (λ (x : Tally). cutAs 1 (eqb (x .runs) 0) (x .expansions) (x .shifts)) e ∙ cut-none (readyRuns (a .ready) (a .permille) (a .indexes .now) (a .sizes .now) (a .merge-firsts .now) (a .merge-lasts .now) (a .breaks .now)) (readyShifts (a .ready) (a .permille) (a .indexes .now) (a .merge-firsts .now) (a .merge-lasts .now) (a .breaks .now)) z,
-      (omega arith, omega (arith, t .count-axis .ensures .1 .1, few), t .count-axis .ensures .1 .2),
-    )
-
-returns-2 : tie.Need-returns-2
-returns-2 c =
-    let t = c .before in
-    let a = t .before .before .before .before .before .before .before .before .before .before .args in
-    let q = t .before .before .before .before .before .before .before .before .before .before .pre in
-    let e = counted t in
-    let few = slots-mid (a .ready .from) (a .ready .to) (a .indexes .now) (a .sizes .now) (omega (arith, q .inside, q .slots .even)) (q .slots) .small .few in
-    let z : ¬ (length (readyRuns (a .ready) (a .permille) (a .indexes .now) (a .sizes .now) (a .merge-firsts .now) (a .merge-lasts .now) (a .breaks .now)) ≡ 0) = λ w. eqb-false _ _ (c .if1 .left) (ap (λ (x : Tally). x .runs) e ∙ w) in (
-      ap (λ (x : Tally). cutAs (x .runs) (eqb (x .runs) 0) (x .expansions) (x .shifts)) e ∙ cut-some (readyRuns (a .ready) (a .permille) (a .indexes .now) (a .sizes .now) (a .merge-firsts .now) (a .merge-lasts .now) (a .breaks .now)) (readyShifts (a .ready) (a .permille) (a .indexes .now) (a .merge-firsts .now) (a .merge-lasts .now) (a .breaks .now)) z,
-      (omega (arith, t .count-axis .ensures .1 .0, few), omega (arith, t .count-axis .ensures .1 .1, few), t .count-axis .ensures .1 .2),
+    let made = c .final-cut .ensures in (
+      made ∙ ap cutFrom (counted t) ∙ cut-from rs (readyShifts (a .ready) (a .permille) (a .indexes .now) (a .merge-firsts .now) (a .merge-lasts .now) (a .breaks .now)),
+      rw made (omega (arith, t .count-axis .ensures .1 .0, few), omega (arith, t .count-axis .ensures .1 .1, few), t .count-axis .ensures .1 .2),
     )
 
 pub count-cut-spec : {M : Type 1} → statement M
@@ -97,5 +84,5 @@ count-cut-spec =
     part-count-axis-start-2
     part-count-axis-end-2
     count-axis-requires
-    returns
-    returns-2)
+    final-cut-requires
+    returns)

@@ -1,6 +1,6 @@
 -- `planner::plan::plan_cut` meets its contract. Assumes nothing.
-use mathlib.Core.Path.{_≡_, sym, ap, subst, _∙_}
-use Prim.Native.Nat.{ℕ, _+_, _*_, _≤_, _<_}
+use mathlib.Core.Path.{_≡_, ap, _∙_}
+use Prim.Native.Nat.{_*_}
 use lib.ListN.{length}
 use Rattle.rules.specs.declared.pages.Plan.{Plan}
 use Rattle.rules.specs.declared.pages.Notes.{Notes}
@@ -8,7 +8,7 @@ use Rattle.rules.specs.Scale.{scaleOf, spaceOf}
 use Rattle.rules.specs.Pages.{runLists, orEmpty}
 use Rattle.rules.specs.Plan.{AxisInput, Layout, titleOf, axisFor, sidesOf, cutRuns, cutShifts, layoutAt, roomFor, cutOf, readyRuns, readyShifts}
 use Rattle.rules.proofs.TitleLaws.{ignored-le, expanded-le}
-use Rattle.rules.proofs.PlanLaws.{cuttable, cut-of, row-count, column-count, page-count, refuses-plan, answers-plan, no-row-room, no-column-room, too-many, room-enough, room-of, few-pages, overflows-few, overflows-of, written-of, plan-value}
+use Rattle.rules.proofs.PlanLaws.{cuttable, cut-of, row-count, column-count, page-count, refuses-plan, answers-plan, room-refused, room-given, rows-fit, columns-fit, room-of, few-pages, overflows-few, overflows-of, written-of, plan-value}
 use native.Mathlib.Omega.{arith}
 use borrow.Author.Needs.{needs}
 use Rattle.planner.proofs.plan.plan_cut.Statement.{statement}
@@ -51,52 +51,40 @@ count-cut-requires-2 c κs =
     let a = s .args in
     cuttable (a .column-axis) (a .column-indexes .now) (a .column-sizes .now) (a .merge-first-columns .now) (a .merge-last-columns .now) (a .column-breaks .now) (a .columns) (a .sides .width .0) (s .pre .1 .0) (s .pre .1 .1 .1 .0)
 
+room-refusal-requires : tie.Need-room-refusal-requires
+room-refusal-requires c κs = search needs
+
 returns : tie.Need-returns
 returns c =
-    let d = c .before .before in
-    let s = d .before .before .before .before .before .before .before .before .before .before .before .before .before .before .before .before .before .before .before .before in
-    let a = s .args in
-    refuses-plan _ 11 (runLists (a .row-run-firsts .now) (a .row-run-lasts .now) (a .row-run-sizes .now) (a .row-run-marks .now)) (runLists (a .column-run-firsts .now) (a .column-run-lasts .now) (a .column-run-sizes .now) (a .column-run-marks .now)) (no-row-room (laid d) (length (a .row-run-firsts .now)) (length (a .column-run-firsts .now)) (a .settings .«page_limit») (omega (arith, c .if1 .taken, row-runs d)))
-
-returns-2 : tie.Need-returns-2
-returns-2 c =
-    let d = c .before .before .before .before in
-    let s = d .before .before .before .before .before .before .before .before .before .before .before .before .before .before .before .before .before .before .before .before in
-    let a = s .args in
-    refuses-plan _ 11 (runLists (a .row-run-firsts .now) (a .row-run-lasts .now) (a .row-run-sizes .now) (a .row-run-marks .now)) (runLists (a .column-run-firsts .now) (a .column-run-lasts .now) (a .column-run-sizes .now) (a .column-run-marks .now)) (no-column-room (laid d) (length (a .row-run-firsts .now)) (length (a .column-run-firsts .now)) (a .settings .«page_limit») (omega (arith, c .before .before .if1 .left, row-runs d)) (omega (arith, c .if2 .taken, column-runs d)))
-
-mul-pages : tie.Need-mul-pages
-mul-pages c =
-    let d = c .before .before .before .before in
-    let s = d .before .before .before .before .before .before .before .before .before .before .before .before .before .before .before .before .before .before .before .before in
-    let a = s .args in
-    let n = few-pages _ _ (d .before .count-cut .ensures .1 .0) (d .count-cut2 .ensures .1 .0) in
-    omega (arith, n)
-
-returns-3 : tie.Need-returns-3
-returns-3 c =
-    let d = c .before .before .before .before .before .before in
-    let s = d .before .before .before .before .before .before .before .before .before .before .before .before .before .before .before .before .before .before .before .before in
-    let a = s .args in
-    refuses-plan _ 12 (runLists (a .row-run-firsts .now) (a .row-run-lasts .now) (a .row-run-sizes .now) (a .row-run-marks .now)) (runLists (a .column-run-firsts .now) (a .column-run-lasts .now) (a .column-run-sizes .now) (a .column-run-marks .now)) (too-many (laid d) (length (a .row-run-firsts .now)) (length (a .column-run-firsts .now)) (a .settings .«page_limit») (omega (arith, c .before .before .before .before .if1 .left, row-runs d)) (omega (arith, c .before .before .if2 .left, column-runs d)) (subst (λ (n : ℕ). a .settings .«page_limit» < n) (sym (pages-are d)) (c .if3 .taken)))
+    let e = c .before in
+    let d = e .before in
+    let a = d .before .before .before .before .before .before .before .before .before .before .before .before .before .before .before .before .before .before .before .before .args in
+    refuses-plan _ _ (runLists (a .row-run-firsts .now) (a .row-run-lasts .now) (a .row-run-sizes .now) (a .row-run-marks .now)) (runLists (a .column-run-firsts .now) (a .column-run-lasts .now) (a .column-run-sizes .now) (a .column-run-marks .now))
+    (room-refused (laid d) _ _ (length (a .row-run-firsts .now)) (length (a .column-run-firsts .now)) (a .settings .«page_limit») _ (row-runs d) (column-runs d) (pages-are d) (e .room-refusal .ensures) (c .if1 .taken))
 
 write-cut-requires : tie.Need-write-cut-requires
 write-cut-requires c κs =
-    let d = c .before .before .before .before .before .before .before .before .before .before in
+    let d = c .before .before .before .before .before .before in
     let s = d .before .before .before .before .before .before .before .before .before .before .before .before .before .before .before .before .before .before .before .before in
     let a = s .args in
-    (cuttable (a .row-axis) (a .row-indexes .now) (a .row-sizes .now) (a .merge-first-rows .now) (a .merge-last-rows .now) (a .row-breaks .now) (a .rows) (a .sides .height .0) (s .pre .0) (s .pre .1 .1 .0), (d .before .count-cut .ensures .0, room-of (a .row-axis .first) (readyRuns (a .rows) (a .scale .permille) (a .row-indexes .now) (a .row-sizes .now) (a .merge-first-rows .now) (a .merge-last-rows .now) (a .row-breaks .now)) _ (d .before .count-cut .result) (a .row-run-firsts .now) (a .row-run-lasts .now) (a .row-run-sizes .now) (a .row-run-marks .now) (d .before .count-cut .ensures .0) (c .before .before .before .before .before .before .before .before .if1 .left) (s .pre .1 .1 .1 .1 .0)))
+    (cuttable (a .row-axis) (a .row-indexes .now) (a .row-sizes .now) (a .merge-first-rows .now) (a .merge-last-rows .now) (a .row-breaks .now) (a .rows) (a .sides .height .0) (s .pre .0) (s .pre .1 .1 .0), (d .before .count-cut .ensures .0, room-of (a .row-axis .first) (readyRuns (a .rows) (a .scale .permille) (a .row-indexes .now) (a .row-sizes .now) (a .merge-first-rows .now) (a .merge-last-rows .now) (a .row-breaks .now)) _ (d .before .count-cut .result) (a .row-run-firsts .now) (a .row-run-lasts .now) (a .row-run-sizes .now) (a .row-run-marks .now) (d .before .count-cut .ensures .0) (rows-fit (laid d) _ _ (length (a .row-run-firsts .now)) (length (a .column-run-firsts .now)) (a .settings .«page_limit») _ (row-runs d) (column-runs d) (pages-are d) (c .before .before .before .before .before .room-refusal .ensures) (c .before .before .before .before .if1 .left)) (s .pre .1 .1 .1 .1 .0)))
 
 write-cut-requires-2 : tie.Need-write-cut-requires-2
 write-cut-requires-2 c κs =
-    let d = c .before .before .before .before .before .before .before .before .before .before .before .before .before .before .before .before .before .before .before .before .before .before .before in
+    let d = c .before .before .before .before .before .before .before .before .before .before .before .before .before .before .before .before .before .before .before in
     let s = d .before .before .before .before .before .before .before .before .before .before .before .before .before .before .before .before .before .before .before .before in
     let a = s .args in
-    (cuttable (a .column-axis) (a .column-indexes .now) (a .column-sizes .now) (a .merge-first-columns .now) (a .merge-last-columns .now) (a .column-breaks .now) (a .columns) (a .sides .width .0) (s .pre .1 .0) (s .pre .1 .1 .1 .0), (d .count-cut2 .ensures .0, room-of (a .column-axis .first) (readyRuns (a .columns) (a .scale .permille) (a .column-indexes .now) (a .column-sizes .now) (a .merge-first-columns .now) (a .merge-last-columns .now) (a .column-breaks .now)) _ (d .count-cut2 .result) (a .column-run-firsts .now) (a .column-run-lasts .now) (a .column-run-sizes .now) (a .column-run-marks .now) (d .count-cut2 .ensures .0) (c .before .before .before .before .before .before .before .before .before .before .before .before .before .before .before .before .before .before .before .if2 .left) (s .pre .1 .1 .1 .1 .1)))
+    (cuttable (a .column-axis) (a .column-indexes .now) (a .column-sizes .now) (a .merge-first-columns .now) (a .merge-last-columns .now) (a .column-breaks .now) (a .columns) (a .sides .width .0) (s .pre .1 .0) (s .pre .1 .1 .1 .0), (d .count-cut2 .ensures .0, room-of (a .column-axis .first) (readyRuns (a .columns) (a .scale .permille) (a .column-indexes .now) (a .column-sizes .now) (a .merge-first-columns .now) (a .merge-last-columns .now) (a .column-breaks .now)) _ (d .count-cut2 .result) (a .column-run-firsts .now) (a .column-run-lasts .now) (a .column-run-sizes .now) (a .column-run-marks .now) (d .count-cut2 .ensures .0) (columns-fit (laid d) _ _ (length (a .row-run-firsts .now)) (length (a .column-run-firsts .now)) (a .settings .«page_limit») _ (row-runs d) (column-runs d) (pages-are d) (c .before .before .before .before .before .before .before .before .before .before .before .before .before .before .before .before .before .before .room-refusal .ensures) (c .before .before .before .before .before .before .before .before .before .before .before .before .before .before .before .before .before .if1 .left)) (s .pre .1 .1 .1 .1 .1)))
+
+mul-t54 : tie.Need-mul-t54
+mul-t54 c =
+    let d = c .before .before .before .before .before .before .before .before .before .before .before .before .before .before .before .before .before .before .before .before .before .before .before .before .before .before .before .before in
+    let n = few-pages _ _ (d .before .count-cut .ensures .1 .0) (d .count-cut2 .ensures .1 .0) in
+    omega (arith, n)
 
 notes-of-requires : tie.Need-notes-of-requires
 notes-of-requires c κs =
-    let d = c .before .before .before .before .before .before .before .before .before .before .before .before .before .before .before .before .before .before .before .before .before .before .before .before .before .before .before .before .before .before .before .before in
+    let d = c .before .before .before .before .before .before .before .before .before .before .before .before .before .before .before .before .before .before .before .before .before .before .before .before .before .before .before .before in
     let s = d .before .before .before .before .before .before .before .before .before .before .before .before .before .before .before .before .before .before .before .before in
     let a = s .args in
     let yr = s .pre .1 .1 .0 in
@@ -133,10 +121,10 @@ same-length-7 c = search needs
 same-length-8 : tie.Need-same-length-8
 same-length-8 c = search needs
 
-returns-4 : tie.Need-returns-4
+returns-2 : tie.Need-returns-2
 unfolding layoutAt
-returns-4 c =
-    let d = c .before .before .before .before .before .before .before .before .before .before .before .before .before .before .before .before .before .before .before .before .before .before .before .before .before .before .before .before .before .before .before .before .before in
+returns-2 c =
+    let d = c .before .before .before .before .before .before .before .before .before .before .before .before .before .before .before .before .before .before .before .before .before .before .before .before .before .before .before .before .before in
     let s = d .before .before .before .before .before .before .before .before .before .before .before .before .before .before .before .before .before .before .before .before in
     let a = s .args in
     let yr = s .pre .1 .1 .0 in
@@ -148,7 +136,7 @@ returns-4 c =
     ∙ plan-value (a .settings) (sidesOf (a .sides)) (rows-of d) (columns-of d) (scaleOf (a .scale)) (a .rows) (a .columns) yr yc rc cc (row-cut d) (column-cut d) _ _
     (c .before .before .before .before .before .before .before .before .before .before .before .before .before .before .before .before .before .before .before .before .before .before .write-cut .ensures .1 ∙ overflows-of (a .rows) (a .sides .height .0) (rows-of d) yr (a .scale .permille))
     (c .before .before .before .before .before .before .before .before .before .write-cut2 .ensures .1 ∙ overflows-of (a .columns) (a .sides .width .0) (columns-of d) yc (a .scale .permille)) in
-    answers-plan _ (laid d) _ (room-enough (laid d) (length (a .row-run-firsts .now)) (length (a .column-run-firsts .now)) (a .settings .«page_limit») (omega (arith, c .before .before .before .before .before .before .before .before .before .before .before .before .before .before .before .before .before .before .before .before .before .before .before .before .before .before .before .before .before .before .before .if1 .left, row-runs d)) (omega (arith, c .before .before .before .before .before .before .before .before .before .before .before .before .before .before .before .before .before .before .before .before .before .before .before .before .before .before .before .before .before .if2 .left, column-runs d)) (subst (λ (n : ℕ). n ≤ a .settings .«page_limit») (sym (pages-are d)) (c .before .before .before .before .before .before .before .before .before .before .before .before .before .before .before .before .before .before .before .before .before .before .before .before .before .before .before .if3 .left))) q _ _ (a .row-run-firsts .now) (a .row-run-lasts .now) (a .row-run-sizes .now) (a .row-run-marks .now) _ _ _ _ (a .column-run-firsts .now) (a .column-run-lasts .now) (a .column-run-sizes .now) (a .column-run-marks .now) _ _ _ _
+    answers-plan _ (laid d) _ (room-given (laid d) _ _ (length (a .row-run-firsts .now)) (length (a .column-run-firsts .now)) (a .settings .«page_limit») _ (row-runs d) (column-runs d) (pages-are d) (c .before .before .before .before .before .before .before .before .before .before .before .before .before .before .before .before .before .before .before .before .before .before .before .before .before .before .before .before .room-refusal .ensures) (c .before .before .before .before .before .before .before .before .before .before .before .before .before .before .before .before .before .before .before .before .before .before .before .before .before .before .before .if1 .left)) q _ _ (a .row-run-firsts .now) (a .row-run-lasts .now) (a .row-run-sizes .now) (a .row-run-marks .now) _ _ _ _ (a .column-run-firsts .now) (a .column-run-lasts .now) (a .column-run-sizes .now) (a .column-run-marks .now) _ _ _ _
     (written-of (a .rows) (a .sides .height .0) (rows-of d) yr (a .scale .permille) _ (a .row-run-firsts .now) (a .row-run-lasts .now) (a .row-run-sizes .now) (a .row-run-marks .now) _ _ _ _ (c .before .before .before .before .before .before .before .before .before .before .before .before .before .before .before .before .before .before .before .before .before .before .write-cut .ensures .0))
     (written-of (a .columns) (a .sides .width .0) (columns-of d) yc (a .scale .permille) _ (a .column-run-firsts .now) (a .column-run-lasts .now) (a .column-run-sizes .now) (a .column-run-marks .now) _ _ _ _ (c .before .before .before .before .before .before .before .before .before .write-cut2 .ensures .0))
 
@@ -158,12 +146,11 @@ plan-cut-spec =
     (tie.spec
     count-cut-requires
     count-cut-requires-2
+    room-refusal-requires
     returns
-    returns-2
-    mul-pages
-    returns-3
     write-cut-requires
     write-cut-requires-2
+    mul-t54
     notes-of-requires
     same-length
     same-length-2
@@ -173,4 +160,4 @@ plan-cut-spec =
     same-length-6
     same-length-7
     same-length-8
-    returns-4)
+    returns-2)
