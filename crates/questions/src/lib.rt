@@ -90,14 +90,18 @@ fn strictly_rising(indexes: &[u32]) -> bool
     true
 }
 
-// 8: each index is below the next, and none is past the limit.
+// 8: each index is below the next, and the last is not past the limit.
 pub fn rising_within(indexes: &[u32], limit: u32) -> bool
     ensures { λ r. ⌜ r ≡ risingWithin limit (now (indexes .entry)) ⌝ }
 {
     if !strictly_rising(indexes) {
         return false;
     }
-    all_within(indexes, limit)
+    let count = indexes.len();
+    if count == 0 {
+        return true;
+    }
+    indexes[count - 1] <= limit
 }
 
 // 9: no size is above the largest.

@@ -1,6 +1,6 @@
 -- Laws of `specs/Questions.antt`'s definitions: for the loops of crate `questions`, and what a "yes" says of every item. Assumes nothing.
-use mathlib.Core.Path.{_≡_, refl}
-use mathlib.Core.Bool.{Bool, true, false, _&&_}
+use mathlib.Core.Path.{_≡_, refl, sym, ap, _∙_}
+use mathlib.Core.Bool.{Bool, true, false, _&&_, and-true, and-false}
 use mathlib.Core.List.{List, [], _∷_}
 use Prim.Native.Nat.{ℕ, zero, suc, _+_, _-_, _≤_, _<_, _^_, min}
 use native.Mathlib.Nat.{lt-of-not-le}
@@ -114,6 +114,24 @@ rises [] h j k p q = absurd (omega arith)
 rises (i ∷ is) h j zero p q = absurd (omega arith)
 rises (i ∷ is) h zero (suc k) p q = rising-head i is h k (omega arith)
 rises (i ∷ is) h (suc j) (suc k) p q = rises is (rising-tail i is h) j k (omega arith) (omega arith)
+
+-- none is past a limit that the last one is within
+pub within-last : (limit : ℕ) (is : List ℕ) → rising is ≡ true → 0 < length is → leb (getD is (length is - 1) 0) limit ≡ allWithin limit is
+unfolding allWithin
+within-last limit [] h p = absurd (omega arith)
+within-last limit (i ∷ []) h p = sym (and-true (leb i limit))
+within-last limit (i ∷ (j ∷ is)) h p =
+    let last = getD (j ∷ is) (length is) 0 in
+    let e : suc (length is) - 1 ≡ length is = omega arith in
+    let rest : leb last limit ≡ allWithin limit (j ∷ is) = rw e at (within-last limit (j ∷ is) (rising-tail i (j ∷ is) h) (omega arith)) in
+    let below : i < last = rising-head i (j ∷ is) h (length is) (omega arith) in
+    let f : suc (suc (length is)) - 1 ≡ suc (length is) = omega arith in
+    let go : leb last limit ≡ (leb i limit && leb last limit) =
+        elim (decLe last limit) [
+          | yes l ↦ rw (le-leb i limit (omega arith))
+          | no l ↦ let q = lt-leb last limit (omega (arith, lt-of-not-le l)) in rw q (sym (and-false (leb i limit)))
+        ] in
+    rw f (go ∙ ap (λ (b : Bool). leb i limit && b) rest)
 
 -- an index is at least its place
 pub place-le : (is : List ℕ) → rising is ≡ true → (k : ℕ) → k < length is → k ≤ getD is k 0

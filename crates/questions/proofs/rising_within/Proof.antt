@@ -1,6 +1,13 @@
--- `questions::rising_within` meets its contract. Assumes nothing.
+-- `questions::rising_within` meets its contract: where indexes rise, the last one tells of all. Assumes nothing.
+use mathlib.Core.Path.{_≡_, refl, sym, _∙_}
+use mathlib.Core.Bool.{true}
+use mathlib.Core.List.{List, [], _∷_}
+use Prim.Native.Nat.{ℕ}
+use native.Mathlib.Omega.{arith}
+use lib.ListN.{length}
 use borrow.Author.Tests.{not-true, not-false}
-use Rattle.rules.specs.Questions.{risingWithin}
+use Rattle.rules.specs.Questions.{rising, allWithin, risingWithin}
+use Rattle.rules.proofs.QuestionLaws.{within-last}
 use borrow.Author.Needs.{needs}
 use Rattle.questions.proofs.rising_within.Statement.{statement}
 use Rattle.questions.proofs.rising_within.Tie as tie
@@ -12,13 +19,39 @@ returns : tie.Need-returns
 unfolding risingWithin
 returns c = rw (← c .before .strictly-rising .ensures, not-true (c .before .strictly-rising .result) (c .if1 .taken))
 
-all-within-requires : tie.Need-all-within-requires
-all-within-requires c κs = search needs
+none : (limit : ℕ) (is : List ℕ) → length is ≡ 0 → true ≡ risingWithin limit is
+unfolding risingWithin rising allWithin
+none limit [] e = refl
+none limit (i ∷ is) e = absurd (omega arith)
 
 returns-2 : tie.Need-returns-2
+returns-2 c = let a = c .before .before .before .before .args in none (a .limit) (a .indexes .now) (c .if2 .taken)
+
+sub-result : tie.Need-sub-result
+sub-result c = search needs
+
+mul-result : tie.Need-mul-result
+mul-result c = search needs
+
+shared-slice-read-result : tie.Need-shared-slice-read-result
+shared-slice-read-result c = search needs
+
+returns-3 : tie.Need-returns-3
 unfolding risingWithin
-returns-2 c = rw (← c .before .before .strictly-rising .ensures, not-false (c .before .before .strictly-rising .result) (c .before .if1 .left), c .all-within .ensures)
+returns-3 c =
+    let a = c .before .before .before .before .before .args in
+    let r = c .before .before .before .strictly-rising in
+    let rises : rising (a .indexes .now) ≡ true = sym (r .ensures) ∙ not-false (r .result) (c .before .before .if1 .left) in
+    rw rises (within-last (a .limit) (a .indexes .now) rises (omega (arith, c .before .if2 .left)))
 
 pub rising-within-spec : {M : Type 1} → statement M
 rising-within-spec =
-    tie.close (tie.spec strictly-rising-requires returns all-within-requires returns-2)
+    tie.close
+    (tie.spec
+    strictly-rising-requires
+    returns
+    returns-2
+    sub-result
+    mul-result
+    shared-slice-read-result
+    returns-3)
