@@ -14,10 +14,6 @@ pub by-test {ℓ} : {X : Type ℓ} (b : Bool) → (b ≡ true → X) → (b ≡ 
 by-test true f g = f refl
 by-test false f g = g refl
 
-pub middle-between : (low high : ℕ) → low < high → (low < middle low high) × (middle low high ≤ high)
-unfolding middle
-middle-between low high h = omega arith
-
 -- ---- a turn, for any test
 
 module _ (t : ℕ → Bool) where

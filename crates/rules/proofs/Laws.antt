@@ -59,11 +59,6 @@ unfolding natural
 natural-start cap [] h = absurd (not-suc-le-zero h)
 natural-start cap (x ∷ xs) h = omega arith
 
-pub natural-none : (cap : ℕ) (l : List ℕ) → length l ≡ 0 → 0 ≡ natural cap l
-unfolding natural
-natural-none cap [] h = refl
-natural-none cap (x ∷ xs) h = omega arith
-
 pub natural-pos : (cap : ℕ) (l : List ℕ) → 0 < length l → 1 ≤ natural cap l
 unfolding natural
 natural-pos cap [] h = absurd (not-suc-le-zero h)

@@ -152,10 +152,6 @@ pub rising-of : (limit : ℕ) (is : List ℕ) → risingWithin limit is ≡ true
 unfolding risingWithin
 rising-of limit is h = rises is (both (rising is) (allWithin limit is) h .0)
 
-pub within-of : (limit : ℕ) (is : List ℕ) → risingWithin limit is ≡ true → (k : ℕ) → getD is k 0 ≤ limit
-unfolding risingWithin
-within-of limit is h = within-each limit is (both (rising is) (allWithin limit is) h .1)
-
 pub small-each : (ss : List ℕ) → allSmall ss ≡ true → (k : ℕ) → getD ss k 0 < 2 ^ 30
 unfolding allSmall
 small-each ss h k = omega (arith, within-each 1073741823 ss h k)

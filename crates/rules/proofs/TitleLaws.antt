@@ -381,20 +381,6 @@ module _ (fs ls : List ℕ) where
       normal Absent = omega arith
       normal (Pair f l) = either (λ (x : Normalized). x .ignored ≤ 1) (leb f l && leb l limit) (omega arith) (omega arith)
 
--- a body starts no earlier than its range
-pub body-start-ge : (title : Title) (first : ℕ) → first ≤ bodyStart title first
-unfolding bodyStart
-body-start-ge Absent first = omega arith
-body-start-ge (Pair f l) first =
-    elim (decLe f first) [
-      | no h ↦ rw (lt-leb f first (lt-of-not-le h)) (omega arith)
-      | yes h ↦
-          elim (decLe first l) [
-            | no k ↦ rw (le-leb f first h, lt-leb first l (lt-of-not-le k)) (omega arith)
-            | yes k ↦ rw (le-leb f first h, le-leb first l k) (omega arith)
-          ]
-    ]
-
 -- and no later than after the limit
 pub body-start-le : (limit : ℕ) (title : Title) (first : ℕ) → first ≤ limit → ((f l : ℕ) → title ≡ Pair f l → l ≤ limit) → bodyStart title first ≤ limit + 1
 unfolding bodyStart
