@@ -1,5 +1,6 @@
 -- `yuzhbani::yuzhbani_plan` meets its contract: the clauses of `plan_job`, by the answer and the numbers that are handed over. Assumes nothing.
-use Rattle.yuzhbani.proofs.Handed.{handed-job}
+use Rattle.job.specs.Plan.{jobSettings, jobRows, jobColumns}
+use Rattle.yuzhbani.proofs.Handed.{handed, job-not-zero}
 use borrow.Author.Needs.{needs}
 use Rattle.yuzhbani.proofs.yuzhbani_plan.Statement.{statement}
 use Rattle.yuzhbani.proofs.yuzhbani_plan.Tie as tie
@@ -38,7 +39,8 @@ returns : tie.Need-returns
 returns c =
     let j = c .before .before .before .before .before .before .before .before .before .before .before .before .before .before .before .before .before .before in
     let a = j .before .before .before .before .before .before .before .before .before .before .before .before .before .before .before .before .before .before .args in
-    handed-job (a .bytes .now) _ _ _ _ (j .plan-job .result) (a .numbers .now) (c .put-planning .result) _ (j .plan-job .ensures) (c .put-planning .ensures)
+    let s = a .bytes .now in
+    handed _ (job-not-zero s _ _) (jobSettings s) (jobRows s) (jobColumns s) _ _ _ _ (j .plan-job .result) (a .numbers .now) (c .put-planning .result) _ (j .plan-job .ensures) (c .put-planning .ensures)
 
 pub yuzhbani-plan-spec : {M : Type 1} → statement M
 yuzhbani-plan-spec =
