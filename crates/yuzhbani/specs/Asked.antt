@@ -1,7 +1,7 @@
 -- What thirty numbers ask of a plan, whoever wrote them: settings, range and titles. Assumes nothing.
 use mathlib.Core.Bool.{cond}
 use mathlib.Core.List.{List}
-use Prim.Native.Nat.{ℕ, min}
+use Prim.Native.Nat.{ℕ, _+_, min}
 use lib.ListN.{getD}
 use Rattle.geometry.specs.declared.paper.Setting.{Setting}
 use Rattle.geometry.specs.declared.paper.Setting.the-variants as setting
@@ -17,17 +17,17 @@ use Rattle.reader.specs.Settings.{inchesOf}
 use Rattle.yuzhbani.specs.declared.asked.Asked.{Asked}
 use Rattle.yuzhbani.specs.Numbers.{isSet, orderFrom}
 
--- given by a mark that is set; a number above 65,535 is 65,535
-abbrev pub settingFrom : ℕ → ℕ → Setting
-settingFrom mark n = cond (isSet mark) (setting.Given (min n 65535)) setting.Absent
+-- a mark at a place, and behind it the number; one above 65,535 is 65,535
+abbrev pub settingFrom : List ℕ → ℕ → Setting
+settingFrom ns at = cond (isSet (getD ns at 0)) (setting.Given (min (getD ns (at + 1) 0) 65535)) setting.Absent
 
 -- the largest index that a u32 holds stands for any above it; it lies outside the grid
 abbrev pub indexFrom : ℕ → ℕ
 indexFrom n = min n 4294967295
 
--- given by a mark that is set
-abbrev pub titleFrom : ℕ → ℕ → ℕ → Title
-titleFrom mark first last = cond (isSet mark) (title.Pair (indexFrom first) (indexFrom last)) title.Absent
+-- a mark at a place, and behind it the first and the last
+abbrev pub titleFrom : List ℕ → ℕ → Title
+titleFrom ns at = cond (isSet (getD ns at 0)) (title.Pair (indexFrom (getD ns (at + 1) 0)) (indexFrom (getD ns (at + 2) 0))) title.Absent
 
 -- 3 is the mark, 4 to 9 are the bits of left, right, top, bottom, header and footer, in inches
 unfoldable pub marginsFrom : List ℕ → MarginSetting
@@ -45,13 +45,13 @@ marginsFrom ns =
 -- 0 to 19: paper, landscape, margins, percent, fit, both targets, order, headings and page limit
 unfoldable pub settingsFrom : List ℕ → Settings
 settingsFrom ns = record {
-  paper = settingFrom (getD ns 0 0) (getD ns 1 0);
+  paper = settingFrom ns 0;
   landscape = isSet (getD ns 2 0);
   margins = marginsFrom ns;
-  percent = settingFrom (getD ns 10 0) (getD ns 11 0);
+  percent = settingFrom ns 10;
   fit = isSet (getD ns 12 0);
-  «fit_width» = settingFrom (getD ns 13 0) (getD ns 14 0);
-  «fit_height» = settingFrom (getD ns 15 0) (getD ns 16 0);
+  «fit_width» = settingFrom ns 13;
+  «fit_height» = settingFrom ns 15;
   order = orderFrom (getD ns 17 0);
   headings = isSet (getD ns 18 0);
   «page_limit» = getD ns 19 0;
@@ -68,11 +68,11 @@ rangeFrom ns = record {
 
 -- 24 to 26: the mark, the first and the last row
 abbrev pub rowTitleFrom : List ℕ → Title
-rowTitleFrom ns = titleFrom (getD ns 24 0) (getD ns 25 0) (getD ns 26 0)
+rowTitleFrom ns = titleFrom ns 24
 
 -- 27 to 29: the mark, the first and the last column
 abbrev pub columnTitleFrom : List ℕ → Title
-columnTitleFrom ns = titleFrom (getD ns 27 0) (getD ns 28 0) (getD ns 29 0)
+columnTitleFrom ns = titleFrom ns 27
 
 -- an axis, by what is asked and the lists beside it
 abbrev pub rowsAsked : List ℕ → List ℕ → List ℕ → List ℕ → List ℕ → List ℕ → AxisInput

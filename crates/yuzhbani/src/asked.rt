@@ -10,7 +10,7 @@ use rules::PrintRange;
 use rules::Settings;
 use rules::Title;
 ghost use mathlib.Core.Path.{_≡_};
-ghost use Prim.Native.Nat.{min};
+ghost use Prim.Native.Nat.{_≤_, min};
 ghost use Rattle.yuzhbani.specs.Asked as section;
 
 // Settings, range and titles.
@@ -31,21 +31,23 @@ fn u32_from(n: u64) -> u32
     }
 }
 
-fn setting_from(given: u64, number: u64) -> Setting
-    ensures { λ r. ⌜ r ≡ section.settingFrom given number ⌝ }
+fn setting_from(asked: &[u64; 30], at: usize) -> Setting
+    requires { ⌜ at ≤ 28 ⌝ }
+    ensures { λ r. ⌜ r ≡ section.settingFrom (now (asked .entry)) at ⌝ }
 {
-    if given > 0 {
-        Setting::Given(u16_from(number))
+    if asked[at] > 0 {
+        Setting::Given(u16_from(asked[at + 1]))
     } else {
         Setting::Absent
     }
 }
 
-fn title_from(given: u64, first: u64, last: u64) -> Title
-    ensures { λ r. ⌜ r ≡ section.titleFrom given first last ⌝ }
+fn title_from(asked: &[u64; 30], at: usize) -> Title
+    requires { ⌜ at ≤ 27 ⌝ }
+    ensures { λ r. ⌜ r ≡ section.titleFrom (now (asked .entry)) at ⌝ }
 {
-    if given > 0 {
-        Title::Pair(u32_from(first), u32_from(last))
+    if asked[at] > 0 {
+        Title::Pair(u32_from(asked[at + 1]), u32_from(asked[at + 2]))
     } else {
         Title::Absent
     }
@@ -72,13 +74,13 @@ fn settings_from(asked: &[u64; 30]) -> Settings
     ensures { λ r. ⌜ r ≡ section.settingsFrom (now (asked .entry)) ⌝ }
 {
     Settings {
-        paper: setting_from(asked[0], asked[1]),
+        paper: setting_from(asked, 0),
         landscape: asked[2] > 0,
         margins: margins_from(asked),
-        percent: setting_from(asked[10], asked[11]),
+        percent: setting_from(asked, 10),
         fit: asked[12] > 0,
-        fit_width: setting_from(asked[13], asked[14]),
-        fit_height: setting_from(asked[15], asked[16]),
+        fit_width: setting_from(asked, 13),
+        fit_height: setting_from(asked, 15),
         order: order_from(asked[17]),
         headings: asked[18] > 0,
         page_limit: asked[19],
@@ -102,7 +104,7 @@ pub(crate) fn asked_from(asked: &[u64; 30]) -> Asked
     Asked {
         settings: settings_from(asked),
         range: range_from(asked),
-        row_title: title_from(asked[24], asked[25], asked[26]),
-        column_title: title_from(asked[27], asked[28], asked[29]),
+        row_title: title_from(asked, 24),
+        column_title: title_from(asked, 27),
     }
 }

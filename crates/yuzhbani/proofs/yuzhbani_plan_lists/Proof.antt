@@ -7,13 +7,13 @@ use Rattle.yuzhbani.proofs.yuzhbani_plan_lists.Statement.{statement}
 use Rattle.yuzhbani.proofs.yuzhbani_plan_lists.Tie as tie
 
 asked-from-requires : tie.Need-asked-from-requires
-asked-from-requires c κs = search needs
+asked-from-requires c κs = tt
 
 plan-pages-requires : tie.Need-plan-pages-requires
-plan-pages-requires c κs = search needs
+plan-pages-requires c κs = tt
 
 put-planning-requires : tie.Need-put-planning-requires
-put-planning-requires c κs = search needs
+put-planning-requires c κs = tt
 
 same-length : tie.Need-same-length
 same-length c = search needs

@@ -9,32 +9,14 @@ settings-from-requires c κs = search needs
 range-from-requires : tie.Need-range-from-requires
 range-from-requires c κs = search needs
 
-element-copy-out-title-from : tie.Need-element-copy-out-title-from
-element-copy-out-title-from c = search needs
-
-element-copy-out-title-from-2 : tie.Need-element-copy-out-title-from-2
-element-copy-out-title-from-2 c = search needs
-
-element-copy-out-title-from-3 : tie.Need-element-copy-out-title-from-3
-element-copy-out-title-from-3 c = search needs
-
 title-from-requires : tie.Need-title-from-requires
 title-from-requires c κs = search needs
-
-element-copy-out-title-from-4 : tie.Need-element-copy-out-title-from-4
-element-copy-out-title-from-4 c = search needs
-
-element-copy-out-title-from-5 : tie.Need-element-copy-out-title-from-5
-element-copy-out-title-from-5 c = search needs
-
-element-copy-out-title-from-6 : tie.Need-element-copy-out-title-from-6
-element-copy-out-title-from-6 c = search needs
 
 title-from-requires-2 : tie.Need-title-from-requires-2
 title-from-requires-2 c κs = search needs
 
 returns : tie.Need-returns
-returns c = rw (c .title-from2 .ensures, c .before .before .before .before .title-from .ensures, c .before .before .before .before .before .before .before .before .range-from .ensures, c .before .before .before .before .before .before .before .before .before .settings-from .ensures)
+returns c = rw (c .title-from2 .ensures, c .before .title-from .ensures, c .before .before .range-from .ensures, c .before .before .before .settings-from .ensures)
 
 pub asked-from-spec : {M : Type 1} → statement M
 asked-from-spec =
@@ -42,12 +24,6 @@ asked-from-spec =
     (tie.spec
     settings-from-requires
     range-from-requires
-    element-copy-out-title-from
-    element-copy-out-title-from-2
-    element-copy-out-title-from-3
     title-from-requires
-    element-copy-out-title-from-4
-    element-copy-out-title-from-5
-    element-copy-out-title-from-6
     title-from-requires-2
     returns)
