@@ -10,7 +10,7 @@ use rules::PrintRange;
 use rules::Settings;
 use rules::Title;
 ghost use mathlib.Core.Path.{_≡_};
-ghost use Prim.Native.Nat.{_≤_, min};
+ghost use Prim.Native.Nat.{_≤_};
 ghost use Rattle.yuzhbani.specs.Asked as section;
 
 // Settings, range and titles.
@@ -22,7 +22,7 @@ pub(crate) struct Asked {
 }
 
 fn u32_from(n: u64) -> u32
-    ensures { λ r. ⌜ r ≡ min n 4294967295 ⌝ }
+    ensures { λ r. ⌜ r ≡ section.indexFrom n ⌝ }
 {
     if n < 4_294_967_295 {
         n as u32
