@@ -1,17 +1,20 @@
-//! Plans the same jobs by the static library and by the Rust's chain, in one process, and prints both times.
+//! Plans the same jobs and the same lists by the static library and by the Rust's chain, in one process, and prints the times of both.
 //!
 //! `bench/compare` makes this a child module of oracle/jobs.rs, whose reader and chain it calls.
 
 use super::*;
 use std::hint::black_box;
 use std::time::{Duration, Instant};
-use yuzhbani::{plan_into, Numbers, RunLists, MOST_RUNS};
+use yuzhbani::{plan_into, plan_lists_into, Asked, AskedNumbers, Lists, Numbers, RunLists};
 
 /// Times taken of each job on each side; the median counts.
 const ROUNDS: usize = 21;
 
 /// A time is taken over as many calls as make this up.
 const AT_LEAST: Duration = Duration::from_millis(2);
+
+/// The entries of a lent run list: no plan here has more runs.
+const ROOM: usize = 50_000;
 
 // ---- jobs
 
@@ -86,9 +89,12 @@ fn pages(rows: u32, columns: u16) -> Vec<u8> {
 
 /// Fitted to one page, which takes a permille between 100 and 1,000: every halving is made.
 fn fitted(count: u32) -> Vec<u8> {
-    let size = 933_888 * 2 / i64::from(count);
     let fit = Records::default().number("FW", 1).number("FH", 1);
-    fit.area("AR", (0, 0, count - 1, 0)).rows(count, size).columns(1, WIDE).end()
+    fit.area("AR", (0, 0, count - 1, 0)).rows(count, fitted_size(count)).columns(1, WIDE).end()
+}
+
+fn fitted_size(count: u32) -> i64 {
+    933_888 * 2 / i64::from(count)
 }
 
 /// Fitted to one page, which 100 permille does not reach.
@@ -131,17 +137,43 @@ fn widened(count: u32) -> Vec<u8> {
     title.rows(4, HIGH).columns(1, WIDE).row_merges((0..count).rev().map(|row| (row, row + 1))).end()
 }
 
+/// What is planned: a job by its bytes, and its lists; or lists that no job has room for.
+struct Case {
+    size: u32,
+    bytes: Option<Vec<u8>>,
+    job: Job,
+}
+
+fn case(size: u32, bytes: Vec<u8>) -> Case {
+    let job = read_by_rust(&bytes);
+    Case { size, bytes: Some(bytes), job }
+}
+
+/// As a small job, but with so many rows.
+fn more_rows(small: Vec<u8>, count: u32, size: i64) -> Case {
+    let mut job = read_by_rust(&small);
+    job.last_row = count - 1;
+    job.row_indexes = (0..count).collect();
+    job.row_sizes = vec![size as u64; count as usize];
+    job.lent_rows = Lent::zeros(ROOM);
+    Case { size: count, bytes: None, job }
+}
+
 /// The families: a name and its jobs, each with its size.
-fn families() -> Vec<(&'static str, Vec<(u32, Vec<u8>)>)> {
-    let sized = |job: fn(u32) -> Vec<u8>, sizes: &[u32]| sizes.iter().map(|&size| (size, job(size))).collect();
+fn families() -> Vec<(&'static str, Vec<Case>)> {
+    let sized = |job: fn(u32) -> Vec<u8>, sizes: &[u32]| sizes.iter().map(|&size| case(size, job(size))).collect::<Vec<_>>();
+    let more = |mut cases: Vec<Case>, small: Vec<u8>, size: fn(u32) -> i64| {
+        cases.extend([100_000, 1_000_000].map(|count| more_rows(small.clone(), count, size(count))));
+        cases
+    };
     let thousands = [500, 1000, 2000, 4000];
     vec![
-        ("document 01", vec![(3, pages(3, 2))]),
-        ("rows", sized(rows, &[50, 500, 1000, 2000, 4280])),
+        ("document 01", vec![case(3, pages(3, 2))]),
+        ("rows", more(sized(rows, &[50, 500, 1000, 2000, 4280]), rows(1), |_| HIGH)),
         ("columns", sized(|count| columns(count as u16), &[500, 1000, 2000, 4990])),
         ("rows and columns", sized(both, &[500, 1000, 2300])),
-        ("10,000 pages", vec![(100, pages(100, 100))]),
-        ("fit, every halving", sized(fitted, &thousands)),
+        ("10,000 pages", vec![case(100, pages(100, 100))]),
+        ("fit, every halving", more(sized(fitted, &thousands), fitted(1), fitted_size)),
         ("fit, unreachable", sized(unreachable, &thousands)),
         ("merged pairs", sized(merged, &[350, 700, 1400, 2800])),
         ("merged pairs, fit", sized(merged_and_fitted, &[350, 700, 1400, 2800])),
@@ -165,6 +197,48 @@ impl Ours {
     fn plan(&mut self, bytes: &[u8]) {
         plan_into(bytes, &mut self.numbers, &mut self.rows, &mut self.columns).expect("a plan");
     }
+
+    fn plan_lists(&mut self, asked: &AskedNumbers, lists: &Lists) {
+        plan_lists_into(asked, lists, &mut self.numbers, &mut self.rows, &mut self.columns).expect("a plan");
+    }
+}
+
+fn asked_of(job: &Job) -> AskedNumbers {
+    let (setup, behavior) = (&job.setup, &job.behavior);
+    let asked = Asked {
+        paper: setup.paper_size,
+        landscape: setup.landscape,
+        margins: setup.margins.map(|(left, right, top, bottom, header, footer)| [left, right, top, bottom, header, footer]),
+        percent: setup.scale,
+        fit: behavior.fit_to_page,
+        fit_width: setup.fit_to_width,
+        fit_height: setup.fit_to_height,
+        over_then_down: behavior.page_order == PrintPageOrder::OverThenDown,
+        headings: behavior.headings,
+        page_limit: job.page_limit,
+        first_row: job.first_row,
+        first_column: job.first_column,
+        last_row: job.last_row,
+        last_column: job.last_column,
+        row_title: setup.repeat_rows,
+        column_title: setup.repeat_cols.map(|(first, last)| (first.into(), last.into())),
+    };
+    asked.numbers()
+}
+
+fn lists_of(job: &Job) -> Lists {
+    Lists {
+        row_indexes: job.row_indexes.clone(),
+        row_sizes: job.row_sizes.clone(),
+        column_indexes: job.column_indexes.clone(),
+        column_sizes: job.column_sizes.clone(),
+        merge_first_rows: job.merge_first_rows.clone(),
+        merge_first_columns: job.merge_first_columns.clone(),
+        merge_last_rows: job.merge_last_rows.clone(),
+        merge_last_columns: job.merge_last_columns.clone(),
+        row_breaks: job.row_breaks.clone(),
+        column_breaks: job.column_breaks.clone(),
+    }
 }
 
 fn read_by_rust(bytes: &[u8]) -> Job {
@@ -177,7 +251,7 @@ fn planned_by_rust(job: &Job) -> (Area, PrintWarnings) {
 }
 
 /// Both sides have the same permille, pages, notes and runs.
-fn agree(ours: &Ours, area: Area, warnings: PrintWarnings) {
+fn agree(ours: &Ours, (area, warnings): (Area, PrintWarnings)) {
     let runs = |segments: Vec<AxisSegment<u32>>, lists: &RunLists, count: u64| {
         assert_eq!(segments.len() as u64, count);
         for (at, run) in segments.iter().enumerate() {
@@ -212,61 +286,86 @@ fn median(mut times: Vec<f64>) -> f64 {
     times[times.len() / 2]
 }
 
-/// Microseconds: ours; the Rust's reading, chain, and the list of pages that the chain ends with.
-struct Times {
+/// Microseconds of ours and of the Rust's.
+#[derive(Clone, Copy)]
+struct Pair {
     ours: f64,
-    reading: f64,
-    chain: f64,
-    listing: f64,
+    rust: f64,
 }
 
-/// The medians of rounds that take each time in turn.
-fn times(bytes: &[u8], ours: &mut Ours) -> Times {
-    let job = read_by_rust(bytes);
-    let area = planned_by_rust(&job).0;
+impl Pair {
+    fn text(self) -> String {
+        format!("{:>10.1} {:>10.1} {:>6.2}", self.ours, self.rust, self.ours / self.rust)
+    }
+}
+
+/// From bytes, where there are any, and from lists to the runs.
+struct Times {
+    whole: Option<Pair>,
+    lists: Pair,
+}
+
+/// The medians of rounds that take each time in turn. The Rust's chain ends with a list of pages, whose time is taken off.
+fn times(case: &Case, ours: &mut Ours) -> Times {
+    let (job, asked, lists) = (&case.job, asked_of(&case.job), lists_of(&case.job));
+    let bytes = case.bytes.as_deref();
+    let area = planned_by_rust(job).0;
     let list = || page_slots(job.behavior.page_order, &area.row_segments, &area.column_segments);
     let calls = [
-        calls_for(|| ours.plan(bytes)),
-        calls_for(|| drop(read_by_rust(bytes))),
-        calls_for(|| drop(planned_by_rust(&job))),
+        calls_for(|| ours.plan_lists(&asked, &lists)),
+        calls_for(|| drop(planned_by_rust(job))),
         calls_for(|| drop(list())),
+        bytes.map_or(0, |bytes| calls_for(|| ours.plan(bytes))),
+        bytes.map_or(0, |bytes| calls_for(|| drop(read_by_rust(bytes)))),
     ];
-    let mut taken = [const { Vec::new() }; 4];
+    let mut taken = [const { Vec::new() }; 5];
     for _ in 0..ROUNDS {
-        taken[0].push(timed(calls[0], || ours.plan(black_box(bytes))));
-        taken[1].push(timed(calls[1], || drop(black_box(read_by_rust(black_box(bytes))))));
-        taken[2].push(timed(calls[2], || drop(black_box(planned_by_rust(black_box(&job))))));
-        taken[3].push(timed(calls[3], || drop(black_box(list()))));
+        taken[0].push(timed(calls[0], || ours.plan_lists(black_box(&asked), black_box(&lists))));
+        taken[1].push(timed(calls[1], || drop(black_box(planned_by_rust(black_box(job))))));
+        taken[2].push(timed(calls[2], || drop(black_box(list()))));
+        if let Some(bytes) = bytes {
+            taken[3].push(timed(calls[3], || ours.plan(black_box(bytes))));
+            taken[4].push(timed(calls[4], || drop(black_box(read_by_rust(black_box(bytes))))));
+        }
     }
-    let [ours, reading, chain, listing] = taken.map(median);
-    Times { ours, reading, chain, listing }
+    let [by_lists, chain, listing] = [0, 1, 2].map(|at| median(taken[at].clone()));
+    let rust = (chain - listing).max(0.0);
+    let whole = |_| Pair { ours: median(taken[3].clone()), rust: median(taken[4].clone()) + rust };
+    Times { whole: bytes.map(whole), lists: Pair { ours: by_lists, rust } }
+}
+
+/// Our answers are the Rust's.
+fn compare(case: &Case, ours: &mut Ours) {
+    ours.plan_lists(&asked_of(&case.job), &lists_of(&case.job));
+    agree(ours, planned_by_rust(&case.job));
+    if let Some(bytes) = &case.bytes {
+        ours.plan(bytes);
+        agree(ours, planned_by_rust(&read_by_rust(bytes)));
+    }
 }
 
 pub fn main() {
-    let lists = || RunLists::with_room(MOST_RUNS);
+    let lists = || RunLists::with_room(ROOM);
     let mut ours = Ours { numbers: [0; 16], rows: lists(), columns: lists() };
-    println!("                                                                 Rust            ours /      ours /     on the size before");
-    println!("family                     size   bytes   pages      ours   whole   chain   Rust whole  Rust chain     ours    Rust");
-    for (family, jobs) in families() {
-        let mut before: Option<(u32, f64, f64)> = None;
-        for (size, bytes) in jobs {
-            ours.plan(&bytes);
-            let (area, warnings) = planned_by_rust(&read_by_rust(&bytes));
-            let pages = area.logical_pages;
-            agree(&ours, area, warnings);
-            let times = times(&bytes, &mut ours);
-            let chain = (times.chain - times.listing).max(0.0);
-            let whole = times.reading + chain;
-            print!("{family:<25} {size:>5} {:>7} {pages:>7} {:>9.1} {whole:>7.1} {chain:>7.1}", bytes.len(), times.ours);
-            print!(" {:>12.2} {:>11.2}", times.ours / whole, times.ours / chain);
+    println!("                                                       bytes to runs                lists to runs        lists, on the size before");
+    println!("family                        size   bytes   pages       ours       Rust  ratio       ours       Rust  ratio     ours    Rust");
+    for (family, cases) in families() {
+        let mut before: Option<(u32, Pair)> = None;
+        for case in cases {
+            compare(&case, &mut ours);
+            let (size, pages, Times { whole, lists }) = (case.size, ours.numbers[5], times(&case, &mut ours));
+            let length = case.bytes.as_ref().map_or("-".to_string(), |bytes| bytes.len().to_string());
+            let whole = whole.map_or(format!("{:>10} {:>10} {:>6}", "-", "-", "-"), Pair::text);
+            print!("{family:<25} {size:>8} {length:>7} {pages:>7} {whole} {}", lists.text());
             match before {
-                Some((smaller, a, b)) => {
+                Some((smaller, earlier)) => {
                     let grown = f64::from(size) / f64::from(smaller);
-                    println!("   x{:>6.2} x{:>6.2} for x{grown:.2}", times.ours / a, whole / b);
+                    let (a, b) = (lists.ours / earlier.ours, lists.rust / earlier.rust);
+                    println!("  x{a:>6.2} x{b:>6.2} for x{grown:.2}");
                 }
                 None => println!(),
             }
-            before = Some((size, times.ours, whole));
+            before = Some((size, lists));
         }
     }
 }

@@ -1,7 +1,9 @@
 //! Tests of the static library through `yuzhbani.rs`. They run at the root of the repository (`host/test`).
 
+use std::path::PathBuf;
 use std::process::Command;
-use yuzhbani::{block_of, head_of, page_of, plan_into, Page, Plan, Refusal, Run, RunLists, MOST_BYTES, MOST_RUNS};
+use yuzhbani::{block_of, head_of, page_of, plan_into, plan_lists_into, Asked, Lists, Page, Plan, Refusal, Run, RunLists};
+use yuzhbani::{MOST_BYTES, MOST_RUNS};
 
 // ---- jobs, written after document 01, section "Jobs"
 
@@ -90,23 +92,29 @@ fn example_of_document_01() {
     assert_eq!(plan.page(2), Ok(second));
 }
 
+/// The jobs of `examples/`, each with the file of its text.
+fn example_jobs() -> Vec<(PathBuf, Vec<u8>)> {
+    let entries = std::fs::read_dir("examples").expect("the folder examples").map(|entry| entry.expect("an entry").path());
+    let texts = entries.filter(|path| path.extension().is_some_and(|end| end == "txt"));
+    let job = |text: PathBuf| {
+        let job = Command::new("tools/job").arg(&text).output().expect("tools/job runs");
+        assert!(job.status.success(), "tools/job {text:?}");
+        (text, job.stdout)
+    };
+    let jobs: Vec<_> = texts.map(job).collect();
+    assert!(jobs.len() >= 6, "{} examples", jobs.len());
+    jobs
+}
+
 #[test]
 fn examples_as_they_are_printed() {
-    let mut seen = 0;
-    for entry in std::fs::read_dir("examples").expect("the folder examples") {
-        let text = entry.expect("an entry").path();
-        if text.extension().is_some_and(|end| end == "txt") {
-            let job = Command::new("tools/job").arg(&text).output().expect("tools/job runs");
-            assert!(job.status.success(), "tools/job {text:?}");
-            let out = std::fs::read_to_string(text.with_extension("out")).expect("the answer");
-            assert_eq!(told(&job.stdout), out, "{text:?}");
-            if let Ok(plan) = Plan::of(&job.stdout) {
-                assert_eq!(by_number(&plan), out, "{text:?} by number");
-            }
-            seen += 1;
+    for (text, bytes) in example_jobs() {
+        let out = std::fs::read_to_string(text.with_extension("out")).expect("the answer");
+        assert_eq!(told(&bytes), out, "{text:?}");
+        if let Ok(plan) = Plan::of(&bytes) {
+            assert_eq!(by_number(&plan), out, "{text:?} by number");
         }
     }
-    assert!(seen >= 6, "{seen} examples");
 }
 
 #[test]
@@ -308,6 +316,262 @@ fn lines_of_any_numbers() {
     let one = block_of(&[1; 16], &mut next, &lists, &lists);
     assert_eq!(String::from_utf8_lossy(&one), "page 1 0 0 11 22 11 22 33 33\n");
     assert_eq!(next, 2);
+}
+
+// ---- plans of lists
+
+/// The kinds of record, and how many bytes stand behind the mark.
+const KINDS: [(&str, usize); 19] = [
+    ("PC", 2),
+    ("LA", 0),
+    ("MG", 48),
+    ("SC", 2),
+    ("FW", 2),
+    ("FH", 2),
+    ("FT", 1),
+    ("OD", 1),
+    ("HD", 0),
+    ("LP", 8),
+    ("AR", 12),
+    ("TR", 8),
+    ("TC", 4),
+    ("RW", 12),
+    ("CL", 10),
+    ("MR", 12),
+    ("BR", 4),
+    ("BC", 2),
+    ("EN", 0),
+];
+
+/// The little-endian number at some bytes.
+fn number(bytes: &[u8]) -> u64 {
+    bytes.iter().rev().fold(0, |number, &byte| number * 256 + u64::from(byte))
+}
+
+/// What a job asks and its lists. The job passes questions 1 to 5.
+fn as_lists(mut bytes: &[u8]) -> (Asked, Lists) {
+    let (mut asked, mut lists, mut fit) = (Asked::default(), Lists::default(), None);
+    while !bytes.is_empty() {
+        let (mark, rest) = bytes.split_at(2);
+        let &(mark, length) = KINDS.iter().find(|kind| kind.0.as_bytes() == mark).expect("a known mark");
+        let (body, rest) = rest.split_at(length);
+        bytes = rest;
+        let short = |at: usize| number(&body[at..at + 2]) as u16;
+        let index = |at: usize| number(&body[at..at + 4]) as u32;
+        match mark {
+            "PC" => asked.paper = Some(short(0)),
+            "LA" => asked.landscape = true,
+            "MG" => asked.margins = Some(std::array::from_fn(|at| f64::from_bits(number(&body[8 * at..8 * at + 8])))),
+            "SC" => asked.percent = Some(short(0)),
+            "FW" => asked.fit_width = Some(short(0)),
+            "FH" => asked.fit_height = Some(short(0)),
+            "FT" => fit = Some(body[0] == 1),
+            "OD" => asked.over_then_down = body[0] == 1,
+            "HD" => asked.headings = true,
+            "LP" => asked.page_limit = number(body),
+            "AR" => {
+                (asked.first_row, asked.first_column) = (index(0), short(4).into());
+                (asked.last_row, asked.last_column) = (index(6), short(10).into());
+            }
+            "TR" => asked.row_title = Some((index(0), index(4))),
+            "TC" => asked.column_title = Some((short(0).into(), short(2).into())),
+            "RW" => {
+                lists.row_indexes.push(index(0));
+                lists.row_sizes.push(number(&body[4..]));
+            }
+            "CL" => {
+                lists.column_indexes.push(short(0).into());
+                lists.column_sizes.push(number(&body[2..]));
+            }
+            "MR" => {
+                lists.merge_first_rows.push(index(0));
+                lists.merge_first_columns.push(short(4).into());
+                lists.merge_last_rows.push(index(6));
+                lists.merge_last_columns.push(short(10).into());
+            }
+            "BR" => lists.row_breaks.push(index(0)),
+            "BC" => lists.column_breaks.push(short(0).into()),
+            _ => {}
+        }
+    }
+    asked.fit = fit.unwrap_or(asked.fit_width.is_some() || asked.fit_height.is_some());
+    (asked, lists)
+}
+
+/// The answer of both plan calls, with what they leave in the numbers and the lists, is the same.
+fn same_by_lists(bytes: &[u8]) {
+    let (asked, lists) = as_lists(bytes);
+    let (mut numbers, mut rows, mut columns) = ([77; 16], marked(MOST_RUNS), marked(MOST_RUNS));
+    let by_bytes = plan_into(bytes, &mut numbers, &mut rows, &mut columns);
+    let (mut others, mut other_rows, mut other_columns) = ([77; 16], marked(MOST_RUNS), marked(MOST_RUNS));
+    let by_lists = plan_lists_into(&asked.numbers(), &lists, &mut others, &mut other_rows, &mut other_columns);
+    assert_eq!((by_lists, others), (by_bytes, numbers), "{asked:?}");
+    assert_eq!((other_rows, other_columns), (rows, columns), "{asked:?}");
+    let text = Plan::of_lists(&asked, &lists).map_or_else(Refusal::text, |plan| printed(&plan));
+    assert_eq!(text, told(bytes), "{asked:?}");
+}
+
+/// Each setting by itself, and some together.
+fn jobs_with_settings() -> Vec<Vec<u8>> {
+    let short = |mark: &str, number: u16| record(mark, &[&number.to_le_bytes()]);
+    let margins = |inches: [f64; 6]| record("MG", &[inches.map(f64::to_le_bytes).concat().as_slice()]);
+    let pair = |first: u32, last: u32| record("TR", &[&first.to_le_bytes(), &last.to_le_bytes()]);
+    let columns = |first: u16, last: u16| record("TC", &[&first.to_le_bytes(), &last.to_le_bytes()]);
+    let titled = |titles: &[Vec<u8>]| {
+        let slots = (0..9).map(|row| slot("RW", row, 300_000)).chain((0..5).map(|column| slot("CL", column, 250_000)));
+        let merges = [area("MR", (1, 1, 2, 2)), area("MR", (4, 0, 6, 0))];
+        let breaks = [record("BR", &[&5u32.to_le_bytes()]), record("BC", &[&3u16.to_le_bytes()])];
+        let records = [area("AR", (0, 0, 8, 4))].into_iter().chain(titles.to_vec()).chain(slots).chain(merges).chain(breaks);
+        job(&records.chain([record("EN", &[])]).collect::<Vec<_>>())
+    };
+    let before = |records: &[Vec<u8>]| three_by_two(records, &[]);
+    vec![
+        before(&[short("PC", 9), record("LA", &[])]),
+        before(&[short("PC", 65_535)]),
+        before(&[margins([0.25, 0.5, 1.0, 2.0, 0.3, 0.3])]),
+        before(&[margins([f64::NAN, 0.5, 1.0, 2.0, 0.3, 0.3])]),
+        before(&[margins([-1.0, f64::INFINITY, 1e300, 0.0, 0.0, 0.0])]),
+        before(&[short("SC", 50)]),
+        before(&[short("SC", 7)]),
+        before(&[short("FW", 1)]),
+        before(&[short("FH", 1)]),
+        before(&[short("FW", 0), short("FH", 2)]),
+        before(&[short("FW", 1), short("FH", 1), record("FT", &[&[0]])]),
+        before(&[record("FT", &[&[1]])]),
+        before(&[record("OD", &[&[1]]), record("HD", &[])]),
+        titled(&[]),
+        titled(&[pair(0, 1)]),
+        titled(&[pair(0, 1), columns(0, 0)]),
+        titled(&[columns(1, 1)]),
+        titled(&[pair(3, 2), columns(0, 20_000)]),
+    ]
+}
+
+#[test]
+fn the_same_by_bytes_and_by_lists() {
+    same_by_lists(&first());
+    jobs_with_settings().iter().for_each(|bytes| same_by_lists(bytes));
+    refused_jobs().iter().filter(|(number, _)| *number > 5).for_each(|(_, bytes)| same_by_lists(bytes));
+    example_jobs().iter().for_each(|(_, bytes)| same_by_lists(bytes));
+}
+
+/// The lists of the job of document 01.
+fn first_lists() -> (Asked, Lists) {
+    as_lists(&first())
+}
+
+#[test]
+fn refusals_of_lists_write_nothing() {
+    let refused = |number: u8, change: fn(&mut Asked, &mut Lists)| {
+        let (mut asked, mut lists) = first_lists();
+        change(&mut asked, &mut lists);
+        let (mut numbers, mut rows, mut columns) = ([77; 16], marked(2), marked(2));
+        let answer = plan_lists_into(&asked.numbers(), &lists, &mut numbers, &mut rows, &mut columns);
+        assert_eq!(answer, Err(Refusal(number)), "{asked:?} {lists:?}");
+        assert_eq!((numbers, rows, columns), ([77; 16], marked(2), marked(2)), "refused with {number}");
+    };
+    refused(6, |_, lists| lists.row_sizes.push(1));
+    refused(6, |_, lists| lists.column_indexes.push(9));
+    refused(6, |_, lists| lists.merge_first_rows.push(0));
+    refused(6, |_, lists| lists.merge_last_columns.push(0));
+    refused(6, |asked, _| asked.first_row = 3);
+    refused(6, |asked, _| asked.first_column = 2);
+    refused(7, |asked, _| asked.last_row = 1_048_576);
+    refused(7, |asked, _| asked.last_column = 16_384);
+    refused(7, |asked, _| asked.last_row = u32::MAX);
+    refused(8, |_, lists| lists.row_indexes.swap(0, 1));
+    refused(8, |_, lists| lists.column_indexes[1] = 16_384);
+    refused(9, |_, lists| lists.row_sizes[2] = 1_073_741_824);
+    refused(9, |_, lists| lists.column_sizes[0] = u64::MAX);
+    refused(11, |_, lists| lists.row_sizes.fill(900_000));
+    refused(12, |asked, _| asked.page_limit = 3);
+}
+
+#[test]
+fn run_lists_too_short_or_not_equally_long_for_lists() {
+    let (asked, lists) = first_lists();
+    let planned = |rows: &mut RunLists, columns: &mut RunLists| plan_lists_into(&asked.numbers(), &lists, &mut [0; 16], rows, columns);
+    assert_eq!(planned(&mut marked(1), &mut marked(2)), Err(Refusal(11)));
+    assert_eq!(planned(&mut marked(2), &mut marked(1)), Err(Refusal(11)));
+    let mut uneven = marked(2);
+    uneven.lasts.push(0);
+    assert_eq!(planned(&mut uneven.clone(), &mut marked(2)), Err(Refusal(6)));
+    assert_eq!(planned(&mut marked(2), &mut uneven), Err(Refusal(6)));
+    assert_eq!(planned(&mut marked(2), &mut marked(2)), Ok(()));
+}
+
+/// What thirty numbers stand for that no `Asked` has: any mark above 0 is set, a number too large is the largest of its kind.
+#[test]
+fn asked_by_any_numbers() {
+    let (asked, lists) = first_lists();
+    let planned = |numbers: [u64; 30]| {
+        let (mut out, mut rows, mut columns) = ([77; 16], marked(5), marked(5));
+        let answer = plan_lists_into(&numbers, &lists, &mut out, &mut rows, &mut columns);
+        (answer, out, rows, columns)
+    };
+    let changed = |numbers: [u64; 30], changes: &[(usize, u64)]| {
+        let mut numbers = numbers;
+        changes.iter().for_each(|&(at, to)| numbers[at] = to);
+        numbers
+    };
+    let whole = Asked {
+        landscape: true,
+        margins: Some([0.5; 6]),
+        percent: Some(u16::MAX),
+        fit_width: Some(1),
+        fit_height: Some(u16::MAX),
+        over_then_down: true,
+        headings: true,
+        row_title: Some((0, 0)),
+        column_title: Some((1, u32::MAX)),
+        ..asked.clone()
+    };
+    let numbers = whole.numbers();
+    let most = u64::MAX;
+    let marks = [0, 2, 3, 10, 13, 15, 17, 18, 24, 27].map(|at| (at, most));
+    let large = [(11, 65_536), (16, most), (29, 4_294_967_296)];
+    for (fit, numbers) in [(0, numbers), (1, changed(numbers, &[(12, 1)]))] {
+        let plain = planned(numbers);
+        assert_eq!(plain.0, Ok(()), "fit {fit}");
+        assert_eq!(planned(changed(numbers, &marks)), plain, "fit {fit}");
+        assert_eq!(planned(changed(numbers, &large)), plain, "fit {fit}");
+    }
+    // numbers behind a mark that is not set are not looked at
+    let unset = [(1, 9), (4, most), (9, 1), (11, 7), (14, 3), (16, 3), (25, 1), (26, 0), (28, 1), (29, 0)];
+    let numbers = changed(asked.numbers(), &[(0, 0)]);
+    assert_eq!(planned(changed(numbers, &unset)), planned(numbers));
+    // a range past every u32 is outside the grid, not cut off to its low bits
+    assert_eq!(planned(changed(numbers, &[(22, 4_294_967_298)])).0, Err(Refusal(7)));
+    assert_eq!(planned(changed(numbers, &[(20, most), (22, most)])).0, Err(Refusal(7)));
+    assert_eq!(planned(changed(numbers, &[(20, 4_294_967_296)])).0, Err(Refusal(6)));
+    assert_eq!(planned([most; 30]).0, Err(Refusal(7)));
+    assert_eq!(planned([0; 30]).0, Err(Refusal(12)));
+}
+
+/// No job has so many rows: 45 to a page.
+#[test]
+fn a_million_rows() {
+    let rows = 1_000_000;
+    let asked = Asked { page_limit: u64::MAX, last_row: rows - 1, ..Asked::default() };
+    let lists = Lists {
+        row_indexes: (0..rows).collect(),
+        row_sizes: vec![20_480; rows as usize],
+        column_indexes: vec![0],
+        column_sizes: vec![65_536],
+        row_breaks: vec![500_001],
+        ..Lists::default()
+    };
+    let plan = Plan::of_lists(&asked, &lists).expect("a plan");
+    let runs = plan.row_runs();
+    assert_eq!(plan.pages(), runs.len() as u64);
+    assert_eq!((runs[0].first, runs[0].last, runs[0].size), (0, 44, 45 * 20_480));
+    assert!(runs.windows(2).all(|pair| pair[0].last + 1 == pair[1].first));
+    assert_eq!(runs.iter().map(|run| run.size).sum::<u64>(), 20_480 * u64::from(rows));
+    let broken: Vec<u32> = runs.iter().filter(|run| run.manual_break).map(|run| run.first).collect();
+    assert_eq!(broken, [500_001]);
+    let fitted = Plan::of_lists(&Asked { fit: true, fit_height: Some(3_000), ..asked }, &lists).expect("a plan");
+    assert!(fitted.pages() <= 3_000, "{} pages", fitted.pages());
+    assert_eq!(fitted.notes(), [0; 9]);
 }
 
 /// The plan call needs room on the stack; a thread as Rust makes it has enough.

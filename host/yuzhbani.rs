@@ -1,6 +1,7 @@
 //! Page plans of measured worksheets: a safe face of the static library `yuzhbani`.
 //!
-//! A job's bytes are planned by [`Plan::of`]. Whoever keeps run lists of his own calls [`plan_into`] and [`page_of`].
+//! A job's bytes are planned by [`Plan::of`], lists of measured slots by [`Plan::of_lists`]. Whoever keeps run lists of his own calls
+//! [`plan_into`], [`plan_lists_into`] and [`page_of`].
 
 use std::fmt;
 use std::io::{self, Write};
@@ -14,6 +15,9 @@ pub const MOST_RUNS: usize = 5_000;
 /// The numbers of a plan: permille, row runs, column runs, rows empty, columns empty, pages, order, nine notes.
 pub type Numbers = [u64; 16];
 
+/// What is asked of a plan of lists, as numbers; [`Asked::numbers`] has their order. Any numbers have an answer.
+pub type AskedNumbers = [u64; 30];
+
 /// The bytes that a block of page lines has room for.
 const BLOCK: usize = 65_536;
 
@@ -23,6 +27,47 @@ mod raw {
         pub fn yuzhbani_plan(
             bytes: *const u8,
             bytes_len: usize,
+            numbers: *mut [u64; 16],
+            row_run_firsts: *mut u32,
+            row_run_firsts_len: usize,
+            row_run_lasts: *mut u32,
+            row_run_lasts_len: usize,
+            row_run_sizes: *mut u64,
+            row_run_sizes_len: usize,
+            row_run_marks: *mut u8,
+            row_run_marks_len: usize,
+            column_run_firsts: *mut u32,
+            column_run_firsts_len: usize,
+            column_run_lasts: *mut u32,
+            column_run_lasts_len: usize,
+            column_run_sizes: *mut u64,
+            column_run_sizes_len: usize,
+            column_run_marks: *mut u8,
+            column_run_marks_len: usize,
+        ) -> u8;
+
+        pub fn yuzhbani_plan_lists(
+            asked: *const [u64; 30],
+            row_indexes: *const u32,
+            row_indexes_len: usize,
+            row_sizes: *const u64,
+            row_sizes_len: usize,
+            column_indexes: *const u32,
+            column_indexes_len: usize,
+            column_sizes: *const u64,
+            column_sizes_len: usize,
+            merge_first_rows: *const u32,
+            merge_first_rows_len: usize,
+            merge_first_columns: *const u32,
+            merge_first_columns_len: usize,
+            merge_last_rows: *const u32,
+            merge_last_rows_len: usize,
+            merge_last_columns: *const u32,
+            merge_last_columns_len: usize,
+            row_breaks: *const u32,
+            row_breaks_len: usize,
+            column_breaks: *const u32,
+            column_breaks_len: usize,
             numbers: *mut [u64; 16],
             row_run_firsts: *mut u32,
             row_run_firsts_len: usize,
@@ -159,6 +204,94 @@ impl RunLists {
     }
 }
 
+/// What is asked of a plan of lists, beside the lists: settings, range and titles. `Default` is a range of one cell, and nothing else.
+#[derive(Debug, Clone, PartialEq)]
+pub struct Asked {
+    pub paper: Option<u16>,
+    pub landscape: bool,
+    /// Left, right, top, bottom, header and footer, in inches.
+    pub margins: Option<[f64; 6]>,
+    pub percent: Option<u16>,
+    pub fit: bool,
+    /// The most pages from left to right, 0 for any number.
+    pub fit_width: Option<u16>,
+    /// The most pages from top to bottom, 0 for any number.
+    pub fit_height: Option<u16>,
+    pub over_then_down: bool,
+    pub headings: bool,
+    pub page_limit: u64,
+    pub first_row: u32,
+    pub first_column: u32,
+    pub last_row: u32,
+    pub last_column: u32,
+    pub row_title: Option<(u32, u32)>,
+    pub column_title: Option<(u32, u32)>,
+}
+
+impl Default for Asked {
+    fn default() -> Self {
+        Self {
+            paper: None,
+            landscape: false,
+            margins: None,
+            percent: None,
+            fit: false,
+            fit_width: None,
+            fit_height: None,
+            over_then_down: false,
+            headings: false,
+            page_limit: 10_000,
+            first_row: 0,
+            first_column: 0,
+            last_row: 0,
+            last_column: 0,
+            row_title: None,
+            column_title: None,
+        }
+    }
+}
+
+impl Asked {
+    /// Paper given, paper; landscape; margins given, six margins' bits; percent given, percent; fit; width's target given, target; height's
+    /// target given, target; order; headings; page limit; range; row title given, first, last; column title given, first, last.
+    pub fn numbers(&self) -> AskedNumbers {
+        let setting = |set: Option<u16>| [u64::from(set.is_some()), u64::from(set.unwrap_or(0))];
+        let title = |set: Option<(u32, u32)>| {
+            let (first, last) = set.unwrap_or((0, 0));
+            [u64::from(set.is_some()), u64::from(first), u64::from(last)]
+        };
+        let mut numbers = [0; 30];
+        let mut put = |at: usize, some: &[u64]| numbers[at..at + some.len()].copy_from_slice(some);
+        put(0, &setting(self.paper));
+        put(2, &[u64::from(self.landscape), u64::from(self.margins.is_some())]);
+        put(4, &self.margins.unwrap_or([0.0; 6]).map(f64::to_bits));
+        put(10, &setting(self.percent));
+        put(12, &[u64::from(self.fit)]);
+        put(13, &setting(self.fit_width));
+        put(15, &setting(self.fit_height));
+        put(17, &[u64::from(self.over_then_down), u64::from(self.headings), self.page_limit]);
+        put(20, &[self.first_row, self.first_column, self.last_row, self.last_column].map(u64::from));
+        put(24, &title(self.row_title));
+        put(27, &title(self.column_title));
+        numbers
+    }
+}
+
+/// The measured slots, merges and breaks of a plan of lists. Lists that belong together and are not equally long are refused with 6.
+#[derive(Debug, Clone, Default, PartialEq, Eq)]
+pub struct Lists {
+    pub row_indexes: Vec<u32>,
+    pub row_sizes: Vec<u64>,
+    pub column_indexes: Vec<u32>,
+    pub column_sizes: Vec<u64>,
+    pub merge_first_rows: Vec<u32>,
+    pub merge_first_columns: Vec<u32>,
+    pub merge_last_rows: Vec<u32>,
+    pub merge_last_columns: Vec<u32>,
+    pub row_breaks: Vec<u32>,
+    pub column_breaks: Vec<u32>,
+}
+
 /// Plans a job: the plan's numbers go to `numbers`, its runs to the fronts of the lists. A refusal writes nothing.
 pub fn plan_into(bytes: &[u8], numbers: &mut Numbers, rows: &mut RunLists, columns: &mut RunLists) -> Result<(), Refusal> {
     // Safe: each pointer and length are those of a slice or an array that is borrowed over the call, and what is lent as
@@ -167,6 +300,59 @@ pub fn plan_into(bytes: &[u8], numbers: &mut Numbers, rows: &mut RunLists, colum
         raw::yuzhbani_plan(
             bytes.as_ptr(),
             bytes.len(),
+            numbers,
+            rows.firsts.as_mut_ptr(),
+            rows.firsts.len(),
+            rows.lasts.as_mut_ptr(),
+            rows.lasts.len(),
+            rows.sizes.as_mut_ptr(),
+            rows.sizes.len(),
+            rows.marks.as_mut_ptr(),
+            rows.marks.len(),
+            columns.firsts.as_mut_ptr(),
+            columns.firsts.len(),
+            columns.lasts.as_mut_ptr(),
+            columns.lasts.len(),
+            columns.sizes.as_mut_ptr(),
+            columns.sizes.len(),
+            columns.marks.as_mut_ptr(),
+            columns.marks.len(),
+        )
+    })
+}
+
+/// Plans lists: as [`plan_into`], with what is asked as numbers and without a bound but the grid's on the lists.
+pub fn plan_lists_into(
+    asked: &AskedNumbers,
+    lists: &Lists,
+    numbers: &mut Numbers,
+    rows: &mut RunLists,
+    columns: &mut RunLists,
+) -> Result<(), Refusal> {
+    // Safe: as in `plan_into`.
+    answered(unsafe {
+        raw::yuzhbani_plan_lists(
+            asked,
+            lists.row_indexes.as_ptr(),
+            lists.row_indexes.len(),
+            lists.row_sizes.as_ptr(),
+            lists.row_sizes.len(),
+            lists.column_indexes.as_ptr(),
+            lists.column_indexes.len(),
+            lists.column_sizes.as_ptr(),
+            lists.column_sizes.len(),
+            lists.merge_first_rows.as_ptr(),
+            lists.merge_first_rows.len(),
+            lists.merge_first_columns.as_ptr(),
+            lists.merge_first_columns.len(),
+            lists.merge_last_rows.as_ptr(),
+            lists.merge_last_rows.len(),
+            lists.merge_last_columns.as_ptr(),
+            lists.merge_last_columns.len(),
+            lists.row_breaks.as_ptr(),
+            lists.row_breaks.len(),
+            lists.column_breaks.as_ptr(),
+            lists.column_breaks.len(),
             numbers,
             rows.firsts.as_mut_ptr(),
             rows.firsts.len(),
@@ -279,6 +465,15 @@ impl Plan {
         let lists = || RunLists::with_room(MOST_RUNS);
         let mut plan = Self { numbers: [0; 16], rows: lists(), columns: lists() };
         plan_into(bytes, &mut plan.numbers, &mut plan.rows, &mut plan.columns)?;
+        Ok(plan)
+    }
+
+    /// Plans lists, with run lists that have room for a run of each slot.
+    pub fn of_lists(asked: &Asked, lists: &Lists) -> Result<Self, Refusal> {
+        let room = |slots: &[u32]| RunLists::with_room(slots.len().max(1));
+        let (rows, columns) = (room(&lists.row_indexes), room(&lists.column_indexes));
+        let mut plan = Self { numbers: [0; 16], rows, columns };
+        plan_lists_into(&asked.numbers(), lists, &mut plan.numbers, &mut plan.rows, &mut plan.columns)?;
         Ok(plan)
     }
 

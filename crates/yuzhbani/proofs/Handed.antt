@@ -12,13 +12,14 @@ use Rattle.rules.specs.declared.plan.Planning.{Planning}
 use Rattle.rules.specs.declared.plan.Planning.the-variants.{Value, Refused}
 use Rattle.rules.specs.Questions.{ask, equallyLong, risingWithin, allSmall}
 use Rattle.rules.specs.Pages.{RunLists, evenLists}
-use Rattle.rules.specs.Plan.{AxisInput, Sides, Layout, Planned, contentSides, layout, formed, inGrid, roomFor, planned, planOutcome}
+use Rattle.rules.specs.Plan.{AxisInput, Sides, Layout, Planned, rowsOf, columnsOf, contentSides, layout, formed, inGrid, roomFor, planned, planOutcome}
 use Rattle.rules.specs.Demand.{CoversPairs, FewestPlan, LargestPlan}
 use Rattle.rules.proofs.NoTen.{sides-given, asked, not-given}
 use Rattle.records.specs.declared.questions.Items.{Items}
 use Rattle.records.specs.Records.{records}
 use Rattle.records.specs.Verdict.{inOrder, questions, itemsOf, verdictLent}
 use Rattle.job.specs.Plan.{jobSettings, jobRows, jobColumns, planJob}
+use Rattle.yuzhbani.specs.declared.asked.Asked.{Asked}
 use Rattle.yuzhbani.specs.Numbers.{planNumbers, told}
 use Rattle.yuzhbani.specs.Calls.{answerTo, planIn, answerOf, numbersOf, HadBack, PlanHanded}
 
@@ -33,7 +34,7 @@ questions-not-zero : (even : Bool) (s : List ℕ) → verdictLent even s ≡ ref
 unfolding verdictLent
 questions-not-zero even s e = let i = from-first (itemsOf (records s)) 1 0 (questions even s) e in omega (arith, i)
 
-plan-not-zero : (s : Settings) (rows columns : AxisInput) (lr lc : RunLists) → planned s rows columns lr lc ≡ refused 0 → ⊥
+pub plan-not-zero : (s : Settings) (rows columns : AxisInput) (lr lc : RunLists) → planned s rows columns lr lc ≡ refused 0 → ⊥
 unfolding planned roomFor
 plan-not-zero s rows columns lr lc e =
     let q6 = formed rows (evenLists lr) && formed columns (evenLists lc) && equallyLong (rows .merge-firsts) (columns .merge-firsts) in
@@ -97,18 +98,34 @@ module _ (o : Outcome Layout) (p : Planning) (old : List ℕ) (e : planOutcome p
       go (refused n) (Refused zero) e never back = let same : n ≡ 0 = cc in absurd (never (ap refused same))
       go (refused n) (Refused (suc m)) e never back = refl
 
--- the clauses of `yuzhbani_plan`, of those of `plan_job`
-pub handed-job : (s : List ℕ) (rows₀ columns₀ rows columns : RunLists) (p : Planning) (old : List ℕ) (r : ℕ) (numbers : List ℕ)
-    → Planned (planJob s rows₀ columns₀) p rows₀ columns₀ rows columns
-    × (CoversPairs p (jobRows s) (jobColumns s) rows columns × (FewestPlan p (jobSettings s) (jobRows s) (jobColumns s) rows columns × LargestPlan p (jobSettings s) (jobRows s) (jobColumns s)))
+-- the three sentences of demand 3, of a planning
+abbrev Demands : Planning → Settings → AxisInput → AxisInput → RunLists → RunLists → Type 0
+Demands p s rs cs rows columns = CoversPairs p rs cs rows columns × (FewestPlan p s rs cs rows columns × LargestPlan p s rs cs)
+
+-- the clauses of a call that hands a plan over, of those of the call that plans
+pub handed : (o : Outcome Layout) → (o ≡ refused 0 → ⊥) → (s : Settings) (rs cs : AxisInput) (rows₀ columns₀ rows columns : RunLists) (p : Planning) (old : List ℕ) (r : ℕ) (numbers : List ℕ)
+    → Planned o p rows₀ columns₀ rows columns × Demands p s rs cs rows columns
     → (r ≡ answerOf p) × ((numbers ≡ numbersOf p old) × HadBack p)
-    → PlanHanded (planJob s rows₀ columns₀) r old numbers rows₀ columns₀ rows columns
-    × (CoversPairs (told r numbers) (jobRows s) (jobColumns s) rows columns
-    × (FewestPlan (told r numbers) (jobSettings s) (jobRows s) (jobColumns s) rows columns × LargestPlan (told r numbers) (jobSettings s) (jobRows s) (jobColumns s)))
-handed-job s rows₀ columns₀ rows columns p old r numbers w (a, (n, back)) =
-    let o = planJob s rows₀ columns₀ in
+    → PlanHanded o r old numbers rows₀ columns₀ rows columns × Demands (told r numbers) s rs cs rows columns
+handed o never s rs cs rows₀ columns₀ rows columns p old r numbers w (a, (n, back)) =
     let e = w .0 .answer in
-    let t : told r numbers ≡ p = ap₂ told a n ∙ told-is o p old e (job-not-zero s rows₀ columns₀) back in (
+    let t : told r numbers ≡ p = ap₂ told a n ∙ told-is o p old e never back in (
       record { answer = a ∙ answer-is o p old e; numbers-are = n ∙ numbers-are o p old e; stands = ap planOutcome t ∙ e; rows-are = w .0 .rows-are; columns-are = w .0 .columns-are },
       rw t (w .1),
     )
+
+-- ---- what is asked by numbers
+
+abbrev rowsFor : Asked → List ℕ → List ℕ → List ℕ → List ℕ → List ℕ → AxisInput
+rowsFor a is ss fs ls bs = rowsOf (a .settings) (a .range) (a .«row_title») is ss fs ls bs
+
+abbrev columnsFor : Asked → List ℕ → List ℕ → List ℕ → List ℕ → List ℕ → AxisInput
+columnsFor a is ss fs ls bs = columnsOf (a .settings) (a .range) (a .«column_title») is ss fs ls bs
+
+-- the clauses of the planner, of the same that is asked
+pub asked-same : {a b : Asked} → a ≡ b → (ri rz rf rl rb ci cz cf cl cb : List ℕ) (rows₀ columns₀ rows columns : RunLists) (p : Planning)
+    → Planned (planned (a .settings) (rowsFor a ri rz rf rl rb) (columnsFor a ci cz cf cl cb) rows₀ columns₀) p rows₀ columns₀ rows columns
+    × Demands p (a .settings) (rowsFor a ri rz rf rl rb) (columnsFor a ci cz cf cl cb) rows columns
+    → Planned (planned (b .settings) (rowsFor b ri rz rf rl rb) (columnsFor b ci cz cf cl cb) rows₀ columns₀) p rows₀ columns₀ rows columns
+    × Demands p (b .settings) (rowsFor b ri rz rf rl rb) (columnsFor b ci cz cf cl cb) rows columns
+asked-same e ri rz rf rl rb ci cz cf cl cb rows₀ columns₀ rows columns p w = rw (← e) w

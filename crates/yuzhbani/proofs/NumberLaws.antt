@@ -1,6 +1,6 @@
 -- The numbers of a plan stand for the plan, and what the code makes of numbers and of answers. Assumes nothing.
 use mathlib.Core.Path.{_≡_, refl, ap}
-use mathlib.Core.Bool.{Bool, true, false}
+use mathlib.Core.Bool.{Bool, true, false, cond}
 use mathlib.Core.List.{List}
 use Prim.Native.Nat.{ℕ, zero, suc, _<_, _≤_, min}
 use native.Mathlib.Omega.{arith}
@@ -40,12 +40,12 @@ pub as-bit : (b : Bool) → boolByte b ≡ bit b
 as-bit true = refl
 as-bit false = refl
 
--- an order by its number
-pub over : (n : ℕ) → 0 < n → OverThenDown ≡ orderFrom n
-over n h = rw (lt-ltb 0 n h)
+-- what a number above 0 picks, and what 0 picks
+pub when-set : {A : Type 0} (n : ℕ) (a b : A) → 0 < n → a ≡ cond (isSet n) a b
+when-set n a b h = rw (lt-ltb 0 n h)
 
-pub down : (n : ℕ) → n ≤ 0 → DownThenOver ≡ orderFrom n
-down n h = rw (le-ltb 0 n h)
+pub when-not : {A : Type 0} (n : ℕ) (a b : A) → n ≤ 0 → b ≡ cond (isSet n) a b
+when-not n a b h = rw (le-ltb 0 n h)
 
 -- an answer above 0, and 0
 pub told-refused : (n : ℕ) (ns : List ℕ) → 0 < n → Refused n ≡ told n ns

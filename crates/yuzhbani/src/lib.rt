@@ -1,25 +1,30 @@
 // Plans, pages and their text for a program in another language. `rt staticlib yuzhbani` makes an archive of these calls, which C or Rust
-// can link. A plan is handed over as sixteen numbers and a page as twelve, in the order that `specs/Numbers.antt` says.
+// can link. A plan is handed over as sixteen numbers and a page as twelve, in the order that `specs/Numbers.antt` says;
+// what is asked of a plan as thirty, in the order that `specs/Asked.antt` says.
+mod asked;
 mod numbers;
 
+use crate::asked::asked_from;
 use crate::numbers::plan_from;
 use crate::numbers::put_page;
 use crate::numbers::put_planning;
 use crate::numbers::told;
 use job::plan_job;
 use pages::page_numbered;
+use planner::plan_pages;
 use report::head_lines;
 use report::page_block;
 ghost use mathlib.Core.Path.{_≡_};
 ghost use Prim.Native.Nat.{_≤_};
 ghost use lib.ListN.{length, take};
 ghost use Rattle.rules.specs.Pages.{runLists, pageNumbered};
-ghost use Rattle.rules.specs.Plan.{planOutcome};
+ghost use Rattle.rules.specs.Plan.{planned, planOutcome};
 ghost use Rattle.rules.specs.Demand.{CoversPairs, FewestPlan, LargestPlan};
 ghost use Rattle.job.specs.Plan as job;
 ghost use Rattle.report.specs.Lines.{headLines};
 ghost use Rattle.report.specs.Blocks.{BlockOf};
 ghost use Rattle.yuzhbani.specs.Numbers as section;
+ghost use Rattle.yuzhbani.specs.Asked.{settingsFrom, rowsAsked, columnsAsked};
 ghost use Rattle.yuzhbani.specs.Calls.{PlanHanded, PageHanded, blockTo};
 
 // Plans the pages of a job: 0, with the plan's numbers in `numbers` and its runs at the fronts of eight lent lists; or the number of a
@@ -44,6 +49,68 @@ pub extern "C" fn yuzhbani_plan(
 {
     let planning = plan_job(
         bytes,
+        row_run_firsts,
+        row_run_lasts,
+        row_run_sizes,
+        row_run_marks,
+        column_run_firsts,
+        column_run_lasts,
+        column_run_sizes,
+        column_run_marks,
+    );
+    put_planning(planning, numbers)
+}
+
+// Plans the pages of lists: what is asked as thirty numbers, the measured slots, merges and breaks as ten lists. It answers and writes as
+// `yuzhbani_plan` does.
+#[no_mangle]
+pub extern "C" fn yuzhbani_plan_lists(
+    asked: &[u64; 30],
+    row_indexes: &[u32],
+    row_sizes: &[u64],
+    column_indexes: &[u32],
+    column_sizes: &[u64],
+    merge_first_rows: &[u32],
+    merge_first_columns: &[u32],
+    merge_last_rows: &[u32],
+    merge_last_columns: &[u32],
+    row_breaks: &[u32],
+    column_breaks: &[u32],
+    numbers: &mut [u64; 16],
+    row_run_firsts: &mut [u32],
+    row_run_lasts: &mut [u32],
+    row_run_sizes: &mut [u64],
+    row_run_marks: &mut [u8],
+    column_run_firsts: &mut [u32],
+    column_run_lasts: &mut [u32],
+    column_run_sizes: &mut [u64],
+    column_run_marks: &mut [u8],
+) -> u8
+    ensures planned { λ r. ⌜ PlanHanded (planned (settingsFrom (now (asked .entry))) (rowsAsked (now (asked .entry)) (now («row_indexes» .entry)) (now («row_sizes» .entry)) (now («merge_first_rows» .entry)) (now («merge_last_rows» .entry)) (now («row_breaks» .entry))) (columnsAsked (now (asked .entry)) (now («column_indexes» .entry)) (now («column_sizes» .entry)) (now («merge_first_columns» .entry)) (now («merge_last_columns» .entry)) (now («column_breaks» .entry))) (runLists (now («row_run_firsts» .entry)) (now («row_run_lasts» .entry)) (now («row_run_sizes» .entry)) (now («row_run_marks» .entry))) (runLists (now («column_run_firsts» .entry)) (now («column_run_lasts» .entry)) (now («column_run_sizes» .entry)) (now («column_run_marks» .entry)))) r (now (numbers .entry)) (now (numbers .exit)) (runLists (now («row_run_firsts» .entry)) (now («row_run_lasts» .entry)) (now («row_run_sizes» .entry)) (now («row_run_marks» .entry))) (runLists (now («column_run_firsts» .entry)) (now («column_run_lasts» .entry)) (now («column_run_sizes» .entry)) (now («column_run_marks» .entry))) (runLists (now («row_run_firsts» .exit)) (now («row_run_lasts» .exit)) (now («row_run_sizes» .exit)) (now («row_run_marks» .exit))) (runLists (now («column_run_firsts» .exit)) (now («column_run_lasts» .exit)) (now («column_run_sizes» .exit)) (now («column_run_marks» .exit))) ⌝ }
+    ensures covered { λ r. ⌜ CoversPairs (section.told r (now (numbers .exit))) (rowsAsked (now (asked .entry)) (now («row_indexes» .entry)) (now («row_sizes» .entry)) (now («merge_first_rows» .entry)) (now («merge_last_rows» .entry)) (now («row_breaks» .entry))) (columnsAsked (now (asked .entry)) (now («column_indexes» .entry)) (now («column_sizes» .entry)) (now («merge_first_columns» .entry)) (now («merge_last_columns» .entry)) (now («column_breaks» .entry))) (runLists (now («row_run_firsts» .exit)) (now («row_run_lasts» .exit)) (now («row_run_sizes» .exit)) (now («row_run_marks» .exit))) (runLists (now («column_run_firsts» .exit)) (now («column_run_lasts» .exit)) (now («column_run_sizes» .exit)) (now («column_run_marks» .exit))) ⌝ }
+    ensures fewest { λ r. ⌜ FewestPlan (section.told r (now (numbers .exit))) (settingsFrom (now (asked .entry))) (rowsAsked (now (asked .entry)) (now («row_indexes» .entry)) (now («row_sizes» .entry)) (now («merge_first_rows» .entry)) (now («merge_last_rows» .entry)) (now («row_breaks» .entry))) (columnsAsked (now (asked .entry)) (now («column_indexes» .entry)) (now («column_sizes» .entry)) (now («merge_first_columns» .entry)) (now («merge_last_columns» .entry)) (now («column_breaks» .entry))) (runLists (now («row_run_firsts» .exit)) (now («row_run_lasts» .exit)) (now («row_run_sizes» .exit)) (now («row_run_marks» .exit))) (runLists (now («column_run_firsts» .exit)) (now («column_run_lasts» .exit)) (now («column_run_sizes» .exit)) (now («column_run_marks» .exit))) ⌝ }
+    ensures largest { λ r. ⌜ LargestPlan (section.told r (now (numbers .exit))) (settingsFrom (now (asked .entry))) (rowsAsked (now (asked .entry)) (now («row_indexes» .entry)) (now («row_sizes» .entry)) (now («merge_first_rows» .entry)) (now («merge_last_rows» .entry)) (now («row_breaks» .entry))) (columnsAsked (now (asked .entry)) (now («column_indexes» .entry)) (now («column_sizes» .entry)) (now («merge_first_columns» .entry)) (now («merge_last_columns» .entry)) (now («column_breaks» .entry))) ⌝ }
+{
+    let what = asked_from(asked);
+    let settings = what.settings;
+    let range = what.range;
+    let row_title = what.row_title;
+    let column_title = what.column_title;
+    let planning = plan_pages(
+        settings,
+        range,
+        row_title,
+        column_title,
+        row_indexes,
+        row_sizes,
+        column_indexes,
+        column_sizes,
+        merge_first_rows,
+        merge_first_columns,
+        merge_last_rows,
+        merge_last_columns,
+        row_breaks,
+        column_breaks,
         row_run_firsts,
         row_run_lasts,
         row_run_sizes,

@@ -19,7 +19,7 @@ fn order_number(order: PageOrder) -> u64
     }
 }
 
-fn order_from(n: u64) -> PageOrder
+pub(crate) fn order_from(n: u64) -> PageOrder
     ensures { λ r. ⌜ r ≡ section.orderFrom n ⌝ }
 {
     if n > 0 {
@@ -29,7 +29,7 @@ fn order_from(n: u64) -> PageOrder
     }
 }
 
-fn permille_from(n: u64) -> u16
+pub(crate) fn u16_from(n: u64) -> u16
     ensures { λ r. ⌜ r ≡ min n 65535 ⌝ }
 {
     if n < 65535 { n as u16 } else { 65535 }
@@ -80,7 +80,7 @@ pub(crate) fn plan_from(numbers: &[u64; 16]) -> Plan
     ensures { λ r. ⌜ r ≡ section.planFrom (now (numbers .entry)) ⌝ }
 {
     Plan {
-        permille: permille_from(numbers[0]),
+        permille: u16_from(numbers[0]),
         row_runs: numbers[1] as usize,
         column_runs: numbers[2] as usize,
         rows_empty: numbers[3] > 0,

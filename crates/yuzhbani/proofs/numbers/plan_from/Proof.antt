@@ -4,11 +4,11 @@ use Rattle.yuzhbani.specs.Numbers.{planFrom}
 use Rattle.yuzhbani.proofs.numbers.plan_from.Statement.{statement}
 use Rattle.yuzhbani.proofs.numbers.plan_from.Tie as tie
 
-element-copy-out-permille-from : tie.Need-element-copy-out-permille-from
-element-copy-out-permille-from c = search needs
+element-copy-out-u16-from : tie.Need-element-copy-out-u16-from
+element-copy-out-u16-from c = search needs
 
-permille-from-requires : tie.Need-permille-from-requires
-permille-from-requires c κs = search needs
+u16-from-requires : tie.Need-u16-from-requires
+u16-from-requires c κs = search needs
 
 element-copy-out-t8 : tie.Need-element-copy-out-t8
 element-copy-out-t8 c = search needs
@@ -62,14 +62,14 @@ returns : tie.Need-returns
 unfolding planFrom
 returns c =
     let o = c .before .before .before .before .before .before .before .before .before in
-    rw (o .before .before .before .before .before .before .before .permille-from .ensures, o .order-from .ensures)
+    rw (o .before .before .before .before .before .before .before .u16-from .ensures, o .order-from .ensures)
 
 pub plan-from-spec : {M : Type 1} → statement M
 plan-from-spec =
     tie.close
     (tie.spec
-    element-copy-out-permille-from
-    permille-from-requires
+    element-copy-out-u16-from
+    u16-from-requires
     element-copy-out-t8
     element-copy-out-t12
     element-copy-out-t16
