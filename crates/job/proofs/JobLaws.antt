@@ -1,6 +1,6 @@
 -- What the four clauses of a job's plan follow from: the clauses of the plan of what was read. Assumes nothing.
 use mathlib.Core.Path.{_≡_, refl, sym, ap, ap₂, _∙_}
-use mathlib.Core.Bool.{Bool, true, false, _&&_}
+use mathlib.Core.Bool.{Bool, true, false, true≢false, _&&_}
 use mathlib.Core.List.{List}
 use Prim.Native.Nat.{ℕ, _≤_}
 use native.Mathlib.Omega.{arith}
@@ -21,18 +21,18 @@ use Rattle.rules.proofs.Lent.{front-written}
 use Rattle.rules.proofs.PlanLaws.{refuses-plan}
 use Rattle.records.specs.declared.records.Record.{Record}
 use Rattle.records.specs.declared.questions.Items.{Items}
-use Rattle.records.specs.declared.questions.Checked.{Checked}
 use Rattle.records.specs.declared.questions.Checked.the-variants as checked
 use Rattle.reader.specs.declared.settings.JobSettings.{JobSettings}
 use Rattle.reader.specs.declared.lists.Job.{Job}
 use Rattle.reader.specs.declared.lists.Reading.{Reading}
 use Rattle.reader.specs.declared.lists.Reading.the-variants as reading
 use Rattle.records.specs.Records.{RW, CL, MR, BR, BC, records, marked, values, field}
-use Rattle.records.specs.Verdict.{checkedOutcome, verdictLent, itemsOf}
+use Rattle.records.specs.Verdict.{verdictLent, questions, itemsOf}
 use Rattle.reader.specs.Settings.{settingsOf}
 use Rattle.reader.specs.Reading.{Lists, lists, evenLists as itemsEven, roomIn, readJob, jobOf, readingOutcome, JobRead}
-use Rattle.reader.proofs.ItemRoom.{mostItems, items-are, read-whole, verdict-even}
-use Rattle.job.specs.Plan.{settingsFor, rangeFor, rowsRead, columnsRead, jobSettings, jobRows, jobColumns, planJob}
+use Rattle.reader.proofs.ReadingLaws.{all-given, admit-no, job-refused as not-read}
+use Rattle.reader.proofs.ItemRoom.{mostItems, read-whole}
+use Rattle.job.specs.Plan.{settingsFor, rangeFor, rowsRead, columnsRead, jobSettings, jobRows, jobColumns, planJob, planEven}
 
 -- ---- the four clauses
 
@@ -71,23 +71,21 @@ same-told f g h r rows₀ columns₀ rows columns w = rw (← f, ← g, ← h) w
 
 -- ---- the questions
 
-module _ (s : List ℕ) (rows columns : RunLists) (even : Bool) (e : even ≡ evenLists rows && evenLists columns)
-    (f : Checked) (i : checkedOutcome f ≡ verdictLent even s) where
-  asked-is : checkedOutcome f ≡ verdictLent (evenLists rows && evenLists columns) s
-  asked-is = i ∙ ap (λ (b : Bool). verdictLent b s) e
+module _ (s : List ℕ) (rows columns : RunLists) (even : Bool) (e : even ≡ evenLists rows && evenLists columns) where
+  pub job-even : even ≡ true → planEven s rows columns ≡ planJob s rows columns
+  unfolding planEven planJob
+  job-even h = rw (← e, h)
 
-  -- 1 to 9: a no refuses the job
-  pub job-refused : (n : ℕ) → f ≡ checked.Refused n → planJob s rows columns ≡ refused n
+  pub job-uneven : (n : ℕ) → even ≡ false → verdictLent false s ≡ refused n → planJob s rows columns ≡ refused n
   unfolding planJob
-  job-refused n k = rw (sym asked-is ∙ ap checkedOutcome k)
+  job-uneven n h v = rw (← e, h, v)
 
-  -- else the job's plan is that of what was read
-  pub job-planned : (items : Items) → f ≡ checked.Value items → planJob s rows columns ≡ planned (jobSettings s) (jobRows s) (jobColumns s) rows columns
-  unfolding planJob
-  job-planned items k = rw (sym asked-is ∙ ap checkedOutcome k)
-
-  pub job-asked : (items : Items) → f ≡ checked.Value items → verdictLent true s ≡ given items
-  job-asked items k = verdict-even _ s items (sym asked-is ∙ ap checkedOutcome k)
+-- run lists that are not equally long are never questioned with yes
+pub never-uneven : {X : Type 0} (s : List ℕ) (items : Items) → verdictLent false s ≡ given items → X
+unfolding verdictLent
+never-uneven s items e =
+    let a = all-given (itemsOf (records s)) 1 (questions false s) items (sym e) in
+    absurd (true≢false (sym (a .1 .1 .1 .1 .1 .0)))
 
 -- ---- what was read
 
@@ -106,20 +104,20 @@ pub record Front (k f : ℕ) (s : List ℕ) (n : ℕ) (new : List ℕ) : Type 0 
   pub few : n ≤ length new
   pub is : take n new ≡ values k f (records s)
 
--- the answer of reading, and the lists
-pub record ReadOf (s : List ℕ) (items : Items) (r : Reading) (after : Lists) : Type 0 where
-  pub not-refused : (n : ℕ) → r ≡ reading.Refused n → ⊥
-  pub settings-are : (j : Job) → r ≡ reading.Value j → j .settings ≡ settingsOf (records s)
-  pub row-indexes : Front RW 0 s (items .rows) (after .row-indexes)
-  pub row-sizes : Front RW 1 s (items .rows) (after .row-sizes)
-  pub column-indexes : Front CL 0 s (items .columns) (after .column-indexes)
-  pub column-sizes : Front CL 1 s (items .columns) (after .column-sizes)
-  pub merge-first-rows : Front MR 0 s (items .merges) (after .merge-first-rows)
-  pub merge-first-columns : Front MR 1 s (items .merges) (after .merge-first-columns)
-  pub merge-last-rows : Front MR 2 s (items .merges) (after .merge-last-rows)
-  pub merge-last-columns : Front MR 3 s (items .merges) (after .merge-last-columns)
-  pub row-breaks : Front BR 0 s (items .«row_breaks») (after .row-breaks)
-  pub column-breaks : Front BC 0 s (items .«column_breaks») (after .column-breaks)
+-- the job that was read, and the lists
+pub record ReadOf (s : List ℕ) (j : Job) (after : Lists) : Type 0 where
+  pub plan-is : (rows columns : RunLists) → planned (jobSettings s) (jobRows s) (jobColumns s) rows columns ≡ planEven s rows columns
+  pub settings-are : j .settings ≡ settingsOf (records s)
+  pub row-indexes : Front RW 0 s (j .items .rows) (after .row-indexes)
+  pub row-sizes : Front RW 1 s (j .items .rows) (after .row-sizes)
+  pub column-indexes : Front CL 0 s (j .items .columns) (after .column-indexes)
+  pub column-sizes : Front CL 1 s (j .items .columns) (after .column-sizes)
+  pub merge-first-rows : Front MR 0 s (j .items .merges) (after .merge-first-rows)
+  pub merge-first-columns : Front MR 1 s (j .items .merges) (after .merge-first-columns)
+  pub merge-last-rows : Front MR 2 s (j .items .merges) (after .merge-last-rows)
+  pub merge-last-columns : Front MR 3 s (j .items .merges) (after .merge-last-columns)
+  pub row-breaks : Front BR 0 s (j .items .«row_breaks») (after .row-breaks)
+  pub column-breaks : Front BC 0 s (j .items .«column_breaks») (after .column-breaks)
 
 module _ (s : List ℕ) (o : Outcome Job) (j : Job) (given-is : o ≡ given j) where
   pub front : (k f n : ℕ) (old new : List ℕ) → n ≡ length (marked k (records s)) → new ≡ lent o (values k f (records s)) old → Front k f s n new
@@ -130,34 +128,62 @@ module _ (s : List ℕ) (o : Outcome Job) (j : Job) (given-is : o ≡ given j) w
         is = rw m (front-written (field f) (marked k (records s)) old new w);
       }
 
-pub read-of : {s : List ℕ} {items : Items} {r : Reading} {before after : Lists} → verdictLent true s ≡ given items → Most before → JobRead s r before after → ReadOf s items r after
-read-of {s} {items} {r} {before} {after} e most w =
-    let q : readJob s before ≡ given (jobOf (records s)) = read-whole s items e before (most .even) (most .room) in
-    let told : readingOutcome r ≡ given (jobOf (records s)) = w .answer ∙ q in
-    let m = items-are s items e in
-    let rows = ap (λ (x : Items). x .rows) m in
-    let columns = ap (λ (x : Items). x .columns) m in
-    let merges = ap (λ (x : Items). x .merges) m in
-    record {
-      not-refused = λ n k. no-refusal n (sym (ap readingOutcome k) ∙ told);
-      settings-are = λ j k. ap (λ (x : Job). x .settings) (same-job (sym (ap readingOutcome k) ∙ told));
-      row-indexes = front s _ _ q RW 0 _ (before .row-indexes) (after .row-indexes) rows (w .row-indexes-are);
-      row-sizes = front s _ _ q RW 1 _ (before .row-sizes) (after .row-sizes) rows (w .row-sizes-are);
-      column-indexes = front s _ _ q CL 0 _ (before .column-indexes) (after .column-indexes) columns (w .column-indexes-are);
-      column-sizes = front s _ _ q CL 1 _ (before .column-sizes) (after .column-sizes) columns (w .column-sizes-are);
-      merge-first-rows = front s _ _ q MR 0 _ (before .merge-first-rows) (after .merge-first-rows) merges (w .merge-first-rows-are);
-      merge-first-columns = front s _ _ q MR 1 _ (before .merge-first-columns) (after .merge-first-columns) merges (w .merge-first-columns-are);
-      merge-last-rows = front s _ _ q MR 2 _ (before .merge-last-rows) (after .merge-last-rows) merges (w .merge-last-rows-are);
-      merge-last-columns = front s _ _ q MR 3 _ (before .merge-last-columns) (after .merge-last-columns) merges (w .merge-last-columns-are);
-      row-breaks = front s _ _ q BR 0 _ (before .row-breaks) (after .row-breaks) (ap (λ (x : Items). x .«row_breaks») m) (w .row-breaks-are);
-      column-breaks = front s _ _ q BC 0 _ (before .column-breaks) (after .column-breaks) (ap (λ (x : Items). x .«column_breaks») m) (w .column-breaks-are);
-    }
-  where
-    no-refusal : {j : Job} (n : ℕ) → refused n ≡ given j → ⊥
-    no-refusal n i = let z : _≡_ {A = ℕ} 0 1 = cc in omega arith
+module _ (s : List ℕ) {before : Lists} (most : Most before) where
+  -- reading asks what the questions ask, and never 11
+  pub read-as : readJob s before ≡ andThen (verdictLent true s) (λ (items : Items). given (jobOf (records s)))
+  read-as = go (verdictLent true s) refl
+    where
+      go : (o : Outcome Items) → verdictLent true s ≡ o → readJob s before ≡ andThen o (λ (items : Items). given (jobOf (records s)))
+      go (given items) e = read-whole s items e before (most .even) (most .room)
+      go (refused n) e =
+          let v : refused n ≡ verdictLent (itemsEven before) s = sym e ∙ ap (λ (b : Bool). verdictLent b s) (sym (most .even)) in
+          sym (not-read s before (checked.Refused n) n (admit-no (itemsEven before) s (roomIn before) (checked.Refused n) v n refl) refl .answer)
 
-    same-job : {i j : Job} → given i ≡ given j → i ≡ j
-    same-job k = cc
+  -- a no refuses the plan
+  pub read-no : (rows columns : RunLists) (r : Reading) (n : ℕ) → readingOutcome r ≡ readJob s before → r ≡ reading.Refused n → planEven s rows columns ≡ refused n
+  unfolding planEven
+  read-no rows columns r n e k = go (verdictLent true s) (sym (ap readingOutcome k) ∙ e ∙ read-as)
+    where
+      go : (o : Outcome Items) → refused n ≡ andThen o (λ (items : Items). given (jobOf (records s)))
+          → andThen o (λ (items : Items). planned (jobSettings s) (jobRows s) (jobColumns s) rows columns) ≡ refused n
+      go (given items) h = let z : _≡_ {A = ℕ} 0 1 = cc in absurd (omega arith)
+      go (refused m) h = let i : m ≡ n = cc in ap refused i
+
+  -- else the job is what was read
+  read-yes : (j : Job) → given j ≡ readJob s before
+      → (j ≡ jobOf (records s)) × ((rows columns : RunLists) → planned (jobSettings s) (jobRows s) (jobColumns s) rows columns ≡ planEven s rows columns)
+  unfolding planEven
+  read-yes j e = go (verdictLent true s) (e ∙ read-as)
+    where
+      go : (o : Outcome Items) → given j ≡ andThen o (λ (items : Items). given (jobOf (records s)))
+          → (j ≡ jobOf (records s)) × ((rows columns : RunLists) → planned (jobSettings s) (jobRows s) (jobColumns s) rows columns
+          ≡ andThen o (λ (items : Items). planned (jobSettings s) (jobRows s) (jobColumns s) rows columns))
+      go (given items) h = (cc, λ rows columns. refl)
+      go (refused m) h = let z : _≡_ {A = ℕ} 0 1 = cc in absurd (omega arith)
+
+  pub read-of : {r : Reading} {after : Lists} {j : Job} → JobRead s r before after → r ≡ reading.Value j → ReadOf s j after
+  read-of {r} {after} {j} w k =
+      let told : given j ≡ readJob s before = sym (ap readingOutcome k) ∙ w .answer in
+      let q = sym told in
+      let y = read-yes j told in
+      let m = y .0 in
+      let rows = ap (λ (x : Job). x .items .rows) m in
+      let columns = ap (λ (x : Job). x .items .columns) m in
+      let merges = ap (λ (x : Job). x .items .merges) m in
+      record {
+        plan-is = y .1;
+        settings-are = ap (λ (x : Job). x .settings) m;
+        row-indexes = front s _ _ q RW 0 _ (before .row-indexes) (after .row-indexes) rows (w .row-indexes-are);
+        row-sizes = front s _ _ q RW 1 _ (before .row-sizes) (after .row-sizes) rows (w .row-sizes-are);
+        column-indexes = front s _ _ q CL 0 _ (before .column-indexes) (after .column-indexes) columns (w .column-indexes-are);
+        column-sizes = front s _ _ q CL 1 _ (before .column-sizes) (after .column-sizes) columns (w .column-sizes-are);
+        merge-first-rows = front s _ _ q MR 0 _ (before .merge-first-rows) (after .merge-first-rows) merges (w .merge-first-rows-are);
+        merge-first-columns = front s _ _ q MR 1 _ (before .merge-first-columns) (after .merge-first-columns) merges (w .merge-first-columns-are);
+        merge-last-rows = front s _ _ q MR 2 _ (before .merge-last-rows) (after .merge-last-rows) merges (w .merge-last-rows-are);
+        merge-last-columns = front s _ _ q MR 3 _ (before .merge-last-columns) (after .merge-last-columns) merges (w .merge-last-columns-are);
+        row-breaks = front s _ _ q BR 0 _ (before .row-breaks) (after .row-breaks) (ap (λ (x : Job). x .items .«row_breaks») m) (w .row-breaks-are);
+        column-breaks = front s _ _ q BC 0 _ (before .column-breaks) (after .column-breaks) (ap (λ (x : Job). x .items .«column_breaks») m) (w .column-breaks-are);
+      }
 
 -- a part of a list, by its length
 pub part-long : (n : ℕ) (xs : List ℕ) → n ≤ length xs → n ≡ length (take n xs)

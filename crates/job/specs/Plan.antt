@@ -1,5 +1,5 @@
 -- The plan of a job's bytes: document 01, sections "Jobs" and "Questions in order". Assumes nothing.
-use mathlib.Core.Bool.{cond, _&&_}
+use mathlib.Core.Bool.{true, cond, _&&_}
 use mathlib.Core.List.{List}
 use Prim.Native.Nat.{ℕ}
 use Rattle.geometry.specs.Outcome.{Outcome, andThen}
@@ -71,3 +71,8 @@ unfoldable pub planJob : List ℕ → RunLists → RunLists → Outcome Layout
 planJob s rows columns =
     andThen (verdictLent (evenLists rows && evenLists columns) s)
     (λ (items : Items). planned (jobSettings s) (jobRows s) (jobColumns s) rows columns)
+
+-- the same of run lists that are equally long, for the private function that plans with them
+unfoldable pub planEven : List ℕ → RunLists → RunLists → Outcome Layout
+planEven s rows columns =
+    andThen (verdictLent true s) (λ (items : Items). planned (jobSettings s) (jobRows s) (jobColumns s) rows columns)

@@ -10,7 +10,6 @@ use reader::over_then_down;
 use reader::page_limit;
 use reader::read_job;
 use records::Checked;
-use records::Items;
 use records::Range;
 use records::check_job_lent;
 use rules::PageOrder;
@@ -18,8 +17,8 @@ use rules::Planning;
 use rules::PrintRange;
 use rules::Settings;
 ghost use mathlib.Core.Path.{_≡_};
-ghost use mathlib.Core.Bool.{true};
-ghost use Rattle.geometry.specs.Outcome.{given};
+ghost use mathlib.Core.Bool.{false};
+ghost use Rattle.geometry.specs.Outcome.{refused};
 ghost use Rattle.rules.specs.Pages as pages;
 ghost use Rattle.rules.specs.Plan as call;
 ghost use Rattle.rules.specs.Demand.{CoversPairs, FewestPlan, LargestPlan};
@@ -139,10 +138,9 @@ fn plan_read(
     )
 }
 
-// Reads and plans a job whose questions 1 to 9 were answered yes.
-fn plan_checked(
+// Reads and plans a job, with run lists that are equally long.
+fn plan_even(
     bytes: &[u8],
-    items: Items,
     row_run_firsts: &mut [u32],
     row_run_lasts: &mut [u32],
     row_run_sizes: &mut [u64],
@@ -152,8 +150,7 @@ fn plan_checked(
     column_run_sizes: &mut [u64],
     column_run_marks: &mut [u8],
 ) -> Planning
-    requires { ⌜ verdictLent true (now bytes) ≡ given items ⌝ }
-    ensures planned { λ r. ⌜ call.Planned (call.planned (section.jobSettings (now (bytes .entry))) (section.jobRows (now (bytes .entry))) (section.jobColumns (now (bytes .entry))) (pages.runLists (now («row_run_firsts» .entry)) (now («row_run_lasts» .entry)) (now («row_run_sizes» .entry)) (now («row_run_marks» .entry))) (pages.runLists (now («column_run_firsts» .entry)) (now («column_run_lasts» .entry)) (now («column_run_sizes» .entry)) (now («column_run_marks» .entry)))) r (pages.runLists (now («row_run_firsts» .entry)) (now («row_run_lasts» .entry)) (now («row_run_sizes» .entry)) (now («row_run_marks» .entry))) (pages.runLists (now («column_run_firsts» .entry)) (now («column_run_lasts» .entry)) (now («column_run_sizes» .entry)) (now («column_run_marks» .entry))) (pages.runLists (now («row_run_firsts» .exit)) (now («row_run_lasts» .exit)) (now («row_run_sizes» .exit)) (now («row_run_marks» .exit))) (pages.runLists (now («column_run_firsts» .exit)) (now («column_run_lasts» .exit)) (now («column_run_sizes» .exit)) (now («column_run_marks» .exit))) ⌝ }
+    ensures planned { λ r. ⌜ call.Planned (section.planEven (now (bytes .entry)) (pages.runLists (now («row_run_firsts» .entry)) (now («row_run_lasts» .entry)) (now («row_run_sizes» .entry)) (now («row_run_marks» .entry))) (pages.runLists (now («column_run_firsts» .entry)) (now («column_run_lasts» .entry)) (now («column_run_sizes» .entry)) (now («column_run_marks» .entry)))) r (pages.runLists (now («row_run_firsts» .entry)) (now («row_run_lasts» .entry)) (now («row_run_sizes» .entry)) (now («row_run_marks» .entry))) (pages.runLists (now («column_run_firsts» .entry)) (now («column_run_lasts» .entry)) (now («column_run_sizes» .entry)) (now («column_run_marks» .entry))) (pages.runLists (now («row_run_firsts» .exit)) (now («row_run_lasts» .exit)) (now («row_run_sizes» .exit)) (now («row_run_marks» .exit))) (pages.runLists (now («column_run_firsts» .exit)) (now («column_run_lasts» .exit)) (now («column_run_sizes» .exit)) (now («column_run_marks» .exit))) ⌝ }
     ensures covered { λ r. ⌜ CoversPairs r (section.jobRows (now (bytes .entry))) (section.jobColumns (now (bytes .entry))) (pages.runLists (now («row_run_firsts» .exit)) (now («row_run_lasts» .exit)) (now («row_run_sizes» .exit)) (now («row_run_marks» .exit))) (pages.runLists (now («column_run_firsts» .exit)) (now («column_run_lasts» .exit)) (now («column_run_sizes» .exit)) (now («column_run_marks» .exit))) ⌝ }
     ensures fewest { λ r. ⌜ FewestPlan r (section.jobSettings (now (bytes .entry))) (section.jobRows (now (bytes .entry))) (section.jobColumns (now (bytes .entry))) (pages.runLists (now («row_run_firsts» .exit)) (now («row_run_lasts» .exit)) (now («row_run_sizes» .exit)) (now («row_run_marks» .exit))) (pages.runLists (now («column_run_firsts» .exit)) (now («column_run_lasts» .exit)) (now («column_run_sizes» .exit)) (now («column_run_marks» .exit))) ⌝ }
     ensures largest { λ r. ⌜ LargestPlan r (section.jobSettings (now (bytes .entry))) (section.jobRows (now (bytes .entry))) (section.jobColumns (now (bytes .entry))) ⌝ }
@@ -181,36 +178,50 @@ fn plan_checked(
         &mut row_breaks,
         &mut column_breaks,
     );
-    let Reading::Value(job) = reading else {
-        return Planning::Refused(11);
-    };
-    let settings = job.settings;
-    let rows = items.rows;
-    let columns = items.columns;
-    let merges = items.merges;
-    let row_break_count = items.row_breaks;
-    let column_break_count = items.column_breaks;
-    plan_read(
-        settings,
-        &row_indexes[..rows],
-        &row_sizes[..rows],
-        &column_indexes[..columns],
-        &column_sizes[..columns],
-        &merge_first_rows[..merges],
-        &merge_first_columns[..merges],
-        &merge_last_rows[..merges],
-        &merge_last_columns[..merges],
-        &row_breaks[..row_break_count],
-        &column_breaks[..column_break_count],
-        row_run_firsts,
-        row_run_lasts,
-        row_run_sizes,
-        row_run_marks,
-        column_run_firsts,
-        column_run_lasts,
-        column_run_sizes,
-        column_run_marks,
-    )
+    match reading {
+        Reading::Refused(number) => Planning::Refused(number),
+        Reading::Value(job) => {
+            let settings = job.settings;
+            let items = job.items;
+            let rows = items.rows;
+            let columns = items.columns;
+            let merges = items.merges;
+            let row_break_count = items.row_breaks;
+            let column_break_count = items.column_breaks;
+            plan_read(
+                settings,
+                &row_indexes[..rows],
+                &row_sizes[..rows],
+                &column_indexes[..columns],
+                &column_sizes[..columns],
+                &merge_first_rows[..merges],
+                &merge_first_columns[..merges],
+                &merge_last_rows[..merges],
+                &merge_last_columns[..merges],
+                &row_breaks[..row_break_count],
+                &column_breaks[..column_break_count],
+                row_run_firsts,
+                row_run_lasts,
+                row_run_sizes,
+                row_run_marks,
+                column_run_firsts,
+                column_run_lasts,
+                column_run_sizes,
+                column_run_marks,
+            )
+        }
+    }
+}
+
+// The number that refuses a job where run lists are not equally long: 6 at the latest.
+fn uneven_refusal(bytes: &[u8]) -> u8
+    ensures { λ r. ⌜ verdictLent false (now (bytes .entry)) ≡ refused r ⌝ }
+{
+    let checked = check_job_lent(bytes, false);
+    match checked {
+        Checked::Refused(number) => number,
+        Checked::Value(_) => 6,
+    }
 }
 
 // Plans the pages of a job: the scale, the runs of rows and columns, which go to the fronts of eight lent lists, and the notes.
@@ -237,12 +248,9 @@ pub fn plan_job(
         column_run_sizes,
         column_run_marks,
     );
-    let checked = check_job_lent(bytes, rows_even & columns_even);
-    match checked {
-        Checked::Refused(number) => Planning::Refused(number),
-        Checked::Value(items) => plan_checked(
+    if rows_even & columns_even {
+        return plan_even(
             bytes,
-            items,
             row_run_firsts,
             row_run_lasts,
             row_run_sizes,
@@ -251,6 +259,7 @@ pub fn plan_job(
             column_run_lasts,
             column_run_sizes,
             column_run_marks,
-        ),
+        );
     }
+    Planning::Refused(uneven_refusal(bytes))
 }

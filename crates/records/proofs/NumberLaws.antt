@@ -1,10 +1,10 @@
--- Laws of `specs/Numbers.antt`, for `signed` and `float`. Assumes nothing.
+-- Laws of `specs/Numbers.antt`, for `signed` and `float`, and one of bounds. Assumes nothing.
 use mathlib.Core.Path.{_≡_, refl, sym, ap, _∙_, subst}
 use mathlib.Core.Bool.{Bool, true, false, true≢false, not}
 use Prim.Native.Nat.{ℕ, zero, suc, _+_, _-_, _*_, _%_, _^_, _≤_, _<_}
-use native.Mathlib.Nat.{zero-add}
+use native.Mathlib.Nat.{zero-add, le-trans}
 use native.Mathlib.Omega.{arith}
-use lib.Dec.{T, ltb}
+use lib.Dec.{T, leb, ltb, leb→le}
 use lib.IntN.{ℤ, pos, negsuc, _-ℤ_}
 use lib.Ieee.{Float, nan, inf, fin, binary64, ofBits, isNan, nanBits}
 use lib.Ieee.Bits.{nanBits-is, nanBits-above}
@@ -13,6 +13,11 @@ use mir.Val.{Fits, SFits, toZ, ofZ}
 use mir.Facts.{toZ-ofZ, toZ-pos}
 use borrow.Author.Tests.{lt-ltb, le-ltb}
 use Rattle.records.specs.Numbers.{i64Of, f64Of}
+
+-- ---- what ends before n, within l
+
+pub within : (k n l : ℕ) → T (leb k n) → n ≤ l → k ≤ l
+within k n l t h = le-trans (leb→le k n t) h
 
 -- ---- the upper half of the patterns is negative
 

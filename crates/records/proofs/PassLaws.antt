@@ -3,24 +3,24 @@ use mathlib.Core.Path.{_≡_, refl, sym, ap, _∙_}
 use mathlib.Core.Bool.{Bool, true, false, cond, not, _&&_, _||_}
 use mathlib.Core.List.{List, [], _∷_, _++_}
 use Prim.Native.Nat.{ℕ, suc, _+_, _-_, _≤_, _<_, _^_}
-use native.Mathlib.Nat.{zero-add}
+use native.Mathlib.Decide.{decLe}
+use native.Mathlib.Nat.{zero-add, lt-of-not-le}
 use native.Mathlib.Omega.{arith}
-use lib.Dec.{leb, eqb}
+use lib.Dec.{leb, ltb, eqb}
 use lib.ListN.{length, take, drop}
-use borrow.Author.Tests.{le-leb, lt-leb, eq-eqb, ne-eqb}
+use borrow.Author.Tests.{le-leb, lt-leb, lt-ltb, eq-eqb, ne-eqb}
 use Rattle.geometry.specs.Outcome.{Outcome, given, refused}
 use Rattle.records.specs.declared.records.Record.{Record}
 use Rattle.records.specs.declared.records.Record.the-variants.{Paper, Landscape, Margin, Scale, Wide, High, Fit, Order, Headings, Limit, Area, TitleRows, TitleColumns, Row, Column, Merged, RowBreak, ColumnBreak, End}
 use Rattle.records.specs.declared.records.Step.{Step}
 use Rattle.records.specs.declared.records.Step.the-variants.{Read, Nothing}
-use Rattle.records.specs.declared.questions.Rise.{Rise}
 use Rattle.records.specs.declared.questions.Items.{Items}
 use Rattle.records.specs.declared.questions.State.{State}
 use Rattle.records.specs.declared.questions.Survey.{Survey}
 use Rattle.records.specs.declared.questions.Survey.the-variants.{Stopped, Whole}
 use Rattle.records.specs.Records.{RW, CL, MR, BR, BC, step, rank, isEnd, goesOn, ended, records, rest, marked, values}
 use Rattle.records.specs.Verdict.{asked, every, follows, ordered, isArea, hasArea, flagOk, notReversed, inGrid, sized, rising, lastRow, lastColumn, question1, question2, question3, question4, question5, question6, question7, question8, question9, inOrder, itemsOf}
-use Rattle.records.specs.Pass.{rowsAfter, columnsAfter, oneMore, counted, Few, start, advanced, after, surveyed, firstNo, answer}
+use Rattle.records.specs.Pass.{beyond, placed, rowsAfter, columnsAfter, oneMore, counted, Few, start, advanced, after, surveyed, firstNo, answer}
 use Rattle.records.proofs.RecordLaws.{records-more, rest-more, records-stop, rest-stop, step-used, part}
 
 -- ---- Bool
@@ -41,9 +41,9 @@ or-assoc : (a b c : Bool) → a || (b || c) ≡ (a || b) || c
 or-assoc true b c = refl
 or-assoc false b c = refl
 
-and-assoc3 : (a b c d : Bool) → a && (b && (c && d)) ≡ (a && (b && c)) && d
-and-assoc3 true b c d = and-assoc b c d
-and-assoc3 false b c d = refl
+and-false : (a : Bool) → a && false ≡ false
+and-false true = refl
+and-false false = refl
 
 and-inner : (e a b c : Bool) → e && (a && (b && c)) ≡ e && ((a && b) && c)
 and-inner true a b c = and-assoc a b c
@@ -103,7 +103,7 @@ module _ (even : Bool) where
       ∷ (t .fine .flag && every flagOk rs)
       ∷ (even && (t .fine .first && every notReversed rs))
       ∷ (t .fine .grid && every inGrid rs)
-      ∷ ((t .rows .rising && rising lastRow (t .rows .next) (values RW 0 rs)) && (t .columns .rising && rising lastColumn (t .columns .next) (values CL 0 rs)))
+      ∷ ((ltb (t .rows) beyond && rising lastRow (t .rows) (values RW 0 rs)) && (ltb (t .columns) beyond && rising lastColumn (t .columns) (values CL 0 rs)))
       ∷ (t .fine .size && every sized rs)
       ∷ [])
 
@@ -111,8 +111,22 @@ module _ (even : Bool) where
   unfolding answer number ordered hasArea every rising marked
   number-end t = simp (and-true, or-false)
 
-row-step : (a : Rise) (r : Record) (rs : List Record)
-    → a .rising && rising lastRow (a .next) (values RW 0 (r ∷ rs)) ≡ rowsAfter a (asked r) .rising && rising lastRow (rowsAfter a (asked r) .next) (values RW 0 rs)
+-- a slot more of an axis
+placed-more : (top n i : ℕ) (is : List ℕ) → top + 1 < beyond
+    → ltb n beyond && rising top n (i ∷ is) ≡ ltb (placed top n i) beyond && rising top (placed top n i) is
+unfolding rising
+placed-more top n i is h =
+    elim (decLe n i) [
+      | no k ↦ rw (lt-leb n i (lt-of-not-le k)) (and-false (ltb n beyond))
+      | yes k ↦
+          elim (decLe i top) [
+            | no l ↦ rw (le-leb n i k, lt-leb i top (lt-of-not-le l)) (and-false (ltb n beyond))
+            | yes l ↦ rw (le-leb n i k, le-leb i top l, lt-ltb n beyond (omega arith), lt-ltb (i + 1) beyond (omega arith))
+          ]
+    ]
+
+row-step : (a : ℕ) (r : Record) (rs : List Record)
+    → ltb a beyond && rising lastRow a (values RW 0 (r ∷ rs)) ≡ ltb (rowsAfter a (asked r)) beyond && rising lastRow (rowsAfter a (asked r)) (values RW 0 rs)
 unfolding rising marked
 row-step a (Paper x) rs = refl
 row-step a Landscape rs = refl
@@ -127,15 +141,15 @@ row-step a (Limit x) rs = refl
 row-step a (Area x) rs = refl
 row-step a (TitleRows f l) rs = refl
 row-step a (TitleColumns f l) rs = refl
-row-step a (Row s) rs = and-assoc3 (a .rising) (leb (a .next) (s .index)) (leb (s .index) lastRow) (rising lastRow (s .index + 1) (values RW 0 rs))
+row-step a (Row s) rs = placed-more lastRow a (s .index) (values RW 0 rs) (omega arith)
 row-step a (Column s) rs = refl
 row-step a (Merged m) rs = refl
 row-step a (RowBreak b) rs = refl
 row-step a (ColumnBreak b) rs = refl
 row-step a End rs = refl
 
-column-step : (a : Rise) (r : Record) (rs : List Record)
-    → a .rising && rising lastColumn (a .next) (values CL 0 (r ∷ rs)) ≡ columnsAfter a (asked r) .rising && rising lastColumn (columnsAfter a (asked r) .next) (values CL 0 rs)
+column-step : (a : ℕ) (r : Record) (rs : List Record)
+    → ltb a beyond && rising lastColumn a (values CL 0 (r ∷ rs)) ≡ ltb (columnsAfter a (asked r)) beyond && rising lastColumn (columnsAfter a (asked r)) (values CL 0 rs)
 unfolding rising marked
 column-step a (Paper x) rs = refl
 column-step a Landscape rs = refl
@@ -151,7 +165,7 @@ column-step a (Area x) rs = refl
 column-step a (TitleRows f l) rs = refl
 column-step a (TitleColumns f l) rs = refl
 column-step a (Row s) rs = refl
-column-step a (Column s) rs = and-assoc3 (a .rising) (leb (a .next) (s .index)) (leb (s .index) lastColumn) (rising lastColumn (s .index + 1) (values CL 0 rs))
+column-step a (Column s) rs = placed-more lastColumn a (s .index) (values CL 0 rs) (omega arith)
 column-step a (Merged m) rs = refl
 column-step a (RowBreak b) rs = refl
 column-step a (ColumnBreak b) rs = refl

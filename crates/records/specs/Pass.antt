@@ -3,14 +3,13 @@ use mathlib.Core.Path.{_≡_}
 use Prim.Native.Nat.{ℕ, suc, _+_, _<_, _^_}
 use mathlib.Core.Bool.{Bool, true, false, cond, _&&_, _||_}
 use mathlib.Core.List.{List, [], _∷_}
-use lib.Dec.{leb, eqb}
+use lib.Dec.{leb, ltb, eqb}
 use Rattle.records.specs.Records.{AR, RW, CL, MR, BR, BC, rank, records}
 use Rattle.records.specs.Verdict.{asked, follows, flagOk, notReversed, inGrid, sized, lastRow, lastColumn, question1, question2, question3}
 use Rattle.records.specs.declared.records.Record.{Record}
 use Rattle.records.specs.declared.questions.Asked.{Asked}
 use Rattle.records.specs.declared.questions.Asked.the-variants.{Flag, Cells, InRows, InColumns, Other}
 use Rattle.records.specs.declared.questions.Fine.{Fine}
-use Rattle.records.specs.declared.questions.Rise.{Rise}
 use Rattle.records.specs.declared.questions.Items.{Items}
 use Rattle.records.specs.declared.questions.State.{State}
 use Rattle.records.specs.declared.questions.Survey.{Survey}
@@ -23,23 +22,27 @@ fine a = record { flag = flagOk a; first = notReversed a; grid = inGrid a; size 
 abbrev pub bothFine : Fine → Fine → Fine
 bothFine a b = record { flag = a .flag && b .flag; first = a .first && b .first; grid = a .grid && b .grid; size = a .size && b .size }
 
--- 8 of one axis, after a slot with the index i
-abbrev pub placed : ℕ → Rise → ℕ → Rise
-placed top a i = record { next = i + 1; rising = a .rising && (leb (a .next) i && leb i top) }
+-- above every index: what no slot may follow
+abbrev pub beyond : ℕ
+beyond = 4294967296
 
-abbrev pub rowsAfter : Rise → Asked → Rise
-rowsAfter a (Flag x) = a
-rowsAfter a (Cells r) = a
-rowsAfter a (InRows s) = placed lastRow a (s .index)
-rowsAfter a (InColumns s) = a
-rowsAfter a Other = a
+-- 8 of one axis: the least index that may come next, after a slot with the index i
+abbrev pub placed : ℕ → ℕ → ℕ → ℕ
+placed top next i = cond (leb next i && leb i top) (i + 1) beyond
 
-abbrev pub columnsAfter : Rise → Asked → Rise
-columnsAfter a (Flag x) = a
-columnsAfter a (Cells r) = a
-columnsAfter a (InRows s) = a
-columnsAfter a (InColumns s) = placed lastColumn a (s .index)
-columnsAfter a Other = a
+abbrev pub rowsAfter : ℕ → Asked → ℕ
+rowsAfter n (Flag x) = n
+rowsAfter n (Cells r) = n
+rowsAfter n (InRows s) = placed lastRow n (s .index)
+rowsAfter n (InColumns s) = n
+rowsAfter n Other = n
+
+abbrev pub columnsAfter : ℕ → Asked → ℕ
+columnsAfter n (Flag x) = n
+columnsAfter n (Cells r) = n
+columnsAfter n (InRows s) = n
+columnsAfter n (InColumns s) = placed lastColumn n (s .index)
+columnsAfter n Other = n
 
 -- one more where the ranks are the same
 abbrev pub oneMore : ℕ → ℕ → ℕ → ℕ
@@ -70,8 +73,8 @@ start = record {
   ordered = true;
   area = false;
   fine = record { flag = true; first = true; grid = true; size = true };
-  rows = record { next = 0; rising = true };
-  columns = record { next = 0; rising = true };
+  rows = 0;
+  columns = 0;
   items = record { rows = 0; columns = 0; merges = 0; «row_breaks» = 0; «column_breaks» = 0 };
 }
 
@@ -109,6 +112,6 @@ answer equally-long t =
     ∷ t .fine .flag
     ∷ (equally-long && t .fine .first)
     ∷ t .fine .grid
-    ∷ (t .rows .rising && t .columns .rising)
+    ∷ (ltb (t .rows) beyond && ltb (t .columns) beyond)
     ∷ t .fine .size
     ∷ [])

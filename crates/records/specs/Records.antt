@@ -3,7 +3,7 @@
 use Prim.Native.Nat.{ℕ, zero, suc, pred, _+_, _*_}
 use mathlib.Core.Bool.{Bool, true, false, not, cond}
 use mathlib.Core.List.{List, [], _∷_, map}
-use lib.ListN.{length, getD}
+use lib.ListN.{length, getD, take}
 use lib.Dec.{leb, eqb}
 use lib.IntN.{natAbs}
 use Rattle.records.specs.Numbers.{u16At, u32At, u64At, i64Of}
@@ -100,6 +100,15 @@ formats =
 unfoldable pub find : ℕ → List Format → List ℕ → Step
 find m [] s = Nothing
 find m (f ∷ fs) s = cond (eqb m (f .mark)) (Read (f .kind s) (f .bytes)) (find m fs s)
+
+-- the formats of the settings, which stand first, for the private functions of `src/records.rt`
+abbrev pub settings : List Format
+settings = take 13 formats
+
+-- how many bytes the record of a mark has, for the private functions of `src/records.rt`; 0 where the formats have no such mark
+unfoldable pub sizeIn : List Format → ℕ → ℕ
+sizeIn [] m = 0
+sizeIn (f ∷ fs) m = cond (eqb m (f .mark)) (f .bytes) (sizeIn fs m)
 
 unfoldable pub known : List ℕ → Step
 known s = find (u16At s 0) formats s

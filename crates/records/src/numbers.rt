@@ -1,31 +1,31 @@
-// Little-endian numbers in bytes. A byte past the end counts as 0: whoever reads asks for the length.
+// Little-endian numbers in bytes, each read where all its bytes are there.
 ghost use mathlib.Core.Path.{_≡_};
 ghost use Prim.Native.Nat.{_+_, _*_, _≤_, _<_};
-ghost use lib.ListN.{getD};
+ghost use lib.ListN.{length};
 ghost use Rattle.records.specs.Numbers.{u16At, u32At, u64At, i64Of, f64Of};
 
-pub(crate) fn byte_at(s: &[u8], at: usize) -> u8
-    ensures { λ r. ⌜ r ≡ getD (now (s .entry)) at 0 ⌝ }
+fn two(low: u8, high: u8) -> u16
+    ensures { λ r. ⌜ r ≡ low + 256 * high ⌝ }
 {
-    if at < s.len() { s[at] } else { 0 }
+    low as u16 + 256 * (high as u16)
 }
 
 pub(crate) fn u16_at(s: &[u8], at: usize) -> u16
-    requires { ⌜ at ≤ 1000 ⌝ }
+    requires { ⌜ at + 2 ≤ length (now s) ⌝ }
     ensures { λ r. ⌜ r ≡ u16At (now (s .entry)) at ⌝ }
 {
-    byte_at(s, at) as u16 + 256 * (byte_at(s, at + 1) as u16)
+    two(s[at], s[at + 1])
 }
 
 pub(crate) fn u32_at(s: &[u8], at: usize) -> u32
-    requires { ⌜ at ≤ 998 ⌝ }
+    requires { ⌜ at + 4 ≤ length (now s) ⌝ }
     ensures { λ r. ⌜ r ≡ u32At (now (s .entry)) at ⌝ }
 {
     u16_at(s, at) as u32 + 65536 * (u16_at(s, at + 2) as u32)
 }
 
 pub(crate) fn u64_at(s: &[u8], at: usize) -> u64
-    requires { ⌜ at ≤ 994 ⌝ }
+    requires { ⌜ at + 8 ≤ length (now s) ⌝ }
     ensures { λ r. ⌜ r ≡ u64At (now (s .entry)) at ⌝ }
 {
     u32_at(s, at) as u64 + 4294967296 * (u32_at(s, at + 4) as u64)

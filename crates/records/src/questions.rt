@@ -17,6 +17,9 @@ const LAST_ROW: u32 = 1_048_575;
 
 const LAST_COLUMN: u16 = 16_383;
 
+// Above every index: what no slot may follow.
+const BEYOND: u64 = 0x1_0000_0000;
+
 const LARGEST_SIZE: i64 = 1_073_741_823;
 
 // The ranks of the records that repeat, and of the AR and the EN.
@@ -66,20 +69,14 @@ pub(crate) struct Fine {
     pub size: bool,
 }
 
-// The least index that may come next, and whether all so far rose inside the grid.
-pub(crate) struct Rise {
-    pub next: u64,
-    pub rising: bool,
-}
-
-// What the pass carries from record to record.
+// What the pass carries from record to record. Of an axis it is the least index that may come next, or `BEYOND`.
 pub(crate) struct State {
     pub rank: u8,
     pub ordered: bool,
     pub area: bool,
     pub fine: Fine,
-    pub rows: Rise,
-    pub columns: Rise,
+    pub rows: u64,
+    pub columns: u64,
     pub items: Items,
 }
 
@@ -184,37 +181,38 @@ fn fine_of(what: Asked) -> Fine
 }
 
 // 8 of an axis after a slot with this index, in a grid whose last index is `last`.
-fn place(last: u32, a: Rise, index: u32) -> Rise
-    ensures { λ r. ⌜ r ≡ placed last a index ⌝ }
+fn place(last: u32, next: u64, index: u32) -> u64
+    ensures { λ r. ⌜ r ≡ placed last next index ⌝ }
 {
     let i = index as u64;
-    Rise {
-        next: i + 1,
-        rising: a.rising & ((a.next <= i) & (index <= last)),
+    if (next <= i) & (index <= last) {
+        i + 1
+    } else {
+        BEYOND
     }
 }
 
-fn rows_after(a: Rise, what: Asked) -> Rise
-    ensures { λ r. ⌜ r ≡ rowsAfter a what ⌝ }
+fn rows_after(next: u64, what: Asked) -> u64
+    ensures { λ r. ⌜ r ≡ rowsAfter next what ⌝ }
 {
     match what {
-        Asked::Flag(_) => a,
-        Asked::Cells(_) => a,
-        Asked::InRows(s) => place(LAST_ROW, a, s.index),
-        Asked::InColumns(_) => a,
-        Asked::Other => a,
+        Asked::Flag(_) => next,
+        Asked::Cells(_) => next,
+        Asked::InRows(s) => place(LAST_ROW, next, s.index),
+        Asked::InColumns(_) => next,
+        Asked::Other => next,
     }
 }
 
-fn columns_after(a: Rise, what: Asked) -> Rise
-    ensures { λ r. ⌜ r ≡ columnsAfter a what ⌝ }
+fn columns_after(next: u64, what: Asked) -> u64
+    ensures { λ r. ⌜ r ≡ columnsAfter next what ⌝ }
 {
     match what {
-        Asked::Flag(_) => a,
-        Asked::Cells(_) => a,
-        Asked::InRows(_) => a,
-        Asked::InColumns(s) => place(16_383, a, s.index as u32),
-        Asked::Other => a,
+        Asked::Flag(_) => next,
+        Asked::Cells(_) => next,
+        Asked::InRows(_) => next,
+        Asked::InColumns(s) => place(16_383, next, s.index as u32),
+        Asked::Other => next,
     }
 }
 
@@ -258,16 +256,14 @@ fn advance(t: State, found: Record) -> State
     let rank = rank_of(found);
     let what = asked_of(found);
     let earlier = t.fine;
-    let rows = t.rows;
-    let columns = t.columns;
     let items = t.items;
     State {
         rank,
         ordered: t.ordered & follows_on(t.rank, rank),
         area: t.area | (rank == AREA),
         fine: both(earlier, fine_of(what)),
-        rows: rows_after(rows, what),
-        columns: columns_after(columns, what),
+        rows: rows_after(t.rows, what),
+        columns: columns_after(t.columns, what),
         items: count(items, rank),
     }
 }
@@ -285,14 +281,8 @@ fn beginning() -> State
             grid: true,
             size: true,
         },
-        rows: Rise {
-            next: 0,
-            rising: true,
-        },
-        columns: Rise {
-            next: 0,
-            rising: true,
-        },
+        rows: 0,
+        columns: 0,
         items: Items {
             rows: 0,
             columns: 0,
@@ -319,7 +309,7 @@ fn first_no(equally_long: bool, t: State) -> u8
     if !t.fine.grid {
         return 7;
     }
-    if !(t.rows.rising & t.columns.rising) {
+    if !((t.rows < BEYOND) & (t.columns < BEYOND)) {
         return 8;
     }
     if !t.fine.size {

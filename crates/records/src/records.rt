@@ -1,11 +1,12 @@
 // The records of a job, one at a time: document 01, section "Jobs".
-use crate::numbers::byte_at;
 use crate::numbers::signed;
 use crate::numbers::u16_at;
 use crate::numbers::u32_at;
 use crate::numbers::u64_at;
 ghost use mathlib.Core.Path.{_≡_};
-ghost use Rattle.records.specs.Records.{rangeAt, marginsAt, rowAt, columnAt, known, step, rank};
+ghost use Prim.Native.Nat.{_≤_};
+ghost use lib.ListN.{length};
+ghost use Rattle.records.specs.Records.{rangeAt, marginsAt, rowAt, columnAt, find, formats, settings, sizeIn, step, rank};
 
 // A rectangle of cells.
 pub struct Range {
@@ -15,16 +16,16 @@ pub struct Range {
     pub last_column: u16,
 }
 
-// A measured row.
+// A measured row. The size stands first: behind the index a range would end inside it, and a `Record` would be written in halves.
 pub struct RowSlot {
-    pub index: u32,
     pub size: i64,
+    pub index: u32,
 }
 
-// A measured column.
+// A measured column, in the same order.
 pub struct ColumnSlot {
-    pub index: u16,
     pub size: i64,
+    pub index: u16,
 }
 
 // A merged rectangle.
@@ -72,6 +73,7 @@ pub enum Step {
 }
 
 fn margins_at(s: &[u8]) -> MarginBits
+    requires { ⌜ 50 ≤ length (now s) ⌝ }
     ensures { λ r. ⌜ r ≡ marginsAt (now (s .entry)) ⌝ }
 {
     MarginBits {
@@ -85,6 +87,7 @@ fn margins_at(s: &[u8]) -> MarginBits
 }
 
 fn range_at(s: &[u8]) -> Range
+    requires { ⌜ 14 ≤ length (now s) ⌝ }
     ensures { λ r. ⌜ r ≡ rangeAt (now (s .entry)) ⌝ }
 {
     Range {
@@ -96,6 +99,7 @@ fn range_at(s: &[u8]) -> Range
 }
 
 fn row_at(s: &[u8]) -> RowSlot
+    requires { ⌜ 14 ≤ length (now s) ⌝ }
     ensures { λ r. ⌜ r ≡ rowAt (now (s .entry)) ⌝ }
 {
     RowSlot {
@@ -105,6 +109,7 @@ fn row_at(s: &[u8]) -> RowSlot
 }
 
 fn column_at(s: &[u8]) -> ColumnSlot
+    requires { ⌜ 12 ≤ length (now s) ⌝ }
     ensures { λ r. ⌜ r ≡ columnAt (now (s .entry)) ⌝ }
 {
     ColumnSlot {
@@ -151,11 +156,28 @@ const BC: u16 = 0x4342;
 
 const EN: u16 = 0x4e45;
 
-// The record of the mark at the head, its bytes past the end taken for 0.
-fn known_at(s: &[u8]) -> Step
-    ensures { λ r. ⌜ r ≡ known (now (s .entry)) ⌝ }
+// How many bytes a record with this mark has; 0 for an unknown mark.
+fn size_of(mark: u16) -> usize
+    ensures { λ r. ⌜ r ≡ sizeIn formats mark ⌝ }
 {
-    let mark = u16_at(s, 0);
+    match mark {
+        LA | HD | EN => 2,
+        FT | OD => 3,
+        PC | SC | FW | FH | BC => 4,
+        TC | BR => 6,
+        LP | TR => 10,
+        CL => 12,
+        AR | RW | MR => 14,
+        MG => 50,
+        _ => 0,
+    }
+}
+
+// The record with this mark where it is a setting, whose bytes are all there.
+fn setting_at(s: &[u8], mark: u16) -> Step
+    requires { ⌜ sizeIn settings mark ≤ length (now s) ⌝ }
+    ensures { λ r. ⌜ r ≡ find mark settings (now (s .entry)) ⌝ }
+{
     match mark {
         PC => Step::Read(Record::Paper(u16_at(s, 2)), 4),
         LA => Step::Read(Record::Landscape, 2),
@@ -163,20 +185,30 @@ fn known_at(s: &[u8]) -> Step
         SC => Step::Read(Record::Scale(u16_at(s, 2)), 4),
         FW => Step::Read(Record::Wide(u16_at(s, 2)), 4),
         FH => Step::Read(Record::High(u16_at(s, 2)), 4),
-        FT => Step::Read(Record::Fit(byte_at(s, 2)), 3),
-        OD => Step::Read(Record::Order(byte_at(s, 2)), 3),
+        FT => Step::Read(Record::Fit(s[2]), 3),
+        OD => Step::Read(Record::Order(s[2]), 3),
         HD => Step::Read(Record::Headings, 2),
         LP => Step::Read(Record::Limit(u64_at(s, 2)), 10),
         AR => Step::Read(Record::Area(range_at(s)), 14),
         TR => Step::Read(Record::TitleRows(u32_at(s, 2), u32_at(s, 6)), 10),
         TC => Step::Read(Record::TitleColumns(u16_at(s, 2), u16_at(s, 4)), 6),
+        _ => Step::Nothing,
+    }
+}
+
+// The record with this mark, whose bytes are all there.
+fn known_at(s: &[u8], mark: u16) -> Step
+    requires { ⌜ sizeIn formats mark ≤ length (now s) ⌝ }
+    ensures { λ r. ⌜ r ≡ find mark formats (now (s .entry)) ⌝ }
+{
+    match mark {
         RW => Step::Read(Record::Row(row_at(s)), 14),
         CL => Step::Read(Record::Column(column_at(s)), 12),
         MR => Step::Read(Record::Merged(Merge { cells: range_at(s) }), 14),
         BR => Step::Read(Record::RowBreak(u32_at(s, 2)), 6),
         BC => Step::Read(Record::ColumnBreak(u16_at(s, 2)), 4),
         EN => Step::Read(Record::End, 2),
-        _ => Step::Nothing,
+        _ => setting_at(s, mark),
     }
 }
 
@@ -184,15 +216,14 @@ fn known_at(s: &[u8]) -> Step
 pub fn read_record(bytes: &[u8]) -> Step
     ensures { λ r. ⌜ r ≡ step (now (bytes .entry)) ⌝ }
 {
-    let found = known_at(bytes);
-    let Step::Read(record, used) = found else {
+    if bytes.len() < 2 {
         return Step::Nothing;
-    };
-    if used <= bytes.len() {
-        Step::Read(record, used)
-    } else {
-        Step::Nothing
     }
+    let mark = u16_at(bytes, 0);
+    if bytes.len() < size_of(mark) {
+        return Step::Nothing;
+    }
+    known_at(bytes, mark)
 }
 
 // The place of a record's mark in the order of the records, from 1.

@@ -1,17 +1,17 @@
+use mathlib.Core.Path.{refl}
 use Rattle.reader.specs.Reading.{lists}
 use Rattle.reader.proofs.ReadingLaws.{given-sorted, given-room, job-given, job-refused}
-use borrow.Author.Needs.{needs}
 use Rattle.reader.proofs.lists.read_job.Statement.{statement}
 use Rattle.reader.proofs.lists.read_job.Tie as tie
 
 admit-to-requires : tie.Need-admit-to-requires
-admit-to-requires c κs = search needs
+admit-to-requires c κs = tt
 
 enum-known-admitted : tie.Need-enum-known-admitted
-enum-known-admitted c = search needs
+enum-known-admitted c = c .match .keys1
 
 enum-known-admitted-2 : tie.Need-enum-known-admitted-2
-enum-known-admitted-2 c = search needs
+enum-known-admitted-2 c = c .match .keys2
 
 write-items-requires : tie.Need-write-items-requires
 write-items-requires c κs =
@@ -24,34 +24,34 @@ settings-of-requires c κs =
     given-sorted (a .bytes .now) (lists (a .row-indexes .now) (a .row-sizes .now) (a .column-indexes .now) (a .column-sizes .now) (a .merge-first-rows .now) (a .merge-first-columns .now) (a .merge-last-rows .now) (a .merge-last-columns .now) (a .row-breaks .now) (a .column-breaks .now)) (c .before .before .before .before .before .before .before .before .before .before .before .before .before .before .before .before .before .before .before .before .before .before .before .before .before .before .before .before .before .before .before .before .before .before .admit-to .result) (c .before .before .before .before .before .before .before .before .before .before .before .before .before .before .before .before .before .before .before .before .before .before .before .before .before .before .before .before .before .before .before .before .before .before .admit-to .ensures) _ (c .before .before .before .before .before .before .before .before .before .before .before .before .before .before .before .before .before .before .before .before .before .before .before .before .before .before .before .before .before .before .before .before .admitted2 .given .1)
 
 same-length : tie.Need-same-length
-same-length c = search needs
+same-length c = refl
 
 same-length-2 : tie.Need-same-length-2
-same-length-2 c = search needs
+same-length-2 c = refl
 
 same-length-3 : tie.Need-same-length-3
-same-length-3 c = search needs
+same-length-3 c = refl
 
 same-length-4 : tie.Need-same-length-4
-same-length-4 c = search needs
+same-length-4 c = refl
 
 same-length-5 : tie.Need-same-length-5
-same-length-5 c = search needs
+same-length-5 c = refl
 
 same-length-6 : tie.Need-same-length-6
-same-length-6 c = search needs
+same-length-6 c = refl
 
 same-length-7 : tie.Need-same-length-7
-same-length-7 c = search needs
+same-length-7 c = refl
 
 same-length-8 : tie.Need-same-length-8
-same-length-8 c = search needs
+same-length-8 c = refl
 
 same-length-9 : tie.Need-same-length-9
-same-length-9 c = search needs
+same-length-9 c = refl
 
 same-length-10 : tie.Need-same-length-10
-same-length-10 c = search needs
+same-length-10 c = refl
 
 returns : tie.Need-returns
 returns c =
@@ -59,34 +59,34 @@ returns c =
     job-refused (a .bytes .now) (lists (a .row-indexes .now) (a .row-sizes .now) (a .column-indexes .now) (a .column-sizes .now) (a .merge-first-rows .now) (a .merge-first-columns .now) (a .merge-last-rows .now) (a .merge-last-columns .now) (a .row-breaks .now) (a .column-breaks .now)) (c .before .before .before .admit-to .result) _ (c .before .before .before .admit-to .ensures) (c .before .admitted .given .1)
 
 same-length-11 : tie.Need-same-length-11
-same-length-11 c = search needs
+same-length-11 c = c .before .before .before .before .before .before .before .before .before .before .before .before .before .before .before .before .before .before .before .before .before .write-items .kept .1 .0
 
 same-length-12 : tie.Need-same-length-12
-same-length-12 c = search needs
+same-length-12 c = c .before .before .before .before .before .before .before .before .before .before .before .before .before .before .before .before .before .before .before .before .before .write-items .kept .1 .1 .0
 
 same-length-13 : tie.Need-same-length-13
-same-length-13 c = search needs
+same-length-13 c = c .before .before .before .before .before .before .before .before .before .before .before .before .before .before .before .before .before .before .before .before .before .write-items .kept .1 .1 .1 .0
 
 same-length-14 : tie.Need-same-length-14
-same-length-14 c = search needs
+same-length-14 c = c .before .before .before .before .before .before .before .before .before .before .before .before .before .before .before .before .before .before .before .before .before .write-items .kept .1 .1 .1 .1 .0
 
 same-length-15 : tie.Need-same-length-15
-same-length-15 c = search needs
+same-length-15 c = c .before .before .before .before .before .before .before .before .before .before .before .before .before .before .before .before .before .before .before .before .before .write-items .kept .1 .1 .1 .1 .1 .0
 
 same-length-16 : tie.Need-same-length-16
-same-length-16 c = search needs
+same-length-16 c = c .before .before .before .before .before .before .before .before .before .before .before .before .before .before .before .before .before .before .before .before .before .write-items .kept .1 .1 .1 .1 .1 .1 .0
 
 same-length-17 : tie.Need-same-length-17
-same-length-17 c = search needs
+same-length-17 c = c .before .before .before .before .before .before .before .before .before .before .before .before .before .before .before .before .before .before .before .before .before .write-items .kept .1 .1 .1 .1 .1 .1 .1 .0
 
 same-length-18 : tie.Need-same-length-18
-same-length-18 c = search needs
+same-length-18 c = c .before .before .before .before .before .before .before .before .before .before .before .before .before .before .before .before .before .before .before .before .before .write-items .kept .1 .1 .1 .1 .1 .1 .1 .1 .0
 
 same-length-19 : tie.Need-same-length-19
-same-length-19 c = search needs
+same-length-19 c = c .before .before .before .before .before .before .before .before .before .before .before .before .before .before .before .before .before .before .before .before .before .write-items .kept .1 .1 .1 .1 .1 .1 .1 .1 .1 .0
 
 same-length-20 : tie.Need-same-length-20
-same-length-20 c = search needs
+same-length-20 c = c .before .before .before .before .before .before .before .before .before .before .before .before .before .before .before .before .before .before .before .before .before .write-items .kept .1 .1 .1 .1 .1 .1 .1 .1 .1 .1 .0
 
 returns-2 : tie.Need-returns-2
 returns-2 c =

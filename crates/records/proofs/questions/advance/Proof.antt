@@ -27,7 +27,7 @@ count-requires : tie.Need-count-requires
 count-requires c κs = search needs
 
 returns : tie.Need-returns
-returns c = rw (c .count .ensures, c .before .columns-after .ensures, c .before .before .rows-after .ensures, c .before .before .before .both .ensures, c .before .before .before .before .fine-of .ensures, c .before .before .before .before .before .before .before .follows-on .ensures, c .before .before .before .before .before .before .before .before .before .before .before .before .asked-of .ensures, c .before .before .before .before .before .before .before .before .before .before .before .before .before .rank-of .ensures)
+returns c = rw (c .count .ensures, c .before .columns-after .ensures, c .before .before .rows-after .ensures, c .before .before .before .both .ensures, c .before .before .before .before .fine-of .ensures, c .before .before .before .before .before .before .before .follows-on .ensures, c .before .before .before .before .before .before .before .before .before .before .asked-of .ensures, c .before .before .before .before .before .before .before .before .before .before .before .rank-of .ensures)
 
 pub advance-spec : {M : Type 1} → statement M
 advance-spec =

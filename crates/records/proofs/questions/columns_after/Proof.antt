@@ -35,7 +35,7 @@ returns-3 : tie.Need-returns-3
 returns-3 c = search needs
 
 returns-4 : tie.Need-returns-4
-returns-4 c = c .place .ensures ∙ sym (ap (columnsAfter (c .before .before .before .before .before .args .a)) (c .before .before .before .what .given .1))
+returns-4 c = c .place .ensures ∙ sym (ap (columnsAfter (c .before .before .before .before .before .args .next)) (c .before .before .before .what .given .1))
 
 returns-5 : tie.Need-returns-5
 returns-5 c = search needs

@@ -23,15 +23,15 @@ returns-4 c = yes-here _ _ _ _ (not-false _ (c .before .before .before .before .
 
 returns-5 : tie.Need-returns-5
 unfolding answer
-returns-5 c = yes-here _ _ _ _ (not-false _ (c .before .before .before .before .before .before .before .before .if1 .left)) (yes-here _ _ _ _ (not-false _ (c .before .before .before .before .before .before .if2 .left)) (yes-here _ _ _ _ (not-false _ (c .before .before .before .before .if3 .left)) (yes-here _ _ _ _ (not-false _ (c .before .before .if4 .left)) (no-here _ _ _ (not-true _ (c .if5 .taken))))))
+returns-5 c = yes-here _ _ _ _ (not-false _ (c .before .before .before .before .before .before .before .before .before .if1 .left)) (yes-here _ _ _ _ (not-false _ (c .before .before .before .before .before .before .before .if2 .left)) (yes-here _ _ _ _ (not-false _ (c .before .before .before .before .before .if3 .left)) (yes-here _ _ _ _ (not-false _ (c .before .before .before .if4 .left)) (no-here _ _ _ (not-true _ (c .if5 .taken))))))
 
 returns-6 : tie.Need-returns-6
 unfolding answer
-returns-6 c = yes-here _ _ _ _ (not-false _ (c .before .before .before .before .before .before .before .before .before .before .if1 .left)) (yes-here _ _ _ _ (not-false _ (c .before .before .before .before .before .before .before .before .if2 .left)) (yes-here _ _ _ _ (not-false _ (c .before .before .before .before .before .before .if3 .left)) (yes-here _ _ _ _ (not-false _ (c .before .before .before .before .if4 .left)) (yes-here _ _ _ _ (not-false _ (c .before .before .if5 .left)) (no-here _ _ _ (not-true _ (c .if6 .taken)))))))
+returns-6 c = yes-here _ _ _ _ (not-false _ (c .before .before .before .before .before .before .before .before .before .before .before .if1 .left)) (yes-here _ _ _ _ (not-false _ (c .before .before .before .before .before .before .before .before .before .if2 .left)) (yes-here _ _ _ _ (not-false _ (c .before .before .before .before .before .before .before .if3 .left)) (yes-here _ _ _ _ (not-false _ (c .before .before .before .before .before .if4 .left)) (yes-here _ _ _ _ (not-false _ (c .before .before .if5 .left)) (no-here _ _ _ (not-true _ (c .if6 .taken)))))))
 
 returns-7 : tie.Need-returns-7
 unfolding answer
-returns-7 c = yes-here _ _ _ _ (not-false _ (c .before .before .before .before .before .before .before .before .before .before .if1 .left)) (yes-here _ _ _ _ (not-false _ (c .before .before .before .before .before .before .before .before .if2 .left)) (yes-here _ _ _ _ (not-false _ (c .before .before .before .before .before .before .if3 .left)) (yes-here _ _ _ _ (not-false _ (c .before .before .before .before .if4 .left)) (yes-here _ _ _ _ (not-false _ (c .before .before .if5 .left)) (yes-here _ _ _ _ (not-false _ (c .if6 .left)) (none-no _))))))
+returns-7 c = yes-here _ _ _ _ (not-false _ (c .before .before .before .before .before .before .before .before .before .before .before .if1 .left)) (yes-here _ _ _ _ (not-false _ (c .before .before .before .before .before .before .before .before .before .if2 .left)) (yes-here _ _ _ _ (not-false _ (c .before .before .before .before .before .before .before .if3 .left)) (yes-here _ _ _ _ (not-false _ (c .before .before .before .before .before .if4 .left)) (yes-here _ _ _ _ (not-false _ (c .before .before .if5 .left)) (yes-here _ _ _ _ (not-false _ (c .if6 .left)) (none-no _))))))
 
 pub first-no-spec : {M : Type 1} → statement M
 first-no-spec =

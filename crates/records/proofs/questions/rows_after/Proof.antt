@@ -29,7 +29,7 @@ returns-2 : tie.Need-returns-2
 returns-2 c = search needs
 
 returns-3 : tie.Need-returns-3
-returns-3 c = c .place .ensures ∙ sym (ap (rowsAfter (c .before .before .before .before .args .a)) (c .before .before .what .given .1))
+returns-3 c = c .place .ensures ∙ sym (ap (rowsAfter (c .before .before .before .before .args .next)) (c .before .before .what .given .1))
 
 returns-4 : tie.Need-returns-4
 returns-4 c = search needs

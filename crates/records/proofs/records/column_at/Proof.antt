@@ -1,14 +1,15 @@
 use mir.Syntax.{w64}
 use mir.Facts.{toZ-ofZ}
 use borrow.Author.Needs.{needs}
+use Rattle.records.proofs.NumberLaws.{within}
 use Rattle.records.proofs.records.column_at.Statement.{statement}
 use Rattle.records.proofs.records.column_at.Tie as tie
 
 u16-at-requires : tie.Need-u16-at-requires
-u16-at-requires c κs = search needs
+u16-at-requires c κs = within _ 12 _ tt (c .before .pre)
 
 u64-at-requires : tie.Need-u64-at-requires
-u64-at-requires c κs = search needs
+u64-at-requires c κs = within _ 12 _ tt (c .before .before .pre)
 
 signed-requires : tie.Need-signed-requires
 signed-requires c κs = search needs

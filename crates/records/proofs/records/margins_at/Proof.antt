@@ -1,24 +1,24 @@
-use borrow.Author.Needs.{needs}
+use Rattle.records.proofs.NumberLaws.{within}
 use Rattle.records.proofs.records.margins_at.Statement.{statement}
 use Rattle.records.proofs.records.margins_at.Tie as tie
 
 u64-at-requires : tie.Need-u64-at-requires
-u64-at-requires c κs = search needs
+u64-at-requires c κs = within _ 50 _ tt (c .before .pre)
 
 u64-at-requires-2 : tie.Need-u64-at-requires-2
-u64-at-requires-2 c κs = search needs
+u64-at-requires-2 c κs = within _ 50 _ tt (c .before .before .pre)
 
 u64-at-requires-3 : tie.Need-u64-at-requires-3
-u64-at-requires-3 c κs = search needs
+u64-at-requires-3 c κs = within _ 50 _ tt (c .before .before .before .pre)
 
 u64-at-requires-4 : tie.Need-u64-at-requires-4
-u64-at-requires-4 c κs = search needs
+u64-at-requires-4 c κs = within _ 50 _ tt (c .before .before .before .before .pre)
 
 u64-at-requires-5 : tie.Need-u64-at-requires-5
-u64-at-requires-5 c κs = search needs
+u64-at-requires-5 c κs = within _ 50 _ tt (c .before .before .before .before .before .pre)
 
 u64-at-requires-6 : tie.Need-u64-at-requires-6
-u64-at-requires-6 c κs = search needs
+u64-at-requires-6 c κs = within _ 50 _ tt (c .before .before .before .before .before .before .pre)
 
 returns : tie.Need-returns
 returns c = rw (c .u64-at6 .ensures, c .before .u64-at5 .ensures, c .before .before .u64-at4 .ensures, c .before .before .before .u64-at3 .ensures, c .before .before .before .before .u64-at2 .ensures, c .before .before .before .before .before .u64-at .ensures)

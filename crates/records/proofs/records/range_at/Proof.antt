@@ -1,18 +1,18 @@
-use borrow.Author.Needs.{needs}
+use Rattle.records.proofs.NumberLaws.{within}
 use Rattle.records.proofs.records.range_at.Statement.{statement}
 use Rattle.records.proofs.records.range_at.Tie as tie
 
 u32-at-requires : tie.Need-u32-at-requires
-u32-at-requires c κs = search needs
+u32-at-requires c κs = within _ 14 _ tt (c .before .pre)
 
 u16-at-requires : tie.Need-u16-at-requires
-u16-at-requires c κs = search needs
+u16-at-requires c κs = within _ 14 _ tt (c .before .before .pre)
 
 u32-at-requires-2 : tie.Need-u32-at-requires-2
-u32-at-requires-2 c κs = search needs
+u32-at-requires-2 c κs = within _ 14 _ tt (c .before .before .before .pre)
 
 u16-at-requires-2 : tie.Need-u16-at-requires-2
-u16-at-requires-2 c κs = search needs
+u16-at-requires-2 c κs = within _ 14 _ tt (c .before .before .before .before .pre)
 
 returns : tie.Need-returns
 returns c = rw (c .u16-at2 .ensures, c .before .u32-at2 .ensures, c .before .before .u16-at .ensures, c .before .before .before .u32-at .ensures)

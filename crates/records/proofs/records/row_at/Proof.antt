@@ -1,14 +1,15 @@
 use mir.Syntax.{w64}
 use mir.Facts.{toZ-ofZ}
 use borrow.Author.Needs.{needs}
+use Rattle.records.proofs.NumberLaws.{within}
 use Rattle.records.proofs.records.row_at.Statement.{statement}
 use Rattle.records.proofs.records.row_at.Tie as tie
 
 u32-at-requires : tie.Need-u32-at-requires
-u32-at-requires c κs = search needs
+u32-at-requires c κs = within _ 14 _ tt (c .before .pre)
 
 u64-at-requires : tie.Need-u64-at-requires
-u64-at-requires c κs = search needs
+u64-at-requires c κs = within _ 14 _ tt (c .before .before .pre)
 
 signed-requires : tie.Need-signed-requires
 signed-requires c κs = search needs
