@@ -15,13 +15,18 @@ pub(crate) fn place_of(indexes: &[u32], limit: u64) -> usize
     ensures { λ r. ⌜ r ≤ length (now (indexes .entry)) ⌝ }
 {
     let mut low = 0;
-    let mut high = indexes.len();
-    while low < high {
-        let middle = low + (high - low) / 2;
+    let mut size = indexes.len();
+    while size > 1 {
+        let half = size / 2;
+        let middle = low + half;
+        size -= half;
         if wide(indexes[middle]) < limit {
-            low = middle + 1;
-        } else {
-            high = middle;
+            low = middle;
+        }
+    }
+    if size > 0 {
+        if wide(indexes[low]) < limit {
+            return low + 1;
         }
     }
     low

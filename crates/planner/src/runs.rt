@@ -238,7 +238,7 @@ fn placed_cut(
     moved_cut(held, prev, p, indexes)
 }
 
-// The last kept cut after the break b.
+// The last kept cut after the break b. Where no merge can move it, a break that is not past the last kept cut is not searched for.
 fn next_cut(k: Frame, mfirsts: &[u32], mlasts: &[u32], indexes: &[u32], prev: usize, b: u32) -> Cut
     requires { ⌜ length (now mfirsts) ≡ length (now mlasts) ⌝ }
     requires { ⌜ Rising (now indexes) ⌝ }
@@ -246,6 +246,16 @@ fn next_cut(k: Frame, mfirsts: &[u32], mlasts: &[u32], indexes: &[u32], prev: us
     ensures { λ r. ⌜ r ≡ nextCut k (now (mfirsts .entry)) (now (mlasts .entry)) (now (indexes .entry)) prev b ⌝ }
     ensures { λ r. ⌜ (prev ≤ r .place) × (r .place ≤ length (now (indexes .entry))) × (r .shifted ≤ 1) ⌝ }
 {
+    if mfirsts.len() == 0 {
+        if prev < indexes.len() {
+            if b <= indexes[prev] {
+                return Cut {
+                    place: prev,
+                    shifted: 0,
+                };
+            }
+        }
+    }
     let p = place_of(indexes, wide(b));
     let c = placed_cut(k, mfirsts, mlasts, indexes, prev, p);
     let place = c.place;

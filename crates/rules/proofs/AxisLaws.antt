@@ -1,4 +1,4 @@
--- Laws of `specs/Axis.antt`'s definitions, way by way. Assumes nothing.
+-- Laws of cuts and of the runs of an axis (`specs/Runs.antt`), way by way. Assumes nothing.
 use mathlib.Core.Path.{_≡_, refl, sym, ap, _∙_}
 use mathlib.Core.Bool.{Bool, true, false, cond}
 use mathlib.Core.List.{List, [], _∷_, _++_}
@@ -14,6 +14,7 @@ use Rattle.rules.specs.declared.runs.Held.the-variants.{Free, By}
 use Rattle.rules.specs.declared.runs.Frame.{Frame}
 use Rattle.rules.specs.declared.runs.Cut.{Cut}
 use Rattle.rules.proofs.Laws.{either, part, turn, none, some}
+use Rattle.rules.proofs.Places.{below-up-to}
 use Rattle.rules.specs.Slots.{Slots, below, through, mid}
 use Rattle.rules.specs.Titles.{titleHolds}
 use Rattle.rules.specs.Runs.{Run, holding, expansions, cutAt, moved, placed, kept, nextCut, stretch, axisRuns, shifts, runs, run, runsBy, firstMarked, withMark}
@@ -72,6 +73,23 @@ module _ (n prev : ℕ) (c : Cut) where
   pub kept-low : c .place ≤ prev → cutAt prev (c .shifted) ≡ kept n prev c
   unfolding kept
   kept-low h = rw (le-ltb prev (c .place))
+
+-- with no merges, a break that is not past the last kept cut leaves it
+pub next-stays : (k : Frame) (fs ls is : List ℕ) (prev b : ℕ) → length fs ≡ 0 → prev < length is → b ≤ getD is prev 0
+    → cutAt prev 0 ≡ nextCut k fs ls is prev b
+unfolding nextCut placed moved holding
+next-stays k (f ∷ fs) ls is prev b none h l = absurd (omega arith)
+next-stays k [] ls is prev b none h l =
+    let p = below b is in
+    let low = below-up-to b is prev h l in
+    either Stays (ltb 0 p)
+    (either Stays (ltb p (length is))
+    (either Stays (titleHolds (k .title) (getD is p 0)) (kept-low (length is) prev (cutAt prev 0) (omega arith)) (kept-low (length is) prev (cutAt p 0) low))
+    (kept-low (length is) prev (cutAt prev 0) (omega arith)))
+    (kept-low (length is) prev (cutAt prev 0) (omega arith))
+  where
+    Stays : Cut → Type 0
+    Stays c = cutAt prev 0 ≡ kept (length is) prev c
 
 pub next-is : (k : Frame) (fs ls is : List ℕ) (prev b p : ℕ) (c : Cut) → p ≡ below b is → c ≡ placed k fs ls is prev p
     → kept (length is) prev c ≡ nextCut k fs ls is prev b

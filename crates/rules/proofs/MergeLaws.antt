@@ -1,4 +1,4 @@
--- Laws of `specs/Merges.antt`'s definitions, for the loop of `holding_merge`. Assumes nothing.
+-- Laws of the merge that is used at a boundary (`specs/Runs.antt`), for the loop of `holding_merge`. Assumes nothing.
 use mathlib.Core.Path.{_≡_, refl, sym, ap, _∙_}
 use mathlib.Core.List.{List, [], _∷_}
 use Prim.Native.Nat.{ℕ, _-_, _≤_, _<_, min, max}

@@ -1,6 +1,7 @@
--- `planner::places::place_of` meets its contract. The loop's invariant: the place that is searched for lies from `low` to `high`. Assumes nothing.
+-- `planner::places::place_of` meets its contract. The loop's invariant: the place that is searched for lies from `low` on, no further than `size`.
+-- Assumes nothing.
 use lib.ListN.{length}
-use Prim.Native.Nat.{_+_, _-_, _/_, _≤_}
+use Prim.Native.Nat.{_+_, _/_, _≤_}
 use borrow.Author.Needs.{needs}
 use native.Mathlib.Omega.{arith}
 use Rattle.rules.specs.Slots.{below}
@@ -10,19 +11,19 @@ use Rattle.planner.proofs.places.place_of.Statement.{statement}
 use Rattle.planner.proofs.places.place_of.Tie as tie
 
 abbrev Inv-loop : tie.InvT-loop
-Inv-loop indexes limit low₀ high₀ low high = (low ≤ below limit indexes) × (below limit indexes ≤ high) × (high ≤ length indexes)
+Inv-loop indexes limit low₀ size₀ low size = (low ≤ below limit indexes) × (below limit indexes ≤ low + size) × (low + size ≤ length indexes)
 
 abbrev μ-loop : tie.MeasureT-loop
-μ-loop indexes limit low₀ high₀ low high = high - low
+μ-loop indexes limit low₀ size₀ low size = size
 
 loop-holds : tie.Need-loop-holds Inv-loop μ-loop
-loop-holds c = let a = c .before .args in (omega arith, below-le (a .limit) (a .indexes .now), omega arith)
-
-sub-middle : tie.Need-sub-middle Inv-loop μ-loop
-sub-middle c = search needs
+loop-holds c = let a = c .before .args in (omega arith, omega (arith, below-le (a .limit) (a .indexes .now)), omega arith)
 
 add-middle : tie.Need-add-middle Inv-loop μ-loop
 add-middle c = search needs
+
+sub-size : tie.Need-sub-size Inv-loop μ-loop
+sub-size c = search needs
 
 mul-wide : tie.Need-mul-wide Inv-loop μ-loop
 mul-wide c = search needs
@@ -33,9 +34,6 @@ shared-slice-read-wide c = search needs
 wide-requires : tie.Need-wide-requires Inv-loop μ-loop
 wide-requires c κs = search needs
 
-add-low : tie.Need-add-low Inv-loop μ-loop
-add-low c = search needs
-
 loop-less : tie.Need-loop-less Inv-loop μ-loop
 loop-less c = search needs
 
@@ -43,7 +41,7 @@ loop-again : tie.Need-loop-again Inv-loop μ-loop
 loop-again c =
     let l = c .before .before .before .before .loop in
     let s = c .before .before .before .before .before .before in
-    let m = l .low + (l .high - l .low) / 2 in
+    let m = l .low + l .size / 2 in
     (omega (arith, below-past-it (s .args .limit) (s .args .indexes .now) (s .pre) m (omega arith) (omega arith)), omega arith, omega arith)
 
 loop-less-2 : tie.Need-loop-less-2 Inv-loop μ-loop
@@ -53,11 +51,36 @@ loop-again-2 : tie.Need-loop-again-2 Inv-loop μ-loop
 loop-again-2 c =
     let l = c .before .before .before .before .loop in
     let a = c .before .before .before .before .before .before .args in
-    let m = l .low + (l .high - l .low) / 2 in
-    (omega arith, below-up-to (a .limit) (a .indexes .now) m (omega arith) (omega arith), omega arith)
+    let m = l .low + l .size / 2 in
+    (omega arith, omega (arith, below-up-to (a .limit) (a .indexes .now) m (omega arith) (omega arith)), omega arith)
+
+mul-wide-2 : tie.Need-mul-wide-2 Inv-loop μ-loop
+mul-wide-2 c = search needs
+
+shared-slice-read-wide-2 : tie.Need-shared-slice-read-wide-2 Inv-loop μ-loop
+shared-slice-read-wide-2 c = search needs
+
+wide-requires-2 : tie.Need-wide-requires-2 Inv-loop μ-loop
+wide-requires-2 c κs = search needs
+
+add-result : tie.Need-add-result Inv-loop μ-loop
+add-result c = search needs
 
 returns : tie.Need-returns Inv-loop μ-loop
-returns c = search needs
+returns c =
+    let l = c .before .before .before .before .before .loop in
+    let s = c .before .before .before .before .before .before .before in
+    let after = below-past-it (s .args .limit) (s .args .indexes .now) (s .pre) (l .low) (omega arith) (omega arith) in
+    (omega (arith, after), omega (arith, after))
+
+returns-2 : tie.Need-returns-2 Inv-loop μ-loop
+returns-2 c =
+    let l = c .before .before .before .before .before .loop in
+    let a = c .before .before .before .before .before .before .before .args in
+    (omega (arith, below-up-to (a .limit) (a .indexes .now) (l .low) (omega arith) (omega arith)), omega arith)
+
+returns-3 : tie.Need-returns-3 Inv-loop μ-loop
+returns-3 c = (omega arith, omega arith)
 
 pub place-of-spec : {M : Type 1} → statement M
 place-of-spec =
@@ -66,14 +89,19 @@ place-of-spec =
     Inv-loop
     μ-loop
     loop-holds
-    sub-middle
     add-middle
+    sub-size
     mul-wide
     shared-slice-read-wide
     wide-requires
-    add-low
     loop-less
     loop-again
     loop-less-2
     loop-again-2
-    returns)
+    mul-wide-2
+    shared-slice-read-wide-2
+    wide-requires-2
+    add-result
+    returns
+    returns-2
+    returns-3)
