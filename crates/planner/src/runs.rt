@@ -1,20 +1,17 @@
 // Where the slots of an axis are cut into runs: document 01, section "Runs".
 use crate::filling::natural_fill;
 use crate::filling::total;
+use crate::merges::holding_merge;
 use crate::places::moved_cut;
 use crate::places::place_of;
 use cuts::capacity_for;
 use cuts::mark_of;
 use cuts::merge_step;
-use cuts::nearer_of;
 use cuts::title_holds;
-use questions::greater;
-use questions::lesser;
 use questions::wide;
 use rules::Counted;
 use rules::Cut;
 use rules::Frame;
-use rules::Held;
 use rules::RunEnd;
 use rules::Tally;
 use rules::Title;
@@ -22,28 +19,8 @@ ghost use mathlib.Core.Path.{_≡_};
 ghost use Prim.Native.Nat.{_≤_, _<_};
 ghost use lib.ListN.{length};
 ghost use Rattle.rules.specs.Slots.{Rising, Slots};
-ghost use Rattle.rules.specs.Runs.{holding, resumed, resumption, taken, merged, runEnd, runs, firstMarked, placed, nextCut, stretch, axisRuns, axisTally};
+ghost use Rattle.rules.specs.Runs.{resumed, resumption, taken, merged, runEnd, runs, firstMarked, placed, nextCut, stretch, axisRuns, axisTally};
 ghost use Rattle.rules.specs.Lent.{Room, Written, RoomAt, WrittenAt, counted};
-
-// The earliest merge that holds b, clipped to the stretch.
-fn holding_merge(firsts: &[u32], lasts: &[u32], lo: u32, hi: u32, b: u32) -> Held
-    requires { ⌜ length (now firsts) ≡ length (now lasts) ⌝ }
-    ensures { λ r. ⌜ r ≡ holding lo hi b (now (firsts .entry)) (now (lasts .entry)) ⌝ }
-{
-    let mut i = firsts.len();
-    let mut held = Held::Free;
-    while i > 0 {
-        i -= 1;
-        let first = firsts[i];
-        if first < b {
-            let last = lasts[i];
-            if b <= last {
-                held = nearer_of(greater(first, lo), lesser(last, hi), b, held);
-            }
-        }
-    }
-    held
-}
 
 // How many slots are taken on from a boundary that the title holds.
 fn resumed_fill(indexes: &[u32], sizes: &[u64], capacity: u64, last: u32) -> usize

@@ -1,6 +1,6 @@
 -- Document 01, section "Runs". Everything is said of the slots from a run's first on: is are their indexes, ss their sizes, n how many
 -- the run has so far. Merges are two lists side by side: firsts and lasts. Assumes nothing.
-use mathlib.Core.Bool.{Bool, true, false, cond}
+use mathlib.Core.Bool.{Bool, true, false, cond, not, _&&_}
 use mathlib.Core.List.{List, [], _∷_, _++_}
 use Prim.Native.Nat.{ℕ, zero, suc, pred, _+_, _-_, min, max}
 use lib.ListN.{length, getD, take, drop}
@@ -33,6 +33,18 @@ unfoldable pub holding : ℕ → ℕ → ℕ → List ℕ → List ℕ → Held
 holding lo hi b [] ls = Free
 holding lo hi b (f ∷ fs) [] = Free
 holding lo hi b (f ∷ fs) (l ∷ ls) = nearer (max f lo) (min l hi) b (holding lo hi b fs ls)
+
+-- the merge that is used, of these merges and of what was found before (for the private functions)
+unfoldable pub holdingOnto : ℕ → ℕ → ℕ → List ℕ → List ℕ → Held → Held
+holdingOnto lo hi b [] ls held = held
+holdingOnto lo hi b (f ∷ fs) [] held = held
+holdingOnto lo hi b (f ∷ fs) (l ∷ ls) held = nearer (max f lo) (min l hi) b (holdingOnto lo hi b fs ls held)
+
+-- no pair holds b (for the private functions)
+unfoldable pub noneHolds : ℕ → List ℕ → List ℕ → Bool
+noneHolds b [] ls = true
+noneHolds b (f ∷ fs) [] = true
+noneHolds b (f ∷ fs) (l ∷ ls) = not (holds f l b) && noneHolds b fs ls
 
 -- ---- natural filling
 

@@ -1,32 +1,32 @@
--- `planner::runs::holding_merge` meets its contract. The loop goes down, so that its invariant is the definition at the merges passed.
+-- `planner::merges::earliest_of` meets its contract. The loop goes down, so that its invariant is the definition at the merges passed.
 -- Assumes nothing.
-use Rattle.rules.proofs.MergeLaws.{holding-none, holding-back, nearer-late, nearer-short}
+use Rattle.rules.proofs.MergeLaws.{onto-none, onto-back, nearer-late, nearer-short}
 use mathlib.Core.Path.{_≡_, sym, _∙_}
 use lib.ListN.{length, getD, drop}
 use Prim.Native.Nat.{_+_, _*_, _-_, _≤_, min, max}
 use borrow.Author.Needs.{needs}
 use native.Mathlib.Omega.{arith}
-use Rattle.planner.proofs.runs.holding_merge.Statement.{statement}
-use Rattle.planner.proofs.runs.holding_merge.Tie as tie
-use Rattle.rules.specs.Runs.{nearer, holding}
+use Rattle.planner.proofs.merges.earliest_of.Statement.{statement}
+use Rattle.planner.proofs.merges.earliest_of.Tie as tie
+use Rattle.rules.specs.Runs.{nearer, holdingOnto}
 
 abbrev Inv-loop : tie.InvT-loop
-Inv-loop firsts lasts lo hi b i₀ held₀ i held = (i ≤ length firsts) × (held ≡ holding lo hi b (drop i firsts) (drop i lasts))
+Inv-loop firsts lasts lo hi b i₀ held₀ i held = (i ≤ length firsts) × (held ≡ holdingOnto lo hi b (drop i firsts) (drop i lasts) held₀)
 
 abbrev μ-loop : tie.MeasureT-loop
 μ-loop firsts lasts lo hi b i₀ held₀ i held = i
 
 -- what the merge at the loop's place does to what was found behind it
 step : (d : tie.In-loop Inv-loop μ-loop) → let a = d .before .before .before .before .args in let l = d .before .loop in
-    holding (a .lo) (a .hi) (a .b) (drop (l .i - 1) (a .firsts .now)) (drop (l .i - 1) (a .lasts .now))
+    holdingOnto (a .lo) (a .hi) (a .b) (drop (l .i - 1) (a .firsts .now)) (drop (l .i - 1) (a .lasts .now)) (a .found)
     ≡ nearer (max (getD (a .firsts .now) (l .i - 1) 0) (a .lo)) (min (getD (a .lasts .now) (l .i - 1) 0) (a .hi)) (a .b) (l .held)
 step d =
     let a = d .before .before .before .before .args in
     let l = d .before .loop in
-    holding-back (a .lo) (a .hi) (a .b) (l .i) (a .firsts .now) (a .lasts .now) (search needs) (search needs) (search needs) ∙ rw (l .inv .1)
+    onto-back (a .lo) (a .hi) (a .b) (a .found) (l .i) (a .firsts .now) (a .lasts .now) (search needs) (search needs) (search needs) ∙ rw (l .inv .1)
 
 loop-holds : tie.Need-loop-holds Inv-loop μ-loop
-loop-holds c = let s = c .before .before .args in (search needs, holding-none (s .lo) (s .hi) (s .b) (s .firsts .now) (drop (length (s .firsts .now)) (s .lasts .now)))
+loop-holds c = let s = c .before .before .args in (search needs, onto-none (s .lo) (s .hi) (s .b) (s .found) (s .firsts .now) (drop (length (s .firsts .now)) (s .lasts .now)))
 
 sub-i : tie.Need-sub-i Inv-loop μ-loop
 sub-i c = search needs
@@ -81,8 +81,8 @@ returns c =
     let z : c .before .loop .i ≡ 0 = omega arith in
     rw z at (c .before .loop .inv .1)
 
-pub holding-merge-spec : {M : Type 1} → statement M
-holding-merge-spec =
+pub earliest-of-spec : {M : Type 1} → statement M
+earliest-of-spec =
     tie.close
     (tie.spec
     Inv-loop
