@@ -265,7 +265,7 @@ module _ (o : Outcome Layout) (l : Layout) (p : Plan) (e : o ≡ given l) (q : p
 
 -- 11 and 12 of m runs of rows and n of columns, by the number r of the first that is answered no
 module _ (l : Layout) (m n row-room column-room limit r : ℕ) (rows-are : length (l .rows) ≡ m) (columns-are : length (l .columns) ≡ n)
-         (pages-are : l .plan .pages ≡ m * n) (e : r ≡ roomNo m n row-room column-room limit) where
+    (pages-are : l .plan .pages ≡ m * n) (e : r ≡ roomNo m n row-room column-room limit) where
   abbrev fits : Bool
   fits = leb (length (l .rows)) row-room && leb (length (l .columns)) column-room
 

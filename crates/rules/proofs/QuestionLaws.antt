@@ -127,10 +127,10 @@ within-last limit (i ∷ (j ∷ is)) h p =
     let below : i < last = rising-head i (j ∷ is) h (length is) (omega arith) in
     let f : suc (suc (length is)) - 1 ≡ suc (length is) = omega arith in
     let go : leb last limit ≡ (leb i limit && leb last limit) =
-        elim (decLe last limit) [
-          | yes l ↦ rw (le-leb i limit (omega arith))
-          | no l ↦ let q = lt-leb last limit (omega (arith, lt-of-not-le l)) in rw q (sym (and-false (leb i limit)))
-        ] in
+    elim (decLe last limit) [
+      | yes l ↦ rw (le-leb i limit (omega arith))
+      | no l ↦ let q = lt-leb last limit (omega (arith, lt-of-not-le l)) in rw q (sym (and-false (leb i limit)))
+    ] in
     rw f (go ∙ ap (λ (b : Bool). leb i limit && b) rest)
 
 -- an index is at least its place

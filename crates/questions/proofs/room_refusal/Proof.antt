@@ -36,7 +36,7 @@ unfolding roomNo
 returns-4 c =
     let a = c .before .before .before .before .args in
     let few : a .rows * a .columns ≤ a .limit =
-        split (a .rows * a .columns) (a .limit) (λ l. l) (λ l. absurd (omega (arith, c .if4 .left, div-lt-iff-lt-mul {x = a .limit} {y = a .columns} (c .before .if3 .taken) .1 (omega (arith, l))))) in
+    split (a .rows * a .columns) (a .limit) (λ l. l) (λ l. absurd (omega (arith, c .if4 .left, div-lt-iff-lt-mul {x = a .limit} {y = a .columns} (c .before .if3 .taken) .1 (omega (arith, l))))) in
     rw (
       le-leb (a .rows) (a .row-room) (c .before .before .before .if1 .left),
       le-leb (a .columns) (a .column-room) (c .before .before .if2 .left),
