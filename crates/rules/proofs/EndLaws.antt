@@ -1,4 +1,4 @@
--- Laws of `specs/Ends.antt`'s definitions. Assumes nothing.
+-- Laws of searches, of the title's resumption and of the merge step (`specs/Slots.antt`, `specs/Runs.antt`), way by way. Assumes nothing.
 use mathlib.Core.Path.{_≡_, refl, sym, ap, _∙_}
 use mathlib.Core.List.{List, [], _∷_}
 use Prim.Native.Nat.{ℕ, zero, suc, _+_, _-_, _≤_, _<_}

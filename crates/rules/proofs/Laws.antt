@@ -1,4 +1,4 @@
--- Laws of `specs/Runs.antt`'s definitions, for the loops of `src/runs.rt`. Assumes nothing.
+-- Laws of filling, of lists of runs and of parts of slots (`specs/Slots.antt`, `specs/Runs.antt`), for the loops of `planner`. Assumes nothing.
 use mathlib.Core.Path.{_≡_, refl, sym, ap, _∙_, subst}
 use mathlib.Core.List.{List, [], _∷_, _++_, map}
 use Prim.Native.Nat.{ℕ, zero, suc, pred, _+_, _-_, _≤_, _<_, _^_}
