@@ -1,11 +1,12 @@
 -- What the four clauses of a job's plan follow from: the clauses of the plan of what was read. Assumes nothing.
-use mathlib.Core.Path.{_≡_, refl, sym, ap, ap₂, _∙_}
+use mathlib.Core.Path.{_≡_, refl, sym, ap, ap₂, subst, _∙_}
 use mathlib.Core.Bool.{Bool, true, false, true≢false, _&&_}
 use mathlib.Core.List.{List}
 use Prim.Native.Nat.{ℕ, _≤_}
 use native.Mathlib.Omega.{arith}
 use lib.ListN.{length, take, length-map, length-append}
 use lib.Seq.{length-take-le}
+use borrow.Author.Tests.{eq-eqb}
 use Rattle.geometry.specs.Outcome.{Outcome, given, refused, andThen}
 use Rattle.rules.specs.declared.pages.Plan.{Plan}
 use Rattle.rules.specs.declared.plan.Settings.{Settings}
@@ -27,20 +28,14 @@ use Rattle.reader.specs.declared.lists.Job.{Job}
 use Rattle.reader.specs.declared.lists.Reading.{Reading}
 use Rattle.reader.specs.declared.lists.Reading.the-variants as reading
 use Rattle.records.specs.Records.{RW, CL, MR, BR, BC, records, marked, values, field}
-use Rattle.records.specs.Verdict.{verdictLent, questions, itemsOf}
+use Rattle.records.specs.Verdict.{verdictLent, question1, questions, itemsOf}
 use Rattle.reader.specs.Settings.{settingsOf}
-use Rattle.reader.specs.Reading.{Lists, lists, evenLists as itemsEven, roomIn, readJob, jobOf, readingOutcome, JobRead}
+use Rattle.reader.specs.Reading.{Lists, lists, evenLists as itemsEven, roomIn, fitIn, readJob, jobOf, readingOutcome, JobRead}
 use Rattle.reader.proofs.ReadingLaws.{all-given, admit-no, job-refused as not-read}
-use Rattle.reader.proofs.ItemRoom.{mostItems, read-whole}
-use Rattle.job.specs.Plan.{settingsFor, rangeFor, rowsRead, columnsRead, jobSettings, jobRows, jobColumns, planJob, planEven}
+use Rattle.reader.proofs.ItemRoom.{Brings, items-fit, all-answered, read-whole}
+use Rattle.job.specs.Plan.{settingsFor, rangeFor, rowsRead, columnsRead, jobSettings, jobRows, jobColumns, planJob, planEven, Told, Filled, rowsFrom, columnsFrom, ReadPlanned, EvenPlanned}
 
 -- ---- the four clauses
-
--- the answer r and the run lists, which were rows₀ and columns₀, where the outcome is o, for the settings s and the axes a and b
-abbrev pub Told : Outcome Layout → Settings → AxisInput → AxisInput → Planning → RunLists → RunLists → RunLists → RunLists → Type 0
-Told o s a b r rows₀ columns₀ rows columns =
-    Planned o r rows₀ columns₀ rows columns
-    × (CoversPairs r a b rows columns × (FewestPlan r s a b rows columns × LargestPlan r s a b))
 
 no-plan : {X : Type 0} (n : ℕ) (plan : Plan) → refused n ≡ given plan → X
 no-plan n plan e = let z : _≡_ {A = ℕ} 0 1 = cc in absurd (omega arith)
@@ -58,6 +53,14 @@ refused-told o s a b n rows columns e = (
     ),
   ),
 )
+
+-- the clauses of run lists that are equally long
+module _ {s : List ℕ} {r : Planning} {rows₀ columns₀ rows columns : RunLists} where
+  pub even-told : Told (planEven s rows₀ columns₀) (jobSettings s) (jobRows s) (jobColumns s) r rows₀ columns₀ rows columns → EvenPlanned s r rows₀ columns₀ rows columns
+  even-told w = record { planned-so = w .0; covered-so = w .1 .0; fewest-so = w .1 .1 .0; largest-so = w .1 .1 .1 }
+
+  pub told-even : EvenPlanned s r rows₀ columns₀ rows columns → Told (planEven s rows₀ columns₀) (jobSettings s) (jobRows s) (jobColumns s) r rows₀ columns₀ rows columns
+  told-even w = (w .planned-so, (w .covered-so, (w .fewest-so, w .largest-so)))
 
 -- the same outcome
 pub outcome-told : {o p : Outcome Layout} {s : Settings} {a b : AxisInput} → o ≡ p → (r : Planning) (rows₀ columns₀ rows columns : RunLists)
@@ -89,15 +92,40 @@ never-uneven s items e =
 
 -- ---- what was read
 
--- lists that hold all that 60,000 bytes can bring
-pub record Most (l : Lists) : Type 0 where
+-- lists that hold the items of every job that is read
+pub record Holds (s : List ℕ) (l : Lists) : Type 0 where
   pub even : itemsEven l ≡ true
-  pub room : roomIn l ≡ mostItems
+  pub room : question1 s ≡ true → fitIn (itemsOf (records s)) (roomIn l) ≡ true
 
-pub most-of : {ri rs ci cs fr fc lr lc rb cb : List ℕ} → 4285 ≡ length ri → 4285 ≡ length rs → 5000 ≡ length ci → 5000 ≡ length cs
-    → 4285 ≡ length fr → 4285 ≡ length fc → 4285 ≡ length lr → 4285 ≡ length lc → 10000 ≡ length rb → 15000 ≡ length cb
-    → Most (lists ri rs ci cs fr fc lr lc rb cb)
-most-of a b c d e f g h i j = record { even = rw (← a, ← b, ← c, ← d, ← e, ← f, ← g, ← h); room = rw (← a, ← c, ← e, ← i, ← j) }
+-- lists with room for all that n bytes can bring hold the items of every job that has no more bytes, and is read
+pub holds-of : (n : ℕ) (room : Items) → Brings n room → {s ri rs ci cs fr fc lr lc rb cb : List ℕ} → (question1 s ≡ true → length s ≤ n)
+    → room .rows ≡ length ri → room .rows ≡ length rs → room .columns ≡ length ci → room .columns ≡ length cs
+    → room .merges ≡ length fr → room .merges ≡ length fc → room .merges ≡ length lr → room .merges ≡ length lc
+    → room .«row_breaks» ≡ length rb → room .«column_breaks» ≡ length cb
+    → Holds s (lists ri rs ci cs fr fc lr lc rb cb)
+holds-of n room w {s} {ri} {rs} {ci} {cs} {fr} {fc} {lr} {lc} few a b c d e f g h i j = record {
+  even = rw (
+    eq-eqb (length ri) (length rs) (sym a ∙ b),
+    eq-eqb (length ci) (length cs) (sym c ∙ d),
+    eq-eqb (length fr) (length fc) (sym e ∙ f),
+    eq-eqb (length fr) (length lr) (sym e ∙ g),
+    eq-eqb (length fr) (length lc) (sym e ∙ h),
+  );
+  room = λ q. rw (← a, ← c, ← e, ← i, ← j) (items-fit n room w s (few q));
+}
+
+-- the two sizes of `plan_job`
+abbrev pub small : Items
+small = record { rows = 150; columns = 175; merges = 150; «row_breaks» = 350; «column_breaks» = 525 }
+
+pub small-brings : Brings 2100 small
+small-brings = record { rows-held = omega arith; columns-held = omega arith; merges-held = omega arith; row-breaks-held = omega arith; column-breaks-held = omega arith }
+
+abbrev pub large : Items
+large = record { rows = 4285; columns = 5000; merges = 4285; «row_breaks» = 10000; «column_breaks» = 15000 }
+
+pub large-brings : Brings 60000 large
+large-brings = record { rows-held = omega arith; columns-held = omega arith; merges-held = omega arith; row-breaks-held = omega arith; column-breaks-held = omega arith }
 
 -- of n items and a list that was written: no more than its room, and the job's values first
 pub record Front (k f : ℕ) (s : List ℕ) (n : ℕ) (new : List ℕ) : Type 0 where
@@ -128,15 +156,15 @@ module _ (s : List ℕ) (o : Outcome Job) (j : Job) (given-is : o ≡ given j) w
         is = rw m (front-written (field f) (marked k (records s)) old new w);
       }
 
-module _ (s : List ℕ) {before : Lists} (most : Most before) where
+module _ (s : List ℕ) {before : Lists} (holds : Holds s before) where
   -- reading asks what the questions ask, and never 11
   pub read-as : readJob s before ≡ andThen (verdictLent true s) (λ (items : Items). given (jobOf (records s)))
   read-as = go (verdictLent true s) refl
     where
       go : (o : Outcome Items) → verdictLent true s ≡ o → readJob s before ≡ andThen o (λ (items : Items). given (jobOf (records s)))
-      go (given items) e = read-whole s items e before (most .even) (most .room)
+      go (given items) e = read-whole s items e before (holds .even) (holds .room (all-answered s items e .0))
       go (refused n) e =
-          let v : refused n ≡ verdictLent (itemsEven before) s = sym e ∙ ap (λ (b : Bool). verdictLent b s) (sym (most .even)) in
+          let v : refused n ≡ verdictLent (itemsEven before) s = sym e ∙ ap (λ (b : Bool). verdictLent b s) (sym (holds .even)) in
           sym (not-read s before (checked.Refused n) n (admit-no (itemsEven before) s (roomIn before) (checked.Refused n) v n refl) refl .answer)
 
   -- a no refuses the plan
@@ -217,3 +245,63 @@ read-told j set g ri rs ci cs fr fc lr lc rb cb e f r rows₀ columns₀ rows co
     (ap₂ (λ (x : Settings) (y : PrintRange). rowsOf x y (j .«row_title») ri rs fr lr rb) e f)
     (ap₂ (λ (x : Settings) (y : PrintRange). columnsOf x y (j .«column_title») ci cs fc lc cb) e f)
     r rows₀ columns₀ rows columns w
+
+-- a reading that is refused, and one that is planned
+pub planned-no : {got : Reading} {n : ℕ} → got ≡ reading.Refused n → (l : Lists) (rows columns : RunLists) → ReadPlanned got l (Refused n) rows columns rows columns
+planned-no k l rows columns = record {
+  no = λ m e. (cc, (refl, refl));
+  yes = λ j e. let z : _≡_ {A = ℕ} 0 1 = cc in absurd (omega arith);
+}
+
+module _ {got : Reading} {j : Job} (k : got ≡ reading.Value j) (l : Lists) {set : Settings} {g : PrintRange} (e : set ≡ settingsFor (j .settings)) (f : g ≡ rangeFor (j .settings .range)) where
+  pub planned-yes : (r : Planning) (rows₀ columns₀ rows columns : RunLists)
+      → (let a = rowsOf set g (j .settings .«row_title») (take (j .items .rows) (l .row-indexes)) (take (j .items .rows) (l .row-sizes))
+      (take (j .items .merges) (l .merge-first-rows)) (take (j .items .merges) (l .merge-last-rows)) (take (j .items .«row_breaks») (l .row-breaks)) in
+      let b = columnsOf set g (j .settings .«column_title») (take (j .items .columns) (l .column-indexes)) (take (j .items .columns) (l .column-sizes))
+      (take (j .items .merges) (l .merge-first-columns)) (take (j .items .merges) (l .merge-last-columns)) (take (j .items .«column_breaks») (l .column-breaks)) in
+      Told (planned set a b rows₀ columns₀) set a b r rows₀ columns₀ rows columns)
+      → ReadPlanned got l r rows₀ columns₀ rows columns
+  planned-yes r rows₀ columns₀ rows columns t = record {
+    no = λ m h. let z : _≡_ {A = ℕ} 0 1 = cc in absurd (omega arith);
+    yes = λ i h.
+        let same : j ≡ i = cc in
+        subst (λ (x : Job). Told (planned (settingsFor (x .settings)) (rowsFrom x l) (columnsFrom x l) rows₀ columns₀) (settingsFor (x .settings)) (rowsFrom x l) (columnsFrom x l) r rows₀ columns₀ rows columns) same
+        (read-told (j .settings) set g _ _ _ _ _ _ _ _ _ _ e f r rows₀ columns₀ rows columns t);
+  }
+
+-- a job that was read to lists that hold it, and planned
+module _ {s : List ℕ} {before after : Lists} (holds : Holds s before) {got : Reading} (w : JobRead s got before after) where
+  pub was-filled : Filled got after
+  was-filled = record {
+    filled = λ j k.
+        let f = read-of s holds w k in
+        record {
+          row-indexes-long = f .row-indexes .few;
+          row-sizes-long = f .row-sizes .few;
+          column-indexes-long = f .column-indexes .few;
+          column-sizes-long = f .column-sizes .few;
+          merge-first-rows-long = f .merge-first-rows .few;
+          merge-first-columns-long = f .merge-first-columns .few;
+          merge-last-rows-long = f .merge-last-rows .few;
+          merge-last-columns-long = f .merge-last-columns .few;
+          row-breaks-long = f .row-breaks .few;
+          column-breaks-long = f .column-breaks .few;
+        };
+  }
+
+  pub job-planned : (r : Planning) (rows₀ columns₀ rows columns : RunLists) → ReadPlanned got after r rows₀ columns₀ rows columns → EvenPlanned s r rows₀ columns₀ rows columns
+  job-planned r rows₀ columns₀ rows columns t = go got refl
+    where
+      go : (q : Reading) → got ≡ q → EvenPlanned s r rows₀ columns₀ rows columns
+      go (reading.Refused n) k =
+          let told = t .no n k in
+          rw (told .0, told .1 .0, told .1 .1) (even-told (refused-told _ _ _ _ n rows₀ columns₀ (read-no s holds rows₀ columns₀ got n (w .answer) k)))
+      go (reading.Value j) k =
+          let f = read-of s holds w k in
+          let e = f .settings-are in
+          even-told
+          (outcome-told (f .plan-is rows₀ columns₀) r rows₀ columns₀ rows columns
+          (same-told (settings-for s _ e)
+          (rows-for s _ e (f .row-indexes .is) (f .row-sizes .is) (f .merge-first-rows .is) (f .merge-last-rows .is) (f .row-breaks .is))
+          (columns-for s _ e (f .column-indexes .is) (f .column-sizes .is) (f .merge-first-columns .is) (f .merge-last-columns .is) (f .column-breaks .is))
+          r rows₀ columns₀ rows columns (t .yes j k)))

@@ -1,16 +1,25 @@
 -- The plan of a job's bytes: document 01, sections "Jobs" and "Questions in order". Assumes nothing.
+use mathlib.Core.Path.{_≡_}
 use mathlib.Core.Bool.{true, cond, _&&_}
 use mathlib.Core.List.{List}
-use Prim.Native.Nat.{ℕ}
+use Prim.Native.Nat.{ℕ, _≤_}
+use lib.ListN.{length, take}
 use Rattle.geometry.specs.Outcome.{Outcome, andThen}
 use Rattle.rules.specs.declared.pages.PageOrder.{PageOrder}
 use Rattle.rules.specs.declared.pages.PageOrder.the-variants.{DownThenOver, OverThenDown}
 use Rattle.rules.specs.declared.plan.Settings.{Settings}
 use Rattle.rules.specs.declared.plan.PrintRange.{PrintRange}
 use Rattle.rules.specs.Pages.{RunLists, evenLists}
-use Rattle.rules.specs.Plan.{AxisInput, Layout, rowsOf, columnsOf, planned}
+use Rattle.rules.specs.Plan.{AxisInput, Layout, Planned, rowsOf, columnsOf, planned}
+use Rattle.rules.specs.Demand.{CoversPairs, FewestPlan, LargestPlan}
+use Rattle.rules.specs.declared.plan.Planning.{Planning}
+use Rattle.rules.specs.declared.plan.Planning.the-variants.{Refused}
 use Rattle.records.specs.Records.{RW, CL, MR, BR, BC, records, values}
 use Rattle.records.specs.Verdict.{verdictLent}
+use Rattle.reader.specs.Reading.{Lists}
+use Rattle.reader.specs.declared.lists.Job.{Job}
+use Rattle.reader.specs.declared.lists.Reading.{Reading}
+use Rattle.reader.specs.declared.lists.Reading.the-variants.{Value, Refused as NotRead}
 use Rattle.reader.specs.Settings.{settingsOf, fitOn, overThenDown, limitOf, marginSetting}
 use Rattle.records.specs.declared.records.Range.{Range}
 use Rattle.records.specs.declared.questions.Items.{Items}
@@ -72,7 +81,55 @@ planJob s rows columns =
     andThen (verdictLent (evenLists rows && evenLists columns) s)
     (λ (items : Items). planned (jobSettings s) (jobRows s) (jobColumns s) rows columns)
 
--- the same of run lists that are equally long, for the private function that plans with them
+-- ---- for the private functions
+
+-- the same of run lists that are equally long
 unfoldable pub planEven : List ℕ → RunLists → RunLists → Outcome Layout
 planEven s rows columns =
     andThen (verdictLent true s) (λ (items : Items). planned (jobSettings s) (jobRows s) (jobColumns s) rows columns)
+
+-- the four clauses: the answer r and the run lists, which were rows₀ and columns₀, where the outcome is o, for the settings s and the axes a and b
+abbrev pub Told : Outcome Layout → Settings → AxisInput → AxisInput → Planning → RunLists → RunLists → RunLists → RunLists → Type 0
+Told o s a b r rows₀ columns₀ rows columns =
+    Planned o r rows₀ columns₀ rows columns
+    × (CoversPairs r a b rows columns × (FewestPlan r s a b rows columns × LargestPlan r s a b))
+
+-- the lists are as long as a job that was read to them says
+pub record Long (j : Job) (l : Lists) : Type 0 where
+  pub row-indexes-long : j .items .rows ≤ length (l .row-indexes)
+  pub row-sizes-long : j .items .rows ≤ length (l .row-sizes)
+  pub column-indexes-long : j .items .columns ≤ length (l .column-indexes)
+  pub column-sizes-long : j .items .columns ≤ length (l .column-sizes)
+  pub merge-first-rows-long : j .items .merges ≤ length (l .merge-first-rows)
+  pub merge-first-columns-long : j .items .merges ≤ length (l .merge-first-columns)
+  pub merge-last-rows-long : j .items .merges ≤ length (l .merge-last-rows)
+  pub merge-last-columns-long : j .items .merges ≤ length (l .merge-last-columns)
+  pub row-breaks-long : j .items .«row_breaks» ≤ length (l .row-breaks)
+  pub column-breaks-long : j .items .«column_breaks» ≤ length (l .column-breaks)
+
+pub record Filled (reading : Reading) (l : Lists) : Type 0 where
+  pub filled : (j : Job) → reading ≡ Value j → Long j l
+
+-- the axes of a job and the lists that it was read to
+abbrev pub rowsFrom : Job → Lists → AxisInput
+rowsFrom j l =
+    rowsRead (j .settings) (take (j .items .rows) (l .row-indexes)) (take (j .items .rows) (l .row-sizes))
+    (take (j .items .merges) (l .merge-first-rows)) (take (j .items .merges) (l .merge-last-rows)) (take (j .items .«row_breaks») (l .row-breaks))
+
+abbrev pub columnsFrom : Job → Lists → AxisInput
+columnsFrom j l =
+    columnsRead (j .settings) (take (j .items .columns) (l .column-indexes)) (take (j .items .columns) (l .column-sizes))
+    (take (j .items .merges) (l .merge-first-columns)) (take (j .items .merges) (l .merge-last-columns)) (take (j .items .«column_breaks») (l .column-breaks))
+
+-- a refusal is handed on, and writes nothing; a job is planned
+pub record ReadPlanned (reading : Reading) (l : Lists) (r : Planning) (rows₀ columns₀ rows columns : RunLists) : Type 0 where
+  pub no : (n : ℕ) → reading ≡ NotRead n → (r ≡ Refused n) × ((rows ≡ rows₀) × (columns ≡ columns₀))
+  pub yes : (j : Job) → reading ≡ Value j
+      → Told (planned (settingsFor (j .settings)) (rowsFrom j l) (columnsFrom j l) rows₀ columns₀) (settingsFor (j .settings)) (rowsFrom j l) (columnsFrom j l) r rows₀ columns₀ rows columns
+
+-- the four clauses of the call, of run lists that are equally long: the answer r and the run lists, which were rows₀ and columns₀
+pub record EvenPlanned (s : List ℕ) (r : Planning) (rows₀ columns₀ rows columns : RunLists) : Type 0 where
+  pub planned-so : Planned (planEven s rows₀ columns₀) r rows₀ columns₀ rows columns
+  pub covered-so : CoversPairs r (jobRows s) (jobColumns s) rows columns
+  pub fewest-so : FewestPlan r (jobSettings s) (jobRows s) (jobColumns s) rows columns
+  pub largest-so : LargestPlan r (jobSettings s) (jobRows s) (jobColumns s)

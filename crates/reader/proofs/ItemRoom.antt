@@ -1,5 +1,5 @@
--- How many items 60,000 bytes can bring: a record has the bytes of its mark. A job whose questions 1 to 9 are answered yes is read whole
--- where the lists hold so many. Assumes nothing.
+-- How many items a number of bytes can bring: a record has the bytes of its mark. A job whose questions 1 to 9 are answered yes is read
+-- whole where the lists hold its items. Assumes nothing.
 use mathlib.Core.Path.{_≡_, refl, sym, ap, _∙_}
 use mathlib.Core.Bool.{Bool, true, false, true≢false, cond, _&&_}
 use mathlib.Core.List.{List, [], _∷_}
@@ -96,25 +96,28 @@ module _ (k w : ℕ) (h : Weighs k w) where
 
 -- ---- "all that 60,000 bytes can bring"
 
--- the most items of each kind
-abbrev pub mostItems : Items
-mostItems = record { rows = 4285; columns = 5000; merges = 4285; «row_breaks» = 10000; «column_breaks» = 15000 }
+-- room for all that n bytes can bring: one item more of a kind has more bytes than those
+pub record Brings (n : ℕ) (room : Items) : Type 0 where
+  pub rows-held : n < 14 * suc (room .rows)
+  pub columns-held : n < 12 * suc (room .columns)
+  pub merges-held : n < 14 * suc (room .merges)
+  pub row-breaks-held : n < 6 * suc (room .«row_breaks»)
+  pub column-breaks-held : n < 4 * suc (room .«column_breaks»)
 
-pub items-fit : (s : List ℕ) → question1 s ≡ true → fitIn (itemsOf (records s)) mostItems ≡ true
+pub items-fit : (n : ℕ) (room : Items) → Brings n room → (s : List ℕ) → length s ≤ n → fitIn (itemsOf (records s)) room ≡ true
 unfolding formats
-items-fit s e =
-    let l = leb-true (length s) 60000 e in
+items-fit n room w s l =
     let r = bytes-of RW 14 (λ t. tt) s in
     let c = bytes-of CL 12 (λ t. tt) s in
     let m = bytes-of MR 14 (λ t. tt) s in
     let b = bytes-of BR 6 (λ t. tt) s in
     let d = bytes-of BC 4 (λ t. tt) s in
-    let n : ℕ → ℕ = λ k. length (marked k (records s)) in
-    let fr = le-leb (n RW) 4285 (omega (arith, r, l)) in
-    let fc = le-leb (n CL) 5000 (omega (arith, c, l)) in
-    let fm = le-leb (n MR) 4285 (omega (arith, m, l)) in
-    let fb = le-leb (n BR) 10000 (omega (arith, b, l)) in
-    let fd = le-leb (n BC) 15000 (omega (arith, d, l)) in
+    let count : ℕ → ℕ = λ k. length (marked k (records s)) in
+    let fr = le-leb (count RW) (room .rows) (omega (arith, r, l, w .rows-held)) in
+    let fc = le-leb (count CL) (room .columns) (omega (arith, c, l, w .columns-held)) in
+    let fm = le-leb (count MR) (room .merges) (omega (arith, m, l, w .merges-held)) in
+    let fb = le-leb (count BR) (room .«row_breaks») (omega (arith, b, l, w .row-breaks-held)) in
+    let fd = le-leb (count BC) (room .«column_breaks») (omega (arith, d, l, w .column-breaks-held)) in
     rw (fr, fc, fm, fb, fd)
 
 -- ---- a job that is questioned with yes is read
@@ -135,11 +138,10 @@ module _ (s : List ℕ) (items : Items) (e : verdictLent true s ≡ given items)
   pub all-answered : All (questions true s)
   all-answered = all-given (itemsOf (records s)) 1 (questions true s) items is-given
 
-  pub read-whole : (l : Lists) → evenLists l ≡ true → roomIn l ≡ mostItems → readJob s l ≡ given (jobOf (records s))
+  pub read-whole : (l : Lists) → evenLists l ≡ true → fitIn (itemsOf (records s)) (roomIn l) ≡ true → readJob s l ≡ given (jobOf (records s))
   unfolding readJob
-  read-whole l even room =
+  read-whole l even f =
       let a = all-answered in
-      let f : fitIn (itemsOf (records s)) (roomIn l) ≡ true = ap (fitIn (itemsOf (records s))) room ∙ items-fit s (a .0) in
       let six : question6 (evenLists l) s ≡ true = ap (λ (b : Bool). question6 b s) even ∙ a .1 .1 .1 .1 .1 .0 in
       all-in-order (jobOf (records s)) 1 (asked (evenLists l) (roomIn l) s)
       (a .0, (a .1 .0, (a .1 .1 .0, (a .1 .1 .1 .0, (a .1 .1 .1 .1 .0, (six, (a .1 .1 .1 .1 .1 .1 .0, (a .1 .1 .1 .1 .1 .1 .1 .0, (a .1 .1 .1 .1 .1 .1 .1 .1 .0, (refl, (f, tt)))))))))))
