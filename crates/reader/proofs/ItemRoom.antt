@@ -18,7 +18,7 @@ use Rattle.records.specs.Verdict.{question1, question6, questions, inOrder, ver
 use Rattle.reader.specs.Reading.{Lists, evenLists, roomIn, fitIn, asked, jobOf, readJob}
 use Rattle.records.proofs.RecordLaws.{in-whole, step-used}
 use Rattle.records.proofs.PassLaws.{All}
-use Rattle.reader.proofs.ReadingLaws.{all-given, in-order-given}
+use Rattle.reader.proofs.ReadingLaws.{all-given}
 
 -- ---- the bytes of a mark
 
@@ -130,10 +130,6 @@ module _ (s : List ℕ) (items : Items) (e : verdictLent true s ≡ given items)
   is-given : given items ≡ inOrder 1 (questions true s) (itemsOf (records s))
   unfolding verdictLent
   is-given = sym e
-
-  -- the items are those that were counted
-  pub items-are : items ≡ itemsOf (records s)
-  items-are = in-order-given (itemsOf (records s)) (itemsOf (records s)) 1 (questions true s) items is-given .0
 
   pub all-answered : All (questions true s)
   all-answered = all-given (itemsOf (records s)) 1 (questions true s) items is-given
