@@ -1,6 +1,8 @@
 // Single steps of cutting an axis: which merge holds a boundary, which capacity a run has, and where a merge moves its end.
 // Document 01, section "Runs".
-use questions::lesser;
+mod merges;
+
+pub use merges::holding_merge;
 use questions::wide;
 use rules::FinalCut;
 use rules::Frame;
@@ -14,35 +16,7 @@ ghost use lib.ListN.{length};
 ghost use Rattle.rules.specs.Slots.{below, through};
 ghost use Rattle.rules.specs.Titles.{titleHolds};
 ghost use Rattle.rules.specs.Plan.{cutFrom};
-ghost use Rattle.rules.specs.Runs.{earlier, nearer, capacityAt, mergeStep};
-
-// The earlier of two pairs, by first, then last.
-fn earlier_of(first: u32, last: u32, held: Held) -> Held
-    ensures { λ r. ⌜ r ≡ earlier first last held ⌝ }
-{
-    let Held::By(f, l) = held else {
-        return Held::By(first, last);
-    };
-    if first < f {
-        return Held::By(first, last);
-    }
-    if f < first {
-        return Held::By(f, l);
-    }
-    Held::By(first, lesser(last, l))
-}
-
-// What holds b, of a pair and of what was found before.
-pub fn nearer_of(first: u32, last: u32, b: u32, held: Held) -> Held
-    ensures { λ r. ⌜ r ≡ nearer first last b held ⌝ }
-{
-    if first < b {
-        if b <= last {
-            return earlier_of(first, last, held);
-        }
-    }
-    held
-}
+ghost use Rattle.rules.specs.Runs.{capacityAt, mergeStep};
 
 // How many slots at the front have an index below the limit.
 fn slots_below(indexes: &[u32], limit: u64) -> usize

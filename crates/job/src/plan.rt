@@ -313,13 +313,8 @@ pub fn plan_job(
     ensures fewest { λ r. ⌜ FewestPlan r (section.jobSettings (now (bytes .entry))) (section.jobRows (now (bytes .entry))) (section.jobColumns (now (bytes .entry))) (pages.runLists (now («row_run_firsts» .exit)) (now («row_run_lasts» .exit)) (now («row_run_sizes» .exit)) (now («row_run_marks» .exit))) (pages.runLists (now («column_run_firsts» .exit)) (now («column_run_lasts» .exit)) (now («column_run_sizes» .exit)) (now («column_run_marks» .exit))) ⌝ }
     ensures largest { λ r. ⌜ LargestPlan r (section.jobSettings (now (bytes .entry))) (section.jobRows (now (bytes .entry))) (section.jobColumns (now (bytes .entry))) ⌝ }
 {
-    let rows_even = lists_even(row_run_firsts, row_run_lasts, row_run_sizes, row_run_marks);
-    let columns_even = lists_even(
-        column_run_firsts,
-        column_run_lasts,
-        column_run_sizes,
-        column_run_marks,
-    );
+    let rows_even = lists_even(row_run_firsts.len(), row_run_lasts.len(), row_run_sizes.len(), row_run_marks.len());
+    let columns_even = lists_even(column_run_firsts.len(), column_run_lasts.len(), column_run_sizes.len(), column_run_marks.len());
     if rows_even & columns_even {
         if bytes.len() <= SMALL {
             return plan_small(

@@ -1,6 +1,5 @@
 // Page plans of measured worksheets: document 01, sections "Titles", "Runs", "Scale" and "Pages".
 mod filling;
-mod merges;
 mod overflow;
 mod partition;
 mod places;

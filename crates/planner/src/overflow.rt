@@ -1,31 +1,12 @@
 // Runs that exceed their page: document 01, section "Pages".
 use crate::scale::fits_side;
+use crate::scale::printed;
 use rules::PageSide;
 use rules::Title;
 ghost use mathlib.Core.Path.{_≡_};
-ghost use Prim.Native.Nat.{_≤_, _^_};
 ghost use lib.ListN.{length};
 ghost use Rattle.rules.specs.Scale.{spaceOf, Low};
 ghost use Rattle.rules.specs.Pages as section;
-
-// What a run takes of a page: its size and the headings, and the titles where it lies past the title or its body is empty.
-fn printed(page: PageSide, title: Title, empty: bool, first: u32, size: u64) -> u64
-    requires { ⌜ Low page ⌝ }
-    requires { ⌜ size ≤ 2 ^ 50 ⌝ }
-    ensures { λ r. ⌜ r ≡ section.printed (spaceOf page) title empty first size ⌝ }
-    ensures { λ r. ⌜ r ≤ 2 ^ 53 ⌝ }
-{
-    if empty {
-        return size + page.titles + page.headings;
-    }
-    let Title::Pair(_, last) = title else {
-        return size + page.headings;
-    };
-    if first > last {
-        return size + page.titles + page.headings;
-    }
-    size + page.headings
-}
 
 // How many runs exceed the content side, scaled and rounded.
 pub(crate) fn overflowing_runs(

@@ -31,7 +31,6 @@ fn partition_slots(
     run_sizes: &mut [u64],
     run_marks: &mut [u8],
 ) -> Partition
-    requires { ⌜ length (now «merge_firsts») ≡ length (now «merge_lasts») ⌝ }
     requires { ⌜ Slots (now indexes) (now sizes) ⌝ }
     requires { ⌜ call.Even (now «run_firsts») (now «run_lasts») (now «run_sizes») (now «run_marks») ⌝ }
     ensures { λ r. ⌜ call.Answered (call.roomFor (axisRuns frame (now («merge_firsts» .entry)) (now («merge_lasts» .entry)) (now (indexes .entry)) (now (sizes .entry)) 0 (now (breaks .entry))) (axisTally frame (now («merge_firsts» .entry)) (now («merge_lasts» .entry)) (now (indexes .entry)) (now (sizes .entry)) (now (breaks .entry))) (length (now («run_firsts» .entry)))) (axisRuns frame (now («merge_firsts» .entry)) (now («merge_lasts» .entry)) (now (indexes .entry)) (now (sizes .entry)) 0 (now (breaks .entry))) r (now («run_firsts» .entry)) (now («run_lasts» .entry)) (now («run_sizes» .entry)) (now («run_marks» .entry)) (now («run_firsts» .exit)) (now («run_lasts» .exit)) (now («run_sizes» .exit)) (now («run_marks» .exit)) ⌝ }
@@ -68,7 +67,6 @@ fn partition_body(
     run_sizes: &mut [u64],
     run_marks: &mut [u8],
 ) -> Partition
-    requires { ⌜ length (now «merge_firsts») ≡ length (now «merge_lasts») ⌝ }
     requires { ⌜ Slots (now indexes) (now sizes) ⌝ }
     requires { ⌜ call.Even (now «run_firsts») (now «run_lasts») (now «run_sizes») (now «run_marks») ⌝ }
     ensures { λ r. ⌜ call.Answered (call.fits setup (now (indexes .entry)) (now (sizes .entry)) (now («merge_firsts» .entry)) (now («merge_lasts» .entry)) (now (breaks .entry)) (length (now («run_firsts» .entry)))) (call.bodyRuns setup (now (indexes .entry)) (now (sizes .entry)) (now («merge_firsts» .entry)) (now («merge_lasts» .entry)) (now (breaks .entry))) r (now («run_firsts» .entry)) (now («run_lasts» .entry)) (now («run_sizes» .entry)) (now («run_marks» .entry)) (now («run_firsts» .exit)) (now («run_lasts» .exit)) (now («run_sizes» .exit)) (now («run_marks» .exit)) ⌝ }
@@ -124,7 +122,7 @@ pub fn partition_axis_with_breaks(
 ) -> Partition
     ensures { λ r. ⌜ call.Answered (call.partition (limitOf axis) setup (now (indexes .entry)) (now (sizes .entry)) (now («merge_firsts» .entry)) (now («merge_lasts» .entry)) (now (breaks .entry)) (now («run_firsts» .entry)) (now («run_lasts» .entry)) (now («run_sizes» .entry)) (now («run_marks» .entry))) (call.bodyRuns setup (now (indexes .entry)) (now (sizes .entry)) (now («merge_firsts» .entry)) (now («merge_lasts» .entry)) (now (breaks .entry))) r (now («run_firsts» .entry)) (now («run_lasts» .entry)) (now («run_sizes» .entry)) (now («run_marks» .entry)) (now («run_firsts» .exit)) (now («run_lasts» .exit)) (now («run_sizes» .exit)) (now («run_marks» .exit)) ⌝ }
 {
-    let lent_even = lists_even(run_firsts, run_lasts, run_sizes, run_marks);
+    let lent_even = lists_even(run_firsts.len(), run_lasts.len(), run_sizes.len(), run_marks.len());
     let limit = axis.limit();
     let refusal = partition_refusal(
         limit,

@@ -111,8 +111,8 @@ fn choose_scale(
     merge_last_rows: &[u32],
     merge_last_columns: &[u32],
 ) -> ChosenScale
-    requires { ⌜ call.Cuttable rows (now «row_indexes») (now «row_sizes») (now «merge_first_rows») (now «merge_last_rows») ⌝ }
-    requires { ⌜ call.Cuttable columns (now «column_indexes») (now «column_sizes») (now «merge_first_columns») (now «merge_last_columns») ⌝ }
+    requires { ⌜ call.Cuttable rows (now «row_indexes») (now «row_sizes») ⌝ }
+    requires { ⌜ call.Cuttable columns (now «column_indexes») (now «column_sizes») ⌝ }
     ensures { λ r. ⌜ scaleOf r ≡ cond (settings .fit) (fitScale (λ p. fitPasses (rows .fit) (now («merge_first_rows» .entry)) (now («merge_last_rows» .entry)) (call.within rows (now («row_indexes» .entry))) (call.within rows (now («row_sizes» .entry))) p && fitPasses (columns .fit) (now («merge_first_columns» .entry)) (now («merge_last_columns» .entry)) (call.within columns (now («column_indexes» .entry))) (call.within columns (now («column_sizes» .entry))) p)) (fixedScale (settings .percent)) ⌝ }
 {
     if settings.fit {
@@ -149,7 +149,7 @@ fn count_cut(
     indexes: &[u32],
     sizes: &[u64],
 ) -> FinalCut
-    requires { ⌜ call.Cuttable ready (now indexes) (now sizes) (now «merge_firsts») (now «merge_lasts») ⌝ }
+    requires { ⌜ call.Cuttable ready (now indexes) (now sizes) ⌝ }
     ensures { λ r. ⌜ r ≡ call.cutOf (call.readyRuns ready permille (now (indexes .entry)) (now (sizes .entry)) (now («merge_firsts» .entry)) (now («merge_lasts» .entry)) (now (breaks .entry))) (call.readyShifts ready permille (now (indexes .entry)) (now («merge_firsts» .entry)) (now («merge_lasts» .entry)) (now (breaks .entry))) ⌝ }
     ensures { λ r. ⌜ (r .runs ≤ 2 ^ 20) × (r .expansions ≤ 2 ^ 20) × (r .shifts ≤ length (now (breaks .entry))) ⌝ }
 {
@@ -200,7 +200,6 @@ fn write_page_runs(
     run_sizes: &mut [u64],
     run_marks: &mut [u8],
 )
-    requires { ⌜ length (now «merge_firsts») ≡ length (now «merge_lasts») ⌝ }
     requires { ⌜ Slots (now indexes) (now sizes) ⌝ }
     requires { ⌜ empty ≡ none (axisRuns frame (now «merge_firsts») (now «merge_lasts») (now indexes) (now sizes) 0 (now breaks)) ⌝ }
     requires { ⌜ Room (orEmpty first (axisRuns frame (now «merge_firsts») (now «merge_lasts») (now indexes) (now sizes) 0 (now breaks))) (now «run_firsts») (now «run_lasts») (now «run_sizes») (now «run_marks») ⌝ }
@@ -240,7 +239,7 @@ fn write_cut(
     run_sizes: &mut [u64],
     run_marks: &mut [u8],
 ) -> u64
-    requires { ⌜ call.Cuttable ready (now indexes) (now sizes) (now «merge_firsts») (now «merge_lasts») ⌝ }
+    requires { ⌜ call.Cuttable ready (now indexes) (now sizes) ⌝ }
     requires { ⌜ cut ≡ call.cutOf (call.readyRuns ready permille (now indexes) (now sizes) (now «merge_firsts») (now «merge_lasts») (now breaks)) (call.readyShifts ready permille (now indexes) (now «merge_firsts») (now «merge_lasts») (now breaks)) ⌝ }
     requires { ⌜ Room (orEmpty first (call.readyRuns ready permille (now indexes) (now sizes) (now «merge_firsts») (now «merge_lasts») (now breaks))) (now «run_firsts») (now «run_lasts») (now «run_sizes») (now «run_marks») ⌝ }
     ensures { λ r. ⌜ Written (orEmpty first (call.readyRuns ready permille (now (indexes .entry)) (now (sizes .entry)) (now («merge_firsts» .entry)) (now («merge_lasts» .entry)) (now (breaks .entry)))) (cut .runs) (now («run_firsts» .entry)) (now («run_lasts» .entry)) (now («run_sizes» .entry)) (now («run_marks» .entry)) (now («run_firsts» .exit)) (now («run_lasts» .exit)) (now («run_sizes» .exit)) (now («run_marks» .exit)) ⌝ }
@@ -543,13 +542,8 @@ pub fn plan_pages(
     ensures fewest { λ r. ⌜ FewestPlan r settings (call.rowsOf settings range «row_title» (now («row_indexes» .entry)) (now («row_sizes» .entry)) (now («merge_first_rows» .entry)) (now («merge_last_rows» .entry)) (now («row_breaks» .entry))) (call.columnsOf settings range «column_title» (now («column_indexes» .entry)) (now («column_sizes» .entry)) (now («merge_first_columns» .entry)) (now («merge_last_columns» .entry)) (now («column_breaks» .entry))) (pages.runLists (now («row_run_firsts» .exit)) (now («row_run_lasts» .exit)) (now («row_run_sizes» .exit)) (now («row_run_marks» .exit))) (pages.runLists (now («column_run_firsts» .exit)) (now («column_run_lasts» .exit)) (now («column_run_sizes» .exit)) (now («column_run_marks» .exit))) ⌝ }
     ensures largest { λ r. ⌜ LargestPlan r settings (call.rowsOf settings range «row_title» (now («row_indexes» .entry)) (now («row_sizes» .entry)) (now («merge_first_rows» .entry)) (now («merge_last_rows» .entry)) (now («row_breaks» .entry))) (call.columnsOf settings range «column_title» (now («column_indexes» .entry)) (now («column_sizes» .entry)) (now («merge_first_columns» .entry)) (now («merge_last_columns» .entry)) (now («column_breaks» .entry))) ⌝ }
 {
-    let lent_rows_even = lists_even(row_run_firsts, row_run_lasts, row_run_sizes, row_run_marks);
-    let lent_columns_even = lists_even(
-        column_run_firsts,
-        column_run_lasts,
-        column_run_sizes,
-        column_run_marks,
-    );
+    let lent_rows_even = lists_even(row_run_firsts.len(), row_run_lasts.len(), row_run_sizes.len(), row_run_marks.len());
+    let lent_columns_even = lists_even(column_run_firsts.len(), column_run_lasts.len(), column_run_sizes.len(), column_run_marks.len());
     let rows = row_range(settings, range, row_title);
     let columns = column_range(settings, range, column_title);
     let refusal = plan_refusal(

@@ -1,10 +1,10 @@
 // Where the slots of an axis are cut into runs: document 01, section "Runs".
 use crate::filling::natural_fill;
 use crate::filling::total;
-use crate::merges::holding_merge;
 use crate::places::moved_cut;
 use crate::places::place_of;
 use cuts::capacity_for;
+use cuts::holding_merge;
 use cuts::mark_of;
 use cuts::merge_step;
 use cuts::title_holds;
@@ -18,7 +18,7 @@ use rules::Title;
 ghost use mathlib.Core.Path.{_≡_};
 ghost use Prim.Native.Nat.{_≤_, _<_};
 ghost use lib.ListN.{length};
-ghost use Rattle.rules.specs.Slots.{Rising, Slots};
+ghost use Rattle.rules.specs.Slots.{Rising, Slots, below};
 ghost use Rattle.rules.specs.Runs.{resumed, resumption, taken, merged, runEnd, runs, firstMarked, placed, nextCut, stretch, axisRuns, axisTally};
 ghost use Rattle.rules.specs.Lent.{Room, Written, RoomAt, WrittenAt, counted};
 
@@ -86,7 +86,6 @@ fn taken_slots(k: Frame, indexes: &[u32], sizes: &[u64]) -> usize
 
 // The end of a run that filling and the title gave n slots.
 fn merged_end(indexes: &[u32], n: usize, firsts: &[u32], lasts: &[u32], lo: u32, hi: u32) -> RunEnd
-    requires { ⌜ length (now firsts) ≡ length (now lasts) ⌝ }
     ensures { λ r. ⌜ r ≡ merged lo hi (now (firsts .entry)) (now (lasts .entry)) n (now (indexes .entry)) ⌝ }
 {
     if n >= indexes.len() {
@@ -104,7 +103,6 @@ pub(crate) fn run_end(
     indexes: &[u32],
     sizes: &[u64],
 ) -> RunEnd
-    requires { ⌜ length (now firsts) ≡ length (now lasts) ⌝ }
     requires { ⌜ Slots (now indexes) (now sizes) ⌝ }
     requires { ⌜ 0 < length (now sizes) ⌝ }
     ensures { λ r. ⌜ r ≡ runEnd k (now (firsts .entry)) (now (lasts .entry)) (now (indexes .entry)) (now (sizes .entry)) ⌝ }
@@ -118,7 +116,6 @@ pub(crate) fn run_end(
 
 // Counts the runs of a stretch.
 fn count_runs(k: Frame, mfirsts: &[u32], mlasts: &[u32], indexes: &[u32], sizes: &[u64]) -> Counted
-    requires { ⌜ length (now mfirsts) ≡ length (now mlasts) ⌝ }
     requires { ⌜ Slots (now indexes) (now sizes) ⌝ }
     ensures { λ r. ⌜ r ≡ counted (runs k (now (mfirsts .entry)) (now (mlasts .entry)) (now (indexes .entry)) (now (sizes .entry))) ⌝ }
     ensures { λ r. ⌜ (r .runs ≤ length (now (sizes .entry))) × (r .grown ≤ length (now (sizes .entry))) ⌝ }
@@ -151,7 +148,6 @@ fn write_runs(
     totals: &mut [u64],
     marks: &mut [u8],
 ) -> usize
-    requires { ⌜ length (now mfirsts) ≡ length (now mlasts) ⌝ }
     requires { ⌜ Slots (now indexes) (now sizes) ⌝ }
     requires { ⌜ Room (firstMarked mark (runs k (now mfirsts) (now mlasts) (now indexes) (now sizes))) (now firsts) (now lasts) (now totals) (now marks) ⌝ }
     ensures { λ r. ⌜ Written (firstMarked mark (runs k (now (mfirsts .entry)) (now (mlasts .entry)) (now (indexes .entry)) (now (sizes .entry)))) r (now (firsts .entry)) (now (lasts .entry)) (now (totals .entry)) (now (marks .entry)) (now (firsts .exit)) (now (lasts .exit)) (now (totals .exit)) (now (marks .exit)) ⌝ }
@@ -185,7 +181,6 @@ fn placed_cut(
     prev: usize,
     p: usize,
 ) -> Cut
-    requires { ⌜ length (now mfirsts) ≡ length (now mlasts) ⌝ }
     requires { ⌜ Rising (now indexes) ⌝ }
     ensures { λ r. ⌜ r ≡ placed k (now (mfirsts .entry)) (now (mlasts .entry)) (now (indexes .entry)) prev p ⌝ }
 {
@@ -215,9 +210,25 @@ fn placed_cut(
     moved_cut(held, prev, p, indexes)
 }
 
+// How many slots have an index below the break b, which often stands right past the last kept cut.
+fn break_place(indexes: &[u32], prev: usize, b: u32) -> usize
+    requires { ⌜ Rising (now indexes) ⌝ }
+    requires { ⌜ prev ≤ length (now indexes) ⌝ }
+    ensures { λ r. ⌜ r ≡ below b (now (indexes .entry)) ⌝ }
+{
+    let next = prev + 1;
+    if next < indexes.len() {
+        if indexes[prev] < b {
+            if b <= indexes[next] {
+                return next;
+            }
+        }
+    }
+    place_of(indexes, wide(b))
+}
+
 // The last kept cut after the break b. Where no merge can move it, a break that is not past the last kept cut is not searched for.
 fn next_cut(k: Frame, mfirsts: &[u32], mlasts: &[u32], indexes: &[u32], prev: usize, b: u32) -> Cut
-    requires { ⌜ length (now mfirsts) ≡ length (now mlasts) ⌝ }
     requires { ⌜ Rising (now indexes) ⌝ }
     requires { ⌜ prev ≤ length (now indexes) ⌝ }
     ensures { λ r. ⌜ r ≡ nextCut k (now (mfirsts .entry)) (now (mlasts .entry)) (now (indexes .entry)) prev b ⌝ }
@@ -233,7 +244,7 @@ fn next_cut(k: Frame, mfirsts: &[u32], mlasts: &[u32], indexes: &[u32], prev: us
             }
         }
     }
-    let p = place_of(indexes, wide(b));
+    let p = break_place(indexes, prev, b);
     let c = placed_cut(k, mfirsts, mlasts, indexes, prev, p);
     let place = c.place;
     let shifted = c.shifted;
@@ -257,7 +268,6 @@ pub(crate) fn count_axis(
     indexes: &[u32],
     sizes: &[u64],
 ) -> Tally
-    requires { ⌜ length (now mfirsts) ≡ length (now mlasts) ⌝ }
     requires { ⌜ Slots (now indexes) (now sizes) ⌝ }
     ensures { λ r. ⌜ r ≡ axisTally k (now (mfirsts .entry)) (now (mlasts .entry)) (now (indexes .entry)) (now (sizes .entry)) (now (breaks .entry)) ⌝ }
     ensures { λ r. ⌜ (r .runs ≤ length (now (sizes .entry))) × (r .expansions ≤ length (now (sizes .entry))) × (r .shifts ≤ length (now (breaks .entry))) ⌝ }
@@ -301,7 +311,6 @@ fn write_stretch(
     totals: &mut [u64],
     marks: &mut [u8],
 ) -> usize
-    requires { ⌜ length (now mfirsts) ≡ length (now mlasts) ⌝ }
     requires { ⌜ Slots (now indexes) (now sizes) ⌝ }
     requires { ⌜ (a ≤ e) × (e ≤ length (now sizes)) ⌝ }
     requires { ⌜ RoomAt (stretch k (now mfirsts) (now mlasts) (now indexes) (now sizes) a e) at (now firsts) (now lasts) (now totals) (now marks) ⌝ }
@@ -334,7 +343,6 @@ pub(crate) fn write_axis(
     totals: &mut [u64],
     marks: &mut [u8],
 ) -> usize
-    requires { ⌜ length (now mfirsts) ≡ length (now mlasts) ⌝ }
     requires { ⌜ Slots (now indexes) (now sizes) ⌝ }
     requires { ⌜ Room (axisRuns k (now mfirsts) (now mlasts) (now indexes) (now sizes) 0 (now breaks)) (now firsts) (now lasts) (now totals) (now marks) ⌝ }
     ensures { λ r. ⌜ Written (axisRuns k (now (mfirsts .entry)) (now (mlasts .entry)) (now (indexes .entry)) (now (sizes .entry)) 0 (now (breaks .entry))) r (now (firsts .entry)) (now (lasts .entry)) (now (totals .entry)) (now (marks .entry)) (now (firsts .exit)) (now (lasts .exit)) (now (totals .exit)) (now (marks .exit)) ⌝ }

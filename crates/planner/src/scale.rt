@@ -11,14 +11,14 @@ use rules::Title;
 use setup::meets_target;
 use setup::middle_of;
 ghost use mathlib.Core.Path.{_≡_};
-ghost use mathlib.Core.Bool.{cond, _&&_};
+ghost use mathlib.Core.Bool.{_&&_};
 ghost use Prim.Native.Nat.{_+_, _≤_, _^_};
 ghost use lib.ListN.{length};
 ghost use Rattle.rules.specs.Slots.{Slots};
-ghost use Rattle.rules.specs.Titles.{pastTitle};
 ghost use Rattle.rules.specs.Runs.{runs};
 ghost use Rattle.rules.specs.Scale.{capacityOf, fitsSide, allFit, meets, halve, fitScale, spaceOf, scaleOf, titled, Low, fitPasses, Fitted};
 ghost use Rattle.rules.specs.Plan.{readyFrame};
+ghost use Rattle.rules.specs.Scale as section;
 
 // The capacity at a permille beside so many units of titles.
 fn capacity_at(page: PageSide, permille: u16, titles: u64) -> u64
@@ -51,13 +51,16 @@ pub(crate) fn fits_side(page: PageSide, permille: u16, size: u64) -> bool
     }
 }
 
-// What a run takes of a page: its size and the headings, and the titles where it lies past the title.
-fn rendered(page: PageSide, title: Title, first: u32, size: u64) -> u64
+// What a run takes of a page: its size and the headings, and the titles where it lies past the title or its body is empty.
+pub(crate) fn printed(page: PageSide, title: Title, empty: bool, first: u32, size: u64) -> u64
     requires { ⌜ Low page ⌝ }
     requires { ⌜ size ≤ 2 ^ 50 ⌝ }
-    ensures { λ r. ⌜ r ≡ size + cond (pastTitle title first) (page .titles) 0 + page .headings ⌝ }
+    ensures { λ r. ⌜ r ≡ section.printed (spaceOf page) title empty first size ⌝ }
     ensures { λ r. ⌜ r ≤ 2 ^ 53 ⌝ }
 {
+    if empty {
+        return size + page.titles + page.headings;
+    }
     let Title::Pair(_, last) = title else {
         return size + page.headings;
     };
@@ -96,7 +99,6 @@ fn runs_pass(
     sizes: &[u64],
 ) -> bool
     requires { ⌜ Low page ⌝ }
-    requires { ⌜ length (now mfirsts) ≡ length (now mlasts) ⌝ }
     requires { ⌜ Slots (now indexes) (now sizes) ⌝ }
     ensures { λ r. ⌜ r ≡ allFit (spaceOf page) (titled (frame .title)) permille (runs frame (now (mfirsts .entry)) (now (mlasts .entry)) (now (indexes .entry)) (now (sizes .entry))) && meets target (length (runs frame (now (mfirsts .entry)) (now (mlasts .entry)) (now (indexes .entry)) (now (sizes .entry)))) ⌝ }
 {
@@ -112,7 +114,7 @@ fn runs_pass(
         let end = run_end(frame, mfirsts, mlasts, is, ss);
         let n = end.slots;
         let t = total(&ss[..n]);
-        let whole = rendered(page, title, is[0], t);
+        let whole = printed(page, title, false, is[0], t);
         if !fits_side(page, permille, whole) {
             return false;
         }
@@ -131,7 +133,7 @@ fn fit_passes(
     indexes: &[u32],
     sizes: &[u64],
 ) -> bool
-    requires { ⌜ Fitted fit (now mfirsts) (now mlasts) (now indexes) (now sizes) ⌝ }
+    requires { ⌜ Fitted fit (now indexes) (now sizes) ⌝ }
     ensures { λ r. ⌜ r ≡ fitPasses fit (now (mfirsts .entry)) (now (mlasts .entry)) (now (indexes .entry)) (now (sizes .entry)) permille ⌝ }
 {
     let page = fit.page;
@@ -165,8 +167,8 @@ fn both_pass(
     cindexes: &[u32],
     csizes: &[u64],
 ) -> bool
-    requires { ⌜ Fitted rows (now rfirsts) (now rlasts) (now rindexes) (now rsizes) ⌝ }
-    requires { ⌜ Fitted columns (now cfirsts) (now clasts) (now cindexes) (now csizes) ⌝ }
+    requires { ⌜ Fitted rows (now rindexes) (now rsizes) ⌝ }
+    requires { ⌜ Fitted columns (now cindexes) (now csizes) ⌝ }
     ensures { λ r. ⌜ r ≡ fitPasses rows (now (rfirsts .entry)) (now (rlasts .entry)) (now (rindexes .entry)) (now (rsizes .entry)) permille && fitPasses columns (now (cfirsts .entry)) (now (clasts .entry)) (now (cindexes .entry)) (now (csizes .entry)) permille ⌝ }
 {
     if !fit_passes(rows, permille, rfirsts, rlasts, rindexes, rsizes) {
@@ -188,8 +190,8 @@ fn halved_permille(
     cindexes: &[u32],
     csizes: &[u64],
 ) -> u16
-    requires { ⌜ Fitted rows (now rfirsts) (now rlasts) (now rindexes) (now rsizes) ⌝ }
-    requires { ⌜ Fitted columns (now cfirsts) (now clasts) (now cindexes) (now csizes) ⌝ }
+    requires { ⌜ Fitted rows (now rindexes) (now rsizes) ⌝ }
+    requires { ⌜ Fitted columns (now cindexes) (now csizes) ⌝ }
     ensures { λ r. ⌜ r ≡ halve (λ p. fitPasses rows (now (rfirsts .entry)) (now (rlasts .entry)) (now (rindexes .entry)) (now (rsizes .entry)) p && fitPasses columns (now (cfirsts .entry)) (now (clasts .entry)) (now (cindexes .entry)) (now (csizes .entry)) p) 10 100 1000 ⌝ }
 {
     let mut low: u16 = 100;
@@ -230,8 +232,8 @@ pub(crate) fn fit_scale(
     cindexes: &[u32],
     csizes: &[u64],
 ) -> ChosenScale
-    requires { ⌜ Fitted rows (now rfirsts) (now rlasts) (now rindexes) (now rsizes) ⌝ }
-    requires { ⌜ Fitted columns (now cfirsts) (now clasts) (now cindexes) (now csizes) ⌝ }
+    requires { ⌜ Fitted rows (now rindexes) (now rsizes) ⌝ }
+    requires { ⌜ Fitted columns (now cindexes) (now csizes) ⌝ }
     ensures { λ r. ⌜ scaleOf r ≡ fitScale (λ p. fitPasses rows (now (rfirsts .entry)) (now (rlasts .entry)) (now (rindexes .entry)) (now (rsizes .entry)) p && fitPasses columns (now (cfirsts .entry)) (now (clasts .entry)) (now (cindexes .entry)) (now (csizes .entry)) p) ⌝ }
 {
     if !both_pass(

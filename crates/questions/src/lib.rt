@@ -39,12 +39,11 @@ pub fn wide(x: u32) -> u64
     x as u64
 }
 
-// 6: the four slices of a list of runs are equally long.
-pub fn lists_even(firsts: &[u32], lasts: &[u32], sizes: &[u64], marks: &[u8]) -> bool
-    ensures { λ r. ⌜ r ≡ partition.lentEven (now (firsts .entry)) (now (lasts .entry)) (now (sizes .entry)) (now (marks .entry)) ⌝ }
+// 6: the four slices of a list of runs, of these lengths, are equally long.
+pub fn lists_even(firsts: usize, lasts: usize, sizes: usize, marks: usize) -> bool
+    ensures { λ r. ⌜ r ≡ partition.evenLengths firsts lasts sizes marks ⌝ }
 {
-    let runs = firsts.len();
-    (runs == lasts.len()) & (runs == sizes.len()) & (runs == marks.len())
+    (firsts == lasts) & (firsts == sizes) & (firsts == marks)
 }
 
 // 6: no first is above its last.

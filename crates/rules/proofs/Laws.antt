@@ -1,17 +1,18 @@
 -- Laws of filling, of lists of runs and of parts of slots (`specs/Slots.antt`, `specs/Runs.antt`), for the loops of `planner`. Assumes nothing.
 use mathlib.Core.Path.{_≡_, refl, sym, ap, _∙_, subst}
 use mathlib.Core.List.{List, [], _∷_, _++_, map}
-use Prim.Native.Nat.{ℕ, zero, suc, pred, _+_, _-_, _≤_, _<_, _^_}
+use Prim.Native.Nat.{ℕ, zero, suc, pred, _+_, _-_, _≤_, _<_, _^_, min}
 use native.Mathlib.Nat.{not-suc-le-zero, lt-of-not-le}
 use native.Mathlib.Decide.{decLe}
 use native.Mathlib.Numerals.{add-one}
 use native.Mathlib.Omega.{arith}
-use lib.ListN.{length, getD, take, drop, length-take, length-drop, List·getD-eq-default}
+use lib.ListN.{length, getD, take, drop, length-take, length-drop, drop-of-length-le, List·getD-eq-default}
 use lib.Seq.{drop-cons, drop-drop, drop-length, take-all, getD-drop, getD-take, length-take-le}
 use borrow.Author.Tests.{le-leb, lt-leb, lt-ltb, le-ltb}
-use mathlib.Core.Bool.{Bool, true, false, cond}
+use mathlib.Core.Bool.{Bool, true, false, cond, not, _&&_}
 use lib.Dec.{leb, ltb, lit<}
 use Rattle.rules.specs.Slots.{Small, Rising, Slots, sum, mid}
+use Rattle.rules.specs.Titles.{noMerge}
 use Rattle.rules.specs.Runs.{more, natural, Run, runsBy}
 
 -- what holds of both is true of the one picked
@@ -35,7 +36,7 @@ more-no cap s n l h k = rw (drop-cons l n 0, lt-leb (s + getD l n 0) cap)
 -- none is left
 pub more-end : (cap s n : ℕ) (l : List ℕ) → length l ≤ n → more cap s (drop n l) ≡ 0
 unfolding more
-more-end cap s n l h = rw (lib.ListN.drop-of-length-le l h)
+more-end cap s n l h = rw (drop-of-length-le l h)
 
 -- as many as stay within the capacity go onto the sum at once
 more-many : (cap s m : ℕ) (l : List ℕ) → m ≤ length l → s + sum (take m l) ≤ cap → more cap s l ≡ m + more cap (s + sum (take m l)) (drop m l)
@@ -147,6 +148,30 @@ none at (i ∷ is) (s ∷ ss) h = absurd (not-suc-le-zero h)
 pub drop-back : {A : Type 0} (l : List A) (i : ℕ) (d : A) → 0 < i → i ≤ length l → drop (i - 1) l ≡ getD l (i - 1) d ∷ drop i l
 drop-back l zero d h k = absurd (not-suc-le-zero h)
 drop-back l (suc i) d h k = let e : suc i - 1 ≡ i = omega arith in rw e (drop-cons l i d k)
+
+-- two lists side by side, from where the shorter one ends
+pub run-out : {A B : Type 0} (P : List A → List B → Type 0) (xs : List A) (ys : List B) (i : ℕ) → min (length xs) (length ys) ≤ i
+    → ((r : List B) → P [] r) → ((r : List A) → P r []) → P (drop i xs) (drop i ys)
+run-out P xs ys i h p q =
+    elim (decLe (length xs) i) [
+      | yes k ↦ rw (drop-of-length-le xs k) (p (drop i ys))
+      | no k ↦ let short : length ys ≤ i = omega (arith, lt-of-not-le k) in rw (drop-of-length-le ys short) (q (drop i xs))
+    ]
+
+module _ (p : ℕ → ℕ → Bool) where
+  none-left : (fs : List ℕ) → noMerge p fs [] ≡ true
+  unfolding noMerge
+  none-left [] = refl
+  none-left (f ∷ fs) = refl
+
+  pub no-merge-end : (i : ℕ) (fs ls : List ℕ) → min (length fs) (length ls) ≤ i → noMerge p (drop i fs) (drop i ls) ≡ true
+  unfolding noMerge
+  no-merge-end i fs ls h = run-out (λ (xs ys : List ℕ). noMerge p xs ys ≡ true) fs ls i h (λ ys. refl) none-left
+
+  pub no-merge-back : (i : ℕ) (fs ls : List ℕ) → 0 < i → i ≤ length fs → i ≤ length ls
+      → noMerge p (drop (i - 1) fs) (drop (i - 1) ls) ≡ (not (p (getD fs (i - 1) 0) (getD ls (i - 1) 0)) && noMerge p (drop i fs) (drop i ls))
+  unfolding noMerge
+  no-merge-back i fs ls h k m = rw (drop-back fs i 0, drop-back ls i 0)
 
 pub sum-back : (l : List ℕ) (i : ℕ) → 0 < i → i ≤ length l → sum (drop (i - 1) l) ≡ getD l (i - 1) 0 + sum (drop i l)
 unfolding sum

@@ -12,7 +12,6 @@ use lib.Seq.{drop-cons}
 use borrow.Author.Tests.{lt-ltb, le-ltb, le-leb, lt-leb, leb-true, eqb-true}
 use Rattle.geometry.specs.Outcome.{Outcome, given, refused}
 use Rattle.rules.specs.declared.titles.Title.{Title}
-use Rattle.rules.specs.declared.titles.Title.the-variants.{Absent, Pair}
 use Rattle.rules.specs.declared.pages.PageOrder.{PageOrder}
 use Rattle.rules.specs.declared.pages.PageOrder.the-variants.{DownThenOver, OverThenDown}
 use Rattle.rules.specs.declared.pages.PageRun.{PageRun}
@@ -20,31 +19,12 @@ use Rattle.rules.specs.declared.pages.Page.{Page}
 use Rattle.rules.specs.declared.pages.Place.{Place}
 use Rattle.rules.specs.declared.pages.Plan.{Plan}
 use Rattle.rules.specs.Questions.{ask, equallyLong}
-use Rattle.rules.specs.Titles.{pastTitle}
 use Rattle.rules.specs.Partition.{Even, noOr}
-use Rattle.rules.specs.Scale.{Space, fitsSide}
-use Rattle.rules.specs.Pages.{printed, overflowing, RunLists, runAt, pageAt, inOrder, pagesOf, evenLists, numbered, pageNumbered, placeOf, pageAfter, hasPage, listsNo, firstNo}
+use Rattle.rules.specs.Scale.{Space, fitsSide, printed}
+use Rattle.rules.specs.Pages.{overflowing, RunLists, runAt, pageAt, inOrder, pagesOf, evenLists, numbered, pageNumbered, placeOf, pageAfter, hasPage, listsNo, firstNo}
 use Rattle.rules.proofs.QuestionLaws.{both}
 use Rattle.rules.proofs.Division.{split}
 use Rattle.rules.proofs.PageLaws.{numbered-zero, numbered-take, numbered-take-past, page-of, page-beyond}
-
--- ---- what a run takes of a page
-
-module _ (s : Space) (title : Title) (empty : Bool) (first size : ℕ) where
-  pub printed-empty : empty ≡ true → size + s .titles + s .headings ≡ printed s title empty first size
-  printed-empty e = rw e
-
-  pub printed-absent : empty ≡ false → title ≡ Absent → size + s .headings ≡ printed s title empty first size
-  unfolding pastTitle
-  printed-absent e t = rw (e, t) (omega arith)
-
-  pub printed-past : empty ≡ false → (f l : ℕ) → title ≡ Pair f l → l < first → size + s .titles + s .headings ≡ printed s title empty first size
-  unfolding pastTitle
-  printed-past e f l t h = rw (e, t, lt-ltb l first h)
-
-  pub printed-before : empty ≡ false → (f l : ℕ) → title ≡ Pair f l → first ≤ l → size + s .headings ≡ printed s title empty first size
-  unfolding pastTitle
-  printed-before e f l t h = rw (e, t, le-ltb l first h) (omega arith)
 
 -- ---- overflowing runs: the run at k, and those after it
 

@@ -86,7 +86,6 @@ module _ (limit : ℕ) (s : AxisSetup) (is ss fs ls bs f l z m : List ℕ) (n : 
 
   -- what the private functions rely on
   pub record Asked : Type 0 where
-    pub merges : length fs ≡ length ls
     pub slots : Slots is ss
     pub lists : Even f l z m
     pub goes-on : partition limit s is ss fs ls bs f l z m ≡ fits s is ss fs ls bs (length f)
@@ -104,7 +103,6 @@ module _ (limit : ℕ) (s : AxisSetup) (is ss fs ls bs f l z m : List ℕ) (n : 
       let lent = both (equallyLong f l && equallyLong f z) (equallyLong f m) (four .1) in
       let lz = both (equallyLong f l) (equallyLong f z) (lent .0) in
       record {
-        merges = eqb-true (length fs) (length ls) (two .1);
         slots = slots-of limit is ss bound (eqb-true (length is) (length ss) (two .0)) (y .2) (y .3);
         lists = record {
           lasts-even = eqb-true (length f) (length l) (lz .0);

@@ -2,7 +2,7 @@
 -- counted from p. Assumes nothing.
 use mathlib.Core.Path.{_≡_, refl}
 use mathlib.Core.List.{List, [], _∷_}
-use Prim.Native.Nat.{ℕ, zero, suc, _-_, _≤_, _<_, min}
+use Prim.Native.Nat.{ℕ, zero, suc, _+_, _-_, _≤_, _<_, min}
 use native.Mathlib.Omega.{arith}
 use lib.ListN.{length, getD, take, drop}
 use borrow.Author.Tests.{lt-ltb, le-ltb, le-leb, lt-leb}
@@ -54,6 +54,11 @@ below-past-it limit (x ∷ is) r zero h l = rw (lt-ltb x limit l) (omega arith)
 below-past-it limit (x ∷ is) r (suc k) h l =
     let q : x < limit = omega (arith, r 0 (suc k) (omega arith) h) in
     rw (lt-ltb x limit q) (omega (arith, below-past-it limit is (rising-drop 1 (x ∷ is) r) k (omega arith) l))
+
+-- between a slot below a limit and the next, which is not, the search ends
+pub below-at : (limit : ℕ) (is : List ℕ) → Rising is → (k : ℕ) → k + 1 < length is → getD is k 0 < limit → limit ≤ getD is (k + 1) 0
+    → k + 1 ≡ below limit is
+below-at limit is r k h l m = omega (arith, below-past-it limit is r k (omega arith) l, below-up-to limit is (k + 1) h m)
 
 -- the last slot at or below an index stands before the first one not below the next index
 pub through-below : (k : ℕ) (is : List ℕ) → Rising is → through k is ≡ below (suc k) is

@@ -29,8 +29,8 @@ use Rattle.rules.specs.Titles.{limitOf, widened, bodyStart}
 use Rattle.rules.specs.Runs.{Run, axisRuns, shifts, expansions, tallies}
 use Rattle.rules.specs.Lent.{firsts, lasts, sizes, marks, Room, Written}
 use Rattle.rules.specs.Partition.{lentEven, noOr, Even}
-use Rattle.rules.specs.Scale.{Scale, Space, spaceOf, bodyFor, frameFor, fitsSide, axisPasses, fitPasses, fitScale, fixedScale}
-use Rattle.rules.specs.Pages.{RunLists, runLists, evenLists, none, orEmpty, printed, overflowing, Moderate}
+use Rattle.rules.specs.Scale.{Scale, Space, spaceOf, bodyFor, frameFor, fitsSide, printed, axisPasses, fitPasses, fitScale, fixedScale}
+use Rattle.rules.specs.Pages.{RunLists, runLists, evenLists, none, orEmpty, overflowing, Moderate}
 use Rattle.rules.specs.Plan.{AxisInput, rowsOf, columnsOf, AreRows, AreColumns, Sides, titleOf, startOf, bodyPart, bodyOf, spaceOn, lookedAt, contentSides, chosenScale, cutRuns, cutShifts, pageRuns, overflows, Layout, planOf, layoutAt, layout, RunsLent, roomFor, planned, formed, inGrid, firstNo, Planned, axisFor, Fine, ReadyFor, within, readyFrame, readyRuns, readyShifts, cutOf, cutFrom, roomNo, Cuttable}
 use Rattle.rules.proofs.QuestionLaws.{both, slots-of}
 use Rattle.rules.proofs.PartitionLaws.{stops, goes}
@@ -106,7 +106,6 @@ fine-of r is ss fs ls bs even low h y =
     let g = both (leb (r .last) (r .limit)) (allWithin (r .limit) ls) (y .in-grid) in
     record {
       slots = slots-of (r .limit) is ss low (f .slots-even) (y .rises) (y .small);
-      merges = f .merges-even;
       merges-inside = g .1;
       limit-small = low;
       last-inside = leb-true _ _ (g .0);
@@ -175,12 +174,11 @@ module _ (r : Ready) (side : ℤ) (a : AxisInput) (y : ReadyFor r side a) (p : �
   shifts-of = rw (frame-of r side a y p, within-body r side a y (a .indexes))
 
 -- the slots of a ready axis
-pub cuttable : (q : AxisRange) (is ss fs ls bs : List ℕ) (r : Ready) (side : ℤ) → Fine q is ss fs ls → ReadyFor r side (axisFor q is ss fs ls bs) → Cuttable r is ss fs ls
+pub cuttable : (q : AxisRange) (is ss fs ls bs : List ℕ) (r : Ready) (side : ℤ) → Fine q is ss fs ls → ReadyFor r side (axisFor q is ss fs ls bs) → Cuttable r is ss
 cuttable q is ss fs ls bs r side f y =
     let a : AxisInput = axisFor q is ss fs ls bs in
     record {
       slots = f .slots;
-      merges = f .merges;
       ordered = rw (y .to-is) (omega arith);
       inside = rw (y .to-is, y .from-is) (omega (arith, below-le (startOf a) is, below-le (q .last + 1) is));
       low = y .low;

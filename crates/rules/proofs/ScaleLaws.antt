@@ -12,7 +12,7 @@ use Rattle.rules.specs.declared.titles.Title.{Title}
 use Rattle.rules.specs.declared.titles.Title.the-variants.{Absent, Pair}
 use Rattle.rules.specs.Titles.{pastTitle}
 use Rattle.rules.specs.Runs.{Run}
-use Rattle.rules.specs.Scale.{Scale, Space, Body, orElse, clamped, fixedScale, runsAt, fitsSide, rendered, allFit, runsFit, meets, axisPasses, halve, fitScale, titled}
+use Rattle.rules.specs.Scale.{Scale, Space, Body, orElse, clamped, fixedScale, runsAt, fitsSide, printed, rendered, allFit, runsFit, meets, axisPasses, halve, fitScale, titled}
 
 -- ---- a percent, way by way
 
@@ -36,18 +36,21 @@ module _ (s : Setting) (p : ℕ) (e : p ≡ orElse s 100) where
 
 -- ---- what a run takes of a page
 
-module _ (title : Title) (first size titles headings : ℕ) where
-  pub takes-absent : title ≡ Absent → size + headings ≡ size + cond (pastTitle title first) titles 0 + headings
-  unfolding pastTitle
-  takes-absent e = rw e (omega arith)
+module _ (s : Space) (title : Title) (empty : Bool) (first size : ℕ) where
+  pub printed-empty : empty ≡ true → size + s .titles + s .headings ≡ printed s title empty first size
+  printed-empty e = rw e
 
-  pub takes-past : (f l : ℕ) → title ≡ Pair f l → l < first → size + titles + headings ≡ size + cond (pastTitle title first) titles 0 + headings
+  pub printed-absent : empty ≡ false → title ≡ Absent → size + s .headings ≡ printed s title empty first size
   unfolding pastTitle
-  takes-past f l e h = rw (e, lt-ltb l first h)
+  printed-absent e t = rw (e, t) (omega arith)
 
-  pub takes-before : (f l : ℕ) → title ≡ Pair f l → first ≤ l → size + headings ≡ size + cond (pastTitle title first) titles 0 + headings
+  pub printed-past : empty ≡ false → (f l : ℕ) → title ≡ Pair f l → l < first → size + s .titles + s .headings ≡ printed s title empty first size
   unfolding pastTitle
-  takes-before f l e h = rw (e, le-ltb l first h) (omega arith)
+  printed-past e f l t h = rw (e, t, lt-ltb l first h)
+
+  pub printed-before : empty ≡ false → (f l : ℕ) → title ≡ Pair f l → first ≤ l → size + s .headings ≡ printed s title empty first size
+  unfolding pastTitle
+  printed-before e f l t h = rw (e, t, le-ltb l first h) (omega arith)
 
 -- ---- the number of runs
 

@@ -1,7 +1,7 @@
 -- Laws of `specs/Titles.antt`'s definitions: the loops of crate `titles`, that the bound on passes cuts nothing off, and what callers may
 -- rely on. Assumes nothing.
 use mathlib.Core.Path.{_≡_, refl, sym, ap, ap₂, _∙_, subst}
-use mathlib.Core.Bool.{Bool, true, false, cond, _&&_}
+use mathlib.Core.Bool.{Bool, true, false, cond, not, _&&_, true≢false}
 use mathlib.Core.List.{List, [], _∷_}
 use mathlib.Core.Logic.{_⊎_, inl, inr, ⊎-elim}
 use Prim.Native.Nat.{ℕ, zero, suc, _+_, _-_, _*_, _^_, _≤_, _<_, min, max}
@@ -10,17 +10,17 @@ use native.Mathlib.Decide.{decLe}
 use native.Mathlib.Numerals.{add-one}
 use native.Mathlib.Omega.{arith}
 use lib.Dec.{leb, eqb}
-use lib.ListN.{length, getD, drop, drop-of-length-le}
-use lib.Seq.{drop-cons}
+use lib.ListN.{length, getD, take, drop, length-drop}
+use lib.Seq.{drop-cons, drop-drop}
 use borrow.Author.Tests.{le-leb, lt-leb, leb-true, eq-eqb, eqb-true}
 use Rattle.rules.specs.declared.titles.Title.{Title}
 use Rattle.rules.specs.declared.titles.Title.the-variants.{Absent, Pair}
 use Rattle.rules.specs.declared.titles.Normalized.{Normalized}
 use Rattle.rules.specs.declared.titles.Span.{Span}
 use Rattle.rules.specs.Slots.{Small, Slots, sum, below, mid}
-use Rattle.rules.specs.Titles.{bodyStart, titleTotal, widenTo, pass, sameSpan, still, expandedTo, passes, expand, normalized, widenedFrom, widened}
+use Rattle.rules.specs.Titles.{bodyStart, titleTotal, noMerge, widenTo, widens, pass, sameSpan, still, expandedTo, passes, expand, normalized, widenedFrom, widened}
 use Rattle.rules.specs.Questions.{allWithin}
-use Rattle.rules.proofs.Laws.{either, slots-mid}
+use Rattle.rules.proofs.Laws.{either, run-out, slots-mid}
 use Rattle.rules.proofs.EndLaws.{below-le}
 use Rattle.rules.proofs.QuestionLaws.{both}
 
@@ -41,13 +41,51 @@ none-left (f ∷ fs) s = refl
 
 pub pass-end : (n : ℕ) (fs ls : List ℕ) (s : Span) → min (length fs) (length ls) ≤ n → pass (drop n fs) (drop n ls) s ≡ s
 unfolding pass
-pass-end n fs ls s h =
-    elim (decLe (length fs) n) [
-      | yes p ↦ rw (drop-of-length-le fs p)
-      | no p ↦ let short : length ls ≤ n = omega (arith, lt-of-not-le p) in rw (drop-of-length-le ls short) (none-left (drop n fs) s)
-    ]
+pass-end n fs ls s h = run-out (λ (xs ys : List ℕ). pass xs ys s ≡ s) fs ls n h (λ ys. refl) (λ xs. none-left xs s)
+
+-- the first m merges, and then the others
+pass-split : (m : ℕ) (fs ls : List ℕ) (s : Span) → m ≤ length fs → m ≤ length ls
+    → pass (drop m fs) (drop m ls) (pass (take m fs) (take m ls) s) ≡ pass fs ls s
+unfolding pass
+pass-split zero fs ls s h k = refl
+pass-split (suc m) [] ls s h k = absurd (omega arith)
+pass-split (suc m) (f ∷ fs) [] s h k = absurd (omega arith)
+pass-split (suc m) (f ∷ fs) (l ∷ ls) s h k = pass-split m fs ls (widenTo s f l) (omega arith) (omega arith)
+
+-- the merges from one place to another, and those from there on
+pub pass-part : (i e : ℕ) (fs ls : List ℕ) (s : Span) → i ≤ e → e ≤ length fs → e ≤ length ls
+    → pass (drop e fs) (drop e ls) (pass (mid i e fs) (mid i e ls) s) ≡ pass (drop i fs) (drop i ls) s
+pass-part i e fs ls s h k q =
+    let on : i + (e - i) ≡ e = omega arith in
+    rw (drop-drop (e - i) i fs, drop-drop (e - i) i ls, on) at (pass-split (e - i) (drop i fs) (drop i ls) s (omega (arith, length-drop i fs)) (omega (arith, length-drop i ls)))
 
 -- ---- widening
+
+-- a merge that lies within the span, or apart from it, changes nothing
+widenTo-not : (s : Span) (f l : ℕ) → not (widens s f l) ≡ true → widenTo s f l ≡ s
+unfolding widenTo
+widenTo-not s f l h = picked (leb f (s .last)) (leb (s .first) l) (leb (s .first) f && leb l (s .last)) within h
+  where
+    within : (leb (s .first) f && leb l (s .last)) ≡ true → span (min (s .first) f) (max (s .last) l) ≡ s
+    within w =
+        let e = both (leb (s .first) f) (leb l (s .last)) w in
+        let low : min (s .first) f ≡ s .first = omega (arith, leb-true (s .first) f (e .0)) in
+        let high : max (s .last) l ≡ s .last = omega (arith, leb-true l (s .last) (e .1)) in
+        ap₂ span low high
+
+    picked : {t : Span} (a b w : Bool) → (w ≡ true → t ≡ s) → not (a && (b && not w)) ≡ true → cond (a && b) t s ≡ s
+    picked true true true e n = e refl
+    picked true true false e n = absurd (true≢false (sym n))
+    picked true false w e n = refl
+    picked false b w e n = refl
+
+-- nor do merges of which none widens it
+pub pass-none : (s : Span) (fs ls : List ℕ) → noMerge (widens s) fs ls ≡ true → pass fs ls s ≡ s
+unfolding pass noMerge
+pass-none s [] ls h = refl
+pass-none s (f ∷ fs) [] h = refl
+pass-none s (f ∷ fs) (l ∷ ls) h =
+    let e = both (not (widens s f l)) (noMerge (widens s) fs ls) h in rw (widenTo-not s f l (e .0)) (pass-none s fs ls (e .1))
 
 -- t reaches as far as s both ways
 pub record Wider (s t : Span) : Type 0 where

@@ -21,7 +21,7 @@ use Rattle.rules.specs.Questions.{ask}
 use Rattle.rules.specs.Titles.{pastTitle}
 use Rattle.rules.specs.Runs.{Run}
 use Rattle.rules.specs.Partition.{lentEven, noOr}
-use Rattle.rules.specs.Scale.{Space, fitsSide}
+use Rattle.rules.specs.Scale.{Space, fitsSide, printed}
 
 -- ---- the runs that pages are made of
 
@@ -39,10 +39,6 @@ orEmpty first [] = emptyRun first ∷ []
 orEmpty first (r ∷ rs) = r ∷ rs
 
 -- ---- overflowing runs
-
--- "its size plus headings, plus titles where it lies past the title or its body is empty"
-abbrev pub printed : Space → Title → Bool → ℕ → ℕ → ℕ
-printed s t empty first size = size + cond (empty || pastTitle t first) (s .titles) 0 + s .headings
 
 -- of runs by their firsts and sizes: how many are such that this, "scaled and rounded at the final permille, exceeds the content side"
 unfoldable pub overflowing : Space → Title → ℕ → Bool → List ℕ → List ℕ → ℕ

@@ -4,7 +4,7 @@ use mathlib.Core.Path.{_≡_}
 use mathlib.Core.Bool.{Bool, true, false, _&&_}
 use mathlib.Core.List.{List}
 use Prim.Native.Nat.{ℕ, _+_}
-use lib.Dec.{leb}
+use lib.Dec.{leb, eqb}
 use lib.ListN.{length}
 use Rattle.geometry.specs.Outcome.{Outcome, given, refused}
 use Rattle.rules.specs.declared.runs.Frame.{Frame}
@@ -43,9 +43,12 @@ roomFor rs t room = ask 11 (leb (length rs) room) (given t)
 abbrev pub fits : AxisSetup → List ℕ → List ℕ → List ℕ → List ℕ → List ℕ → ℕ → Outcome Tally
 fits s is ss fs ls bs room = roomFor (bodyRuns s is ss fs ls bs) (bodyTally s is ss fs ls bs) room
 
--- the lent lists are equally long
+-- four lists of these lengths are equally long
+abbrev pub evenLengths : ℕ → ℕ → ℕ → ℕ → Bool
+evenLengths f l s m = eqb f l && eqb f s && eqb f m
+
 abbrev pub lentEven : List ℕ → List ℕ → List ℕ → List ℕ → Bool
-lentEven f l s m = equallyLong f l && equallyLong f s && equallyLong f m
+lentEven f l s m = evenLengths (length f) (length l) (length s) (length m)
 
 -- questions 6, 7, 8, 9 and 11 in order, then how many runs, expansions and shifts; f, l, z and m are the lent lists
 unfoldable pub partition : ℕ → AxisSetup → List ℕ → List ℕ → List ℕ → List ℕ → List ℕ → List ℕ → List ℕ → List ℕ → List ℕ → Outcome Tally
@@ -76,7 +79,7 @@ pub record Answered (o : Outcome Tally) (rs : List Run) (r : Partition) (f₀ l�
 
 -- ---- for the private functions
 
--- the lent lists are equally long
+-- four lists of these lengths are equally long
 pub record Even (f l s m : List ℕ) : Type 0 where
   pub lasts-even : length f ≡ length l
   pub sizes-even : length f ≡ length s

@@ -301,7 +301,6 @@ pub record Addable (a b : Ready) (c d : FinalCut) (m n : ℕ) : Type 0 where
 -- an axis that can be made ready: the questions were answered with yes
 pub record Fine (r : AxisRange) (is ss fs ls : List ℕ) : Type 0 where
   pub slots : Slots is ss
-  pub merges : length fs ≡ length ls
   pub merges-inside : allWithin (r .limit) ls ≡ true
   pub limit-small : r .limit ≤ 1048575
   pub last-inside : r .last ≤ r .limit
@@ -359,9 +358,8 @@ roomNo rows columns row-room column-room limit =
     noOr 11 (leb rows row-room && leb columns column-room) (noOr 12 (leb (rows * columns) limit) 0)
 
 -- the slots of a ready axis
-pub record Cuttable (r : Ready) (is ss fs ls : List ℕ) : Type 0 where
+pub record Cuttable (r : Ready) (is ss : List ℕ) : Type 0 where
   pub slots : Slots is ss
-  pub merges : length fs ≡ length ls
   pub ordered : r .from ≤ r .to
   pub inside : r .to ≤ length is
   pub low : Low (r .fit .page)

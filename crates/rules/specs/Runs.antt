@@ -1,6 +1,6 @@
 -- Document 01, section "Runs". Everything is said of the slots from a run's first on: is are their indexes, ss their sizes, n how many
 -- the run has so far. Merges are two lists side by side: firsts and lasts. Assumes nothing.
-use mathlib.Core.Bool.{Bool, true, false, cond, not, _&&_}
+use mathlib.Core.Bool.{cond}
 use mathlib.Core.List.{List, [], _∷_, _++_}
 use Prim.Native.Nat.{ℕ, zero, suc, pred, _+_, _-_, min, max}
 use lib.ListN.{length, getD, take, drop}
@@ -39,12 +39,6 @@ unfoldable pub holdingOnto : ℕ → ℕ → ℕ → List ℕ → List ℕ → H
 holdingOnto lo hi b [] ls held = held
 holdingOnto lo hi b (f ∷ fs) [] held = held
 holdingOnto lo hi b (f ∷ fs) (l ∷ ls) held = nearer (max f lo) (min l hi) b (holdingOnto lo hi b fs ls held)
-
--- no pair holds b (for the private functions)
-unfoldable pub noneHolds : ℕ → List ℕ → List ℕ → Bool
-noneHolds b [] ls = true
-noneHolds b (f ∷ fs) [] = true
-noneHolds b (f ∷ fs) (l ∷ ls) = not (holds f l b) && noneHolds b fs ls
 
 -- ---- natural filling
 

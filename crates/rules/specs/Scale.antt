@@ -86,9 +86,13 @@ atMost (refused n) side = false
 unfoldable pub fitsSide : Space → ℕ → ℕ → Bool
 fitsSide s p size = atMost (scaleFixed (pos size) p) (s .side)
 
+-- what a run takes of a page: "its size plus headings, plus titles where it lies past the title or its body is empty" (section "Pages")
+abbrev pub printed : Space → Title → Bool → ℕ → ℕ → ℕ
+printed s t empty first size = size + cond (empty || pastTitle t first) (s .titles) 0 + s .headings
+
 -- a "run plus headings, plus titles where it lies past the title"
 abbrev pub rendered : Space → Body → Run → ℕ
-rendered s b r = r .size + cond (pastTitle (b .title) (r .first)) (s .titles) 0 + s .headings
+rendered s b r = printed s (b .title) false (r .first) (r .size)
 
 unfoldable pub allFit : Space → Body → ℕ → List Run → Bool
 allFit s b p [] = true
@@ -154,7 +158,6 @@ abbrev pub fitPasses : Fit → List ℕ → List ℕ → List ℕ → List ℕ �
 fitPasses f fs ls is ss p = axisPasses (spaceOf (f .page)) (bodyFor (f .stretch) fs ls is ss) (f .target) p
 
 -- an axis that was asked about
-pub record Fitted (f : Fit) (fs ls is ss : List ℕ) : Type 0 where
+pub record Fitted (f : Fit) (is ss : List ℕ) : Type 0 where
   pub low : Low (f .page)
-  pub merges : length fs ≡ length ls
   pub slots : Slots is ss

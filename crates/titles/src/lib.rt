@@ -13,7 +13,10 @@ use rules::Title;
 use rules::Widened;
 use rules::Widening;
 ghost use mathlib.Core.Path.{_≡_};
-ghost use Rattle.rules.specs.Titles.{bodyStart, limitOf, normalized, widenTo, sameSpan, expand, widened, widenTitle, wideningOutcome};
+ghost use Rattle.rules.specs.Titles.{bodyStart, limitOf, normalized, noMerge, widens, widenTo, pass, sameSpan, expand, widened, widenTitle, wideningOutcome};
+
+// So many merges are asked at once whether one of them widens a title.
+const PART: usize = 32;
 
 // The title, unless its first is above its last or its last beyond the limit.
 fn normalize_repeat(title: Title, limit: u32) -> Normalized
@@ -65,7 +68,41 @@ fn same_span(a: Span, b: Span) -> bool
     false
 }
 
-// Passes over all merges widen the pair, until one changes nothing.
+// Whether no merge of these widens the span: all are asked, so that there is no branch on what one of them answers.
+fn none_widens(span: Span, firsts: &[u32], lasts: &[u32]) -> bool
+    ensures { λ r. ⌜ r ≡ noMerge (widens span) (now (firsts .entry)) (now (lasts .entry)) ⌝ }
+{
+    let first = span.first;
+    let last = span.last;
+    let mut i = shorter(firsts.len(), lasts.len());
+    let mut none = true;
+    while i > 0 {
+        i -= 1;
+        let f = firsts[i];
+        let l = lasts[i];
+        none = !((f <= last) & ((first <= l) & !((first <= f) & (l <= last)))) & none;
+    }
+    none
+}
+
+// What a part of the merges makes of the span.
+fn widen_by_part(span: Span, firsts: &[u32], lasts: &[u32]) -> Span
+    ensures { λ r. ⌜ r ≡ pass (now (firsts .entry)) (now (lasts .entry)) span ⌝ }
+{
+    if none_widens(span, firsts, lasts) {
+        return span;
+    }
+    let end = shorter(firsts.len(), lasts.len());
+    let mut wide = span;
+    let mut i = 0;
+    while i < end {
+        wide = widen_to(wide, firsts[i], lasts[i]);
+        i += 1;
+    }
+    wide
+}
+
+// Passes over all merges widen the pair, until one changes nothing. A pass takes the merges part by part.
 fn expand_repeat_for_merges(first: u32, last: u32, firsts: &[u32], lasts: &[u32]) -> Expanded
     ensures { λ r. ⌜ r ≡ expand (now (firsts .entry)) (now (lasts .entry)) first last ⌝ }
 {
@@ -76,8 +113,9 @@ fn expand_repeat_for_merges(first: u32, last: u32, firsts: &[u32], lasts: &[u32]
         let previous = span;
         let mut i = 0;
         while i < end {
-            span = widen_to(span, firsts[i], lasts[i]);
-            i += 1;
+            let to = shorter(i + PART, end);
+            span = widen_by_part(span, &firsts[i..to], &lasts[i..to]);
+            i = to;
         }
         if same_span(previous, span) {
             break Title::Pair(span.first, span.last);

@@ -6,7 +6,7 @@ use mathlib.Core.Bool.{Bool, true, false}
 use Prim.Native.Nat.{_-_, _≤_}
 use lib.ListN.{length, drop}
 use Rattle.rules.specs.Titles.{pass, still, passes, expand}
-use Rattle.rules.proofs.TitleLaws.{pass-step, pass-end, inside, inside-le, still-of, turn-count, turn-less, turn-passes, turn-ends}
+use Rattle.rules.proofs.TitleLaws.{pass-part, pass-end, inside, inside-le, still-of, turn-count, turn-less, turn-passes, turn-ends}
 use borrow.Author.Needs.{needs}
 use native.Mathlib.Omega.{arith}
 use Rattle.titles.proofs.expand_repeat_for_merges.Statement.{statement}
@@ -40,34 +40,52 @@ loop-holds c =
 loop2-holds : tie.Need-loop2-holds Inv-loop2 μ-loop2 Inv-loop μ-loop
 loop2-holds c = (search needs, search needs, refl)
 
-mul-widen-to : tie.Need-mul-widen-to Inv-loop2 μ-loop2 Inv-loop μ-loop
-mul-widen-to c = search needs
+add-shorter : tie.Need-add-shorter Inv-loop2 μ-loop2 Inv-loop μ-loop
+add-shorter c = search needs
 
-shared-slice-read-widen-to : tie.Need-shared-slice-read-widen-to Inv-loop2 μ-loop2 Inv-loop μ-loop
-shared-slice-read-widen-to c = search needs
+shorter-requires-2 : tie.Need-shorter-requires-2 Inv-loop2 μ-loop2 Inv-loop μ-loop
+shorter-requires-2 c κs = search needs
 
-mul-widen-to-2 : tie.Need-mul-widen-to-2 Inv-loop2 μ-loop2 Inv-loop μ-loop
-mul-widen-to-2 c = search needs
+mul-widen-by-part : tie.Need-mul-widen-by-part Inv-loop2 μ-loop2 Inv-loop μ-loop
+mul-widen-by-part c = search needs
 
-shared-slice-read-widen-to-2 :
-    tie.Need-shared-slice-read-widen-to-2 Inv-loop2 μ-loop2 Inv-loop μ-loop
-shared-slice-read-widen-to-2 c = search needs
+sub-widen-by-part : tie.Need-sub-widen-by-part Inv-loop2 μ-loop2 Inv-loop μ-loop
+sub-widen-by-part c = search needs
 
-widen-to-requires : tie.Need-widen-to-requires Inv-loop2 μ-loop2 Inv-loop μ-loop
-widen-to-requires c κs = search needs
+part-widen-by-part-start : tie.Need-part-widen-by-part-start Inv-loop2 μ-loop2 Inv-loop μ-loop
+part-widen-by-part-start c = search needs
 
-add-i : tie.Need-add-i Inv-loop2 μ-loop2 Inv-loop μ-loop
-add-i c = search needs
+part-widen-by-part-end : tie.Need-part-widen-by-part-end Inv-loop2 μ-loop2 Inv-loop μ-loop
+part-widen-by-part-end c = search needs
+
+mul-widen-by-part-2 : tie.Need-mul-widen-by-part-2 Inv-loop2 μ-loop2 Inv-loop μ-loop
+mul-widen-by-part-2 c = search needs
+
+sub-widen-by-part-2 : tie.Need-sub-widen-by-part-2 Inv-loop2 μ-loop2 Inv-loop μ-loop
+sub-widen-by-part-2 c = search needs
+
+part-widen-by-part-start-2 : tie.Need-part-widen-by-part-start-2 Inv-loop2 μ-loop2 Inv-loop μ-loop
+part-widen-by-part-start-2 c = search needs
+
+part-widen-by-part-end-2 : tie.Need-part-widen-by-part-end-2 Inv-loop2 μ-loop2 Inv-loop μ-loop
+part-widen-by-part-end-2 c = search needs
+
+widen-by-part-requires : tie.Need-widen-by-part-requires Inv-loop2 μ-loop2 Inv-loop μ-loop
+widen-by-part-requires c κs = search needs
 
 loop2-less : tie.Need-loop2-less Inv-loop2 μ-loop2 Inv-loop μ-loop
 loop2-less c = search needs
 
 loop2-again : tie.Need-loop2-again Inv-loop2 μ-loop2 Inv-loop μ-loop
 loop2-again c =
-    let l = c .before .before .before .before .loop2 in
-    let a = c .before .before .before .before .before .before .before .before .before .args in
-    let step = pass-step (l .i) (a .firsts .now) (a .lasts .now) (l .span) (search needs) (search needs) in
-    (search needs, search needs, rw (c .widen-to .ensures) (sym step ∙ l .inv .2))
+    let to = c .before .before .before .shorter2 in
+    let l = c .before .before .before .before .before .loop2 in
+    let n = c .before .before .before .before .before .before .before .shorter in
+    let a = c .before .before .before .before .before .before .before .before .before .before .args in
+    let f : to .result ≤ length (a .firsts .now) = omega (arith, to .ensures, n .ensures) in
+    let t : to .result ≤ length (a .lasts .now) = omega (arith, to .ensures, n .ensures) in
+    let on = pass-part (l .i) (to .result) (a .firsts .now) (a .lasts .now) (l .span) (omega (arith, to .ensures)) f t in
+    (f, t, rw (c .widen-by-part .ensures) (on ∙ l .inv .2))
 
 same-span-requires : tie.Need-same-span-requires Inv-loop2 μ-loop2 Inv-loop μ-loop
 same-span-requires c κs = search needs
@@ -127,12 +145,17 @@ expand-repeat-for-merges-spec =
     shorter-requires
     loop-holds
     loop2-holds
-    mul-widen-to
-    shared-slice-read-widen-to
-    mul-widen-to-2
-    shared-slice-read-widen-to-2
-    widen-to-requires
-    add-i
+    add-shorter
+    shorter-requires-2
+    mul-widen-by-part
+    sub-widen-by-part
+    part-widen-by-part-start
+    part-widen-by-part-end
+    mul-widen-by-part-2
+    sub-widen-by-part-2
+    part-widen-by-part-start-2
+    part-widen-by-part-end-2
+    widen-by-part-requires
     loop2-less
     loop2-again
     same-span-requires

@@ -18,10 +18,10 @@ grid Rows = lit≤ tt
 grid Columns = lit≤ tt
 
 -- the first no, at the axis' limit
-asked : (d : tie.After-partition-refusal) → let a = d .before .before .before .before .before .before .before .before .before .before .before .before .before .before .before .before .args in
+asked : (d : tie.After-partition-refusal) → let a = d .before .before .before .before .before .before .before .before .before .before .before .before .args in
     d .partition-refusal .result ≡ firstNo (limitOf (a .axis)) (a .setup) (a .indexes .now) (a .sizes .now) (a .merge-firsts .now) (a .merge-lasts .now) (lentEven (a .run-firsts .now) (a .run-lasts .now) (a .run-sizes .now) (a .run-marks .now))
 asked d =
-    let a = d .before .before .before .before .before .before .before .before .before .before .before .before .before .before .before .before .args in
+    let a = d .before .before .before .before .before .before .before .before .before .before .before .before .args in
     d .partition-refusal .ensures
     ∙ ap₂ (λ (n : ℕ) (even : Bool). firstNo n (a .setup) (a .indexes .now) (a .sizes .now) (a .merge-firsts .now) (a .merge-lasts .now) even) (d .before .limit .ensures) (d .before .before .lists-even .ensures)
 
@@ -33,6 +33,18 @@ limit-requires c κs = search needs
 
 partition-refusal-requires : tie.Need-partition-refusal-requires
 partition-refusal-requires c κs = search needs
+
+returns : tie.Need-returns
+returns c =
+    let a = c .before .before .before .before .before .before .before .before .before .before .before .before .before .args in
+    refuses _ (bodyRuns (a .setup) (a .indexes .now) (a .sizes .now) (a .merge-firsts .now) (a .merge-lasts .now) (a .breaks .now)) (c .before .partition-refusal .result) (a .run-firsts .now) (a .run-lasts .now) (a .run-sizes .now) (a .run-marks .now) (is-refused (limitOf (a .axis)) (a .setup) (a .indexes .now) (a .sizes .now) (a .merge-firsts .now) (a .merge-lasts .now) (a .breaks .now) (a .run-firsts .now) (a .run-lasts .now) (a .run-sizes .now) (a .run-marks .now) (c .before .partition-refusal .result) (asked (c .before)) (c .if1 .taken))
+
+partition-body-requires : tie.Need-partition-body-requires
+partition-body-requires c κs =
+    let a = c .before .before .before .before .before .before .before .before .before .before .before .before .before .before .before .before .before .args in
+    let d = c .before .before .before .before .before in
+    let y = is-asked (limitOf (a .axis)) (a .setup) (a .indexes .now) (a .sizes .now) (a .merge-firsts .now) (a .merge-lasts .now) (a .breaks .now) (a .run-firsts .now) (a .run-lasts .now) (a .run-sizes .now) (a .run-marks .now) (d .partition-refusal .result) (asked d) (c .before .before .before .before .if1 .left) (grid (a .axis)) in
+    (y .slots, y .lists)
 
 same-length : tie.Need-same-length
 same-length c = search needs
@@ -46,33 +58,9 @@ same-length-3 c = search needs
 same-length-4 : tie.Need-same-length-4
 same-length-4 c = search needs
 
-returns : tie.Need-returns
-returns c =
-    let a = c .before .before .before .before .before .before .before .before .before .before .before .before .before .before .before .before .before .args in
-    refuses _ (bodyRuns (a .setup) (a .indexes .now) (a .sizes .now) (a .merge-firsts .now) (a .merge-lasts .now) (a .breaks .now)) (c .before .partition-refusal .result) (a .run-firsts .now) (a .run-lasts .now) (a .run-sizes .now) (a .run-marks .now) (is-refused (limitOf (a .axis)) (a .setup) (a .indexes .now) (a .sizes .now) (a .merge-firsts .now) (a .merge-lasts .now) (a .breaks .now) (a .run-firsts .now) (a .run-lasts .now) (a .run-sizes .now) (a .run-marks .now) (c .before .partition-refusal .result) (asked (c .before)) (c .if1 .taken))
-
-partition-body-requires : tie.Need-partition-body-requires
-partition-body-requires c κs =
-    let a = c .before .before .before .before .before .before .before .before .before .before .before .before .before .before .before .before .before .before .before .before .before .args in
-    let d = c .before .before .before .before .before in
-    let y = is-asked (limitOf (a .axis)) (a .setup) (a .indexes .now) (a .sizes .now) (a .merge-firsts .now) (a .merge-lasts .now) (a .breaks .now) (a .run-firsts .now) (a .run-lasts .now) (a .run-sizes .now) (a .run-marks .now) (d .partition-refusal .result) (asked d) (c .before .before .before .before .if1 .left) (grid (a .axis)) in
-    (y .merges, (y .slots, y .lists))
-
-same-length-5 : tie.Need-same-length-5
-same-length-5 c = search needs
-
-same-length-6 : tie.Need-same-length-6
-same-length-6 c = search needs
-
-same-length-7 : tie.Need-same-length-7
-same-length-7 c = search needs
-
-same-length-8 : tie.Need-same-length-8
-same-length-8 c = search needs
-
 returns-2 : tie.Need-returns-2
 returns-2 c =
-    let a = c .before .before .before .before .before .before .before .before .before .before .before .before .before .before .before .before .before .before .before .before .before .before .before .before .before .before .before .before .before .before .args in
+    let a = c .before .before .before .before .before .before .before .before .before .before .before .before .before .before .before .before .before .before .before .before .before .before .before .before .before .before .args in
     let d = c .before .before .before .before .before .before .before .before .before .before .before .before .before .before in
     let p = c .before .before .before .before .before .before .before .before .partition-body in
     let y = is-asked (limitOf (a .axis)) (a .setup) (a .indexes .now) (a .sizes .now) (a .merge-firsts .now) (a .merge-lasts .now) (a .breaks .now) (a .run-firsts .now) (a .run-lasts .now) (a .run-sizes .now) (a .run-marks .now) (d .partition-refusal .result) (asked d) (c .before .before .before .before .before .before .before .before .before .before .before .before .before .if1 .left) (grid (a .axis)) in
@@ -85,14 +73,10 @@ partition-axis-with-breaks-spec =
     lists-even-requires
     limit-requires
     partition-refusal-requires
+    returns
+    partition-body-requires
     same-length
     same-length-2
     same-length-3
     same-length-4
-    returns
-    partition-body-requires
-    same-length-5
-    same-length-6
-    same-length-7
-    same-length-8
     returns-2)

@@ -85,7 +85,7 @@ partition-slots-requires c κs =
     let s = c .before .before .before .before .before .before .before .before .before .before .before .before .before .before .before .before .before .before .before .before in
     let d = c .before .before .before .before .before .before .before in
     let a = s .args in
-    (s .pre .0, (slots-mid (d .before .before .place-of .result) (d .place-of2 .result) (a .indexes .now) (a .sizes .now) (omega (arith, d .place-of2 .ensures .1, s .pre .1 .0 .even)) (s .pre .1 .0), s .pre .1 .1))
+    (slots-mid (d .before .before .place-of .result) (d .place-of2 .result) (a .indexes .now) (a .sizes .now) (omega (arith, d .place-of2 .ensures .1, s .pre .0 .even)) (s .pre .0), s .pre .1)
 
 same-length : tie.Need-same-length
 same-length c = search needs

@@ -33,8 +33,8 @@ write-axis-requires : tie.Need-write-axis-requires
 write-axis-requires c κs =
     let s = c .before .before .before .before .before .before .before .before .before .before .before .before .before .before .before .before in
     let n = counted (c .before .before .before .before .before .before) in
-    let e = s .pre .1 .1 in
-    (s .pre .0, (s .pre .1 .0, record { room = omega (arith, c .before .before .before .before .if1 .left, n); lasts-even = e .lasts-even; sizes-even = e .sizes-even; marks-even = e .marks-even }))
+    let e = s .pre .1 in
+    (s .pre .0, record { room = omega (arith, c .before .before .before .before .if1 .left, n); lasts-even = e .lasts-even; sizes-even = e .sizes-even; marks-even = e .marks-even })
 
 same-length : tie.Need-same-length
 same-length c = search needs

@@ -53,7 +53,7 @@ count-axis-requires : tie.Need-count-axis-requires
 count-axis-requires c κs =
     let s = c .before .before .before .before .before .before .before .before .before in
     let p = s .pre in
-    (p .merges, slots-mid (s .args .ready .from) (s .args .ready .to) (s .args .indexes .now) (s .args .sizes .now) (omega (arith, p .inside, p .slots .even)) (p .slots))
+    slots-mid (s .args .ready .from) (s .args .ready .to) (s .args .indexes .now) (s .args .sizes .now) (omega (arith, p .inside, p .slots .even)) (p .slots)
 
 final-cut-requires : tie.Need-final-cut-requires
 final-cut-requires c κs = search needs

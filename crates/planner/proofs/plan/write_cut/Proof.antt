@@ -68,7 +68,7 @@ write-page-runs-requires c κs =
     let a = s .args in
     let q = s .pre .0 in
     rw (c .before .before .before .before .before .before .frame-at .ensures)
-    (q .merges, (slots-mid (a .ready .from) (a .ready .to) (a .indexes .now) (a .sizes .now) (omega (arith, q .inside, q .slots .even)) (q .slots), (ap (λ (x : FinalCut). x .empty) (s .pre .1 .0), s .pre .1 .1)))
+    (slots-mid (a .ready .from) (a .ready .to) (a .indexes .now) (a .sizes .now) (omega (arith, q .inside, q .slots .even)) (q .slots), (ap (λ (x : FinalCut). x .empty) (s .pre .1 .0), s .pre .1 .1))
 
 slice-reshare-prefix-overflowing-runs : tie.Need-slice-reshare-prefix-overflowing-runs
 slice-reshare-prefix-overflowing-runs c =

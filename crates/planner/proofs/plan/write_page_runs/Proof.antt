@@ -11,7 +11,7 @@ write-empty-requires : tie.Need-write-empty-requires
 write-empty-requires c κs =
     let s = c .before .before .before .before .before .before .before .before .before .before .before .before .before .before in
     let a = s .args in
-    empty-room (a .first) (axisRuns (a .frame) (a .merge-firsts .now) (a .merge-lasts .now) (a .indexes .now) (a .sizes .now) 0 (a .breaks .now)) (a .run-firsts .now) (a .run-lasts .now) (a .run-sizes .now) (a .run-marks .now) [] [] [] [] (sym (s .pre .1 .1 .0) ∙ c .before .before .before .before .if1 .taken) (s .pre .1 .1 .1)
+    empty-room (a .first) (axisRuns (a .frame) (a .merge-firsts .now) (a .merge-lasts .now) (a .indexes .now) (a .sizes .now) 0 (a .breaks .now)) (a .run-firsts .now) (a .run-lasts .now) (a .run-sizes .now) (a .run-marks .now) [] [] [] [] (sym (s .pre .1 .0) ∙ c .before .before .before .before .if1 .taken) (s .pre .1 .1)
 
 same-length : tie.Need-same-length
 same-length c = search needs
@@ -29,13 +29,13 @@ returns : tie.Need-returns
 returns c =
     let s = c .before .before .before .before .before .before .before .before .before .before .before .before .before .before .before .before .before .before .before .before .before .before .before in
     let a = s .args in
-    empty-written (a .first) (axisRuns (a .frame) (a .merge-firsts .now) (a .merge-lasts .now) (a .indexes .now) (a .sizes .now) 0 (a .breaks .now)) (a .run-firsts .now) (a .run-lasts .now) (a .run-sizes .now) (a .run-marks .now) _ _ _ _ (sym (s .pre .1 .1 .0) ∙ c .before .before .before .before .before .before .before .before .before .before .before .before .before .if1 .taken) (c .before .before .before .before .before .before .before .before .write-empty .ensures)
+    empty-written (a .first) (axisRuns (a .frame) (a .merge-firsts .now) (a .merge-lasts .now) (a .indexes .now) (a .sizes .now) 0 (a .breaks .now)) (a .run-firsts .now) (a .run-lasts .now) (a .run-sizes .now) (a .run-marks .now) _ _ _ _ (sym (s .pre .1 .0) ∙ c .before .before .before .before .before .before .before .before .before .before .before .before .before .if1 .taken) (c .before .before .before .before .before .before .before .before .write-empty .ensures)
 
 write-axis-requires : tie.Need-write-axis-requires
 write-axis-requires c κs =
     let s = c .before .before .before .before .before .before .before .before .before .before .before .before .before .before in
     let a = s .args in
-    (s .pre .0, (s .pre .1 .0, some-room (a .first) (axisRuns (a .frame) (a .merge-firsts .now) (a .merge-lasts .now) (a .indexes .now) (a .sizes .now) 0 (a .breaks .now)) (a .run-firsts .now) (a .run-lasts .now) (a .run-sizes .now) (a .run-marks .now) [] [] [] [] (sym (s .pre .1 .1 .0) ∙ c .before .before .before .before .if1 .left) (s .pre .1 .1 .1)))
+    (s .pre .0, some-room (a .first) (axisRuns (a .frame) (a .merge-firsts .now) (a .merge-lasts .now) (a .indexes .now) (a .sizes .now) 0 (a .breaks .now)) (a .run-firsts .now) (a .run-lasts .now) (a .run-sizes .now) (a .run-marks .now) [] [] [] [] (sym (s .pre .1 .0) ∙ c .before .before .before .before .if1 .left) (s .pre .1 .1))
 
 same-length-5 : tie.Need-same-length-5
 same-length-5 c = search needs
@@ -53,7 +53,7 @@ returns-2 : tie.Need-returns-2
 returns-2 c =
     let s = c .before .before .before .before .before .before .before .before .before .before .before .before .before .before .before .before .before .before .before .before .before .before .before in
     let a = s .args in
-    some-written (a .first) (axisRuns (a .frame) (a .merge-firsts .now) (a .merge-lasts .now) (a .indexes .now) (a .sizes .now) 0 (a .breaks .now)) (a .run-firsts .now) (a .run-lasts .now) (a .run-sizes .now) (a .run-marks .now) _ _ _ _ _ (sym (s .pre .1 .1 .0) ∙ c .before .before .before .before .before .before .before .before .before .before .before .before .before .if1 .left) (c .before .before .before .before .before .before .before .before .write-axis .ensures)
+    some-written (a .first) (axisRuns (a .frame) (a .merge-firsts .now) (a .merge-lasts .now) (a .indexes .now) (a .sizes .now) 0 (a .breaks .now)) (a .run-firsts .now) (a .run-lasts .now) (a .run-sizes .now) (a .run-marks .now) _ _ _ _ _ (sym (s .pre .1 .0) ∙ c .before .before .before .before .before .before .before .before .before .before .before .before .before .if1 .left) (c .before .before .before .before .before .before .before .before .write-axis .ensures)
 
 pub write-page-runs-spec : {M : Type 1} → statement M
 write-page-runs-spec =

@@ -37,7 +37,7 @@ shared-slice-read-next-cut c = search needs
 next-cut-requires : tie.Need-next-cut-requires Inv-loop μ-loop
 next-cut-requires c κs =
     let s = c .before .before .before .before .before .before .before .before in
-    (s .pre .0, (s .pre .1 .rising, omega (arith, s .pre .1 .even)))
+    (s .pre .rising, omega (arith, s .pre .even))
 
 mul-count-runs : tie.Need-mul-count-runs Inv-loop μ-loop
 mul-count-runs c = search needs
@@ -68,7 +68,7 @@ count-runs-requires c κs =
     let cut = c .before .before .next-cut in
     let l = c .before .before .before .before .before .loop in
     let s = c .before .before .before .before .before .before .before .before .before .before .before in
-    (s .pre .0, slots-mid (l .prev) (cut .result .place) (s .args .indexes .now) (s .args .sizes .now) (omega (arith, cut .ensures .1 .1, s .pre .1 .even)) (s .pre .1))
+    slots-mid (l .prev) (cut .result .place) (s .args .indexes .now) (s .args .sizes .now) (omega (arith, cut .ensures .1 .1, s .pre .even)) (s .pre)
 
 add-count : tie.Need-add-count Inv-loop μ-loop
 add-count c = search needs
@@ -104,7 +104,7 @@ loop-again c =
     let s = c .before .before .before .before .before .before .before .before .before .before .before .before .before .before .before in
     let a = s .args in
     let p = cut .result .place in
-    let even = s .pre .1 .even in
+    let even = s .pre .even in
     let more = axis-more (a .k) (a .mfirsts .now) (a .mlasts .now) (a .indexes .now) (a .sizes .now) (l .prev) (l .j) (a .breaks .now) (cut .result) taken (cut .ensures .0) in
     let runs-are = ap (λ (r : Counted). r .runs) (t .ensures .0) in
     let grown-are = ap (λ (r : Counted). r .grown) (t .ensures .0) in
@@ -149,7 +149,7 @@ count-runs-requires-2 : tie.Need-count-runs-requires-2 Inv-loop μ-loop
 count-runs-requires-2 c κs =
     let l = c .before .before .before .loop in
     let s = c .before .before .before .before .before .before .before .before .before in
-    (s .pre .0, slots-mid (l .prev) (length (s .args .sizes .now)) (s .args .indexes .now) (s .args .sizes .now) (omega arith) (s .pre .1))
+    slots-mid (l .prev) (length (s .args .sizes .now)) (s .args .indexes .now) (s .args .sizes .now) (omega arith) (s .pre)
 
 add-t30 : tie.Need-add-t30 Inv-loop μ-loop
 add-t30 c = search needs

@@ -3,12 +3,11 @@ use Rattle.rules.proofs.AxisLaws.{placed-shifted, kept-yes, kept-past, kept-low
 use Rattle.rules.specs.declared.runs.Cut.{Cut}
 use lib.ListN.{length}
 use native.Mathlib.Omega.{arith}
-use Prim.Native.Nat.{ℕ, _≤_}
-use mathlib.Core.Path.{_≡_, sym, ap, subst, _∙_}
+use Prim.Native.Nat.{_≤_}
+use mathlib.Core.Path.{_≡_, sym, subst, _∙_}
 use borrow.Author.Needs.{needs}
 use Rattle.planner.proofs.runs.next_cut.Statement.{statement}
 use Rattle.planner.proofs.runs.next_cut.Tie as tie
-use Rattle.rules.specs.Slots.{below}
 use Rattle.rules.specs.Runs.{kept, nextCut}
 
 mul-if3 : tie.Need-mul-if3
@@ -24,44 +23,39 @@ returns c =
       (omega arith, omega arith, omega arith),
     )
 
-wide-requires : tie.Need-wide-requires
-wide-requires c κs = search needs
-
-place-of-requires : tie.Need-place-of-requires
-place-of-requires c κs = search needs
+break-place-requires : tie.Need-break-place-requires
+break-place-requires c κs = search needs
 
 placed-cut-requires : tie.Need-placed-cut-requires
 placed-cut-requires c κs = search needs
 
 -- once the break is placed
-so : (d : tie.After-placed-cut)
-    → (kept (length (d .before .before .before .before .before .before .before .args .indexes .now)) (d .before .before .before .before .before .before .before .args .prev) (d .placed-cut .result)
-    ≡ nextCut (d .before .before .before .before .before .before .before .args .k) (d .before .before .before .before .before .before .before .args .mfirsts .now) (d .before .before .before .before .before .before .before .args .mlasts .now) (d .before .before .before .before .before .before .before .args .indexes .now) (d .before .before .before .before .before .before .before .args .prev) (d .before .before .before .before .before .before .before .args .b))
+so : (d : tie.After-placed-cut) → let a = d .before .before .before .before .before .before .args in
+    (kept (length (a .indexes .now)) (a .prev) (d .placed-cut .result) ≡ nextCut (a .k) (a .mfirsts .now) (a .mlasts .now) (a .indexes .now) (a .prev) (a .b))
     × (d .placed-cut .result .shifted ≤ 1)
 so d =
-    let a = d .before .before .before .before .before .before .before .args in
-    let p = d .before .place-of in (
-      next-is (a .k) (a .mfirsts .now) (a .mlasts .now) (a .indexes .now) (a .prev) (a .b) (p .result) (d .placed-cut .result)
-          (p .ensures .0 ∙ ap (λ (n : ℕ). below n (a .indexes .now)) (d .before .before .wide .ensures)) (d .placed-cut .ensures),
+    let a = d .before .before .before .before .before .before .args in
+    let p = d .before .break-place in (
+      next-is (a .k) (a .mfirsts .now) (a .mlasts .now) (a .indexes .now) (a .prev) (a .b) (p .result) (d .placed-cut .result) (p .ensures) (d .placed-cut .ensures),
       subst (λ (c : Cut). c .shifted ≤ 1) (sym (d .placed-cut .ensures)) (placed-shifted (a .k) (a .mfirsts .now) (a .mlasts .now) (a .indexes .now) (a .prev) (p .result)),
     )
 
 returns-2 : tie.Need-returns-2
 returns-2 c =
     let d = c .before .before in
-    let a = d .before .before .before .before .before .before .before .args in
+    let a = d .before .before .before .before .before .before .args in
     (kept-yes (length (a .indexes .now)) (a .prev) (d .placed-cut .result) (c .before .if4 .taken) (c .if5 .taken) ∙ so d .0, (omega arith, omega arith, so d .1))
 
 returns-3 : tie.Need-returns-3
 returns-3 c =
     let d = c .before .before in
-    let a = d .before .before .before .before .before .before .before .args in
+    let a = d .before .before .before .before .before .before .args in
     (kept-past (length (a .indexes .now)) (a .prev) (d .placed-cut .result) (c .before .if4 .taken) (c .if5 .left) ∙ so d .0, (omega arith, omega arith, so d .1))
 
 returns-4 : tie.Need-returns-4
 returns-4 c =
     let d = c .before in
-    let a = d .before .before .before .before .before .before .before .args in
+    let a = d .before .before .before .before .before .before .args in
     (kept-low (length (a .indexes .now)) (a .prev) (d .placed-cut .result) (c .if4 .left) ∙ so d .0, (omega arith, omega arith, so d .1))
 
 pub next-cut-spec : {M : Type 1} → statement M
@@ -71,8 +65,7 @@ next-cut-spec =
     mul-if3
     shared-slice-read-if3
     returns
-    wide-requires
-    place-of-requires
+    break-place-requires
     placed-cut-requires
     returns-2
     returns-3

@@ -33,7 +33,7 @@ turning d =
 
 room : (d : tie.After-next-cut Inv-loop μ-loop) → let a = d .before .before .before .before .before .before .before .before .before .before .before .before .before .args in let l = d .before .before .before .loop in
     RoomAt (stretch (a .k) (a .mfirsts .now) (a .mlasts .now) (a .indexes .now) (a .sizes .now) (l .prev) (d .next-cut .result .place)) (l .at) (l .firsts) (l .lasts) (l .totals) (l .marks)
-room d = lists-room _ _ _ _ _ (d .before .before .before .loop .at) _ _ _ _ _ _ (d .before .before .before .before .before .before .before .before .before .before .before .before .before .pre .1 .1) (turning d)
+room d = lists-room _ _ _ _ _ (d .before .before .before .loop .at) _ _ _ _ _ _ (d .before .before .before .before .before .before .before .before .before .before .before .before .before .pre .1) (turning d)
 
 -- after the loop: what is left is the stretch up to the end
 ending : (e : tie.After-loop Inv-loop μ-loop) → let a = e .before .before .before .before .before .before .before .before .before .before .before .args in let l = e .before .loop in
@@ -49,7 +49,7 @@ ending e =
 
 last-room : (e : tie.After-loop Inv-loop μ-loop) → let a = e .before .before .before .before .before .before .before .before .before .before .before .args in let l = e .before .loop in
     RoomAt (stretch (a .k) (a .mfirsts .now) (a .mlasts .now) (a .indexes .now) (a .sizes .now) (l .prev) (length (a .sizes .now))) (l .at) (l .firsts) (l .lasts) (l .totals) (l .marks)
-last-room e = lists-room _ _ _ _ _ (e .before .loop .at) _ _ _ _ _ _ (e .before .before .before .before .before .before .before .before .before .before .before .pre .1 .1) (ending e)
+last-room e = lists-room _ _ _ _ _ (e .before .loop .at) _ _ _ _ _ _ (e .before .before .before .before .before .before .before .before .before .before .before .pre .1) (ending e)
 
 loop-holds : tie.Need-loop-holds Inv-loop μ-loop
 loop-holds c = (omega arith, omega arith, lists-start _ _ _ _ _)
@@ -63,14 +63,14 @@ shared-slice-read-next-cut c = search needs
 next-cut-requires : tie.Need-next-cut-requires Inv-loop μ-loop
 next-cut-requires c κs =
     let s = c .before .before .before .before .before .before .before .before .before .before .before .before in
-    (s .pre .0, (s .pre .1 .0 .rising, omega (arith, s .pre .1 .0 .even)))
+    (s .pre .0 .rising, omega (arith, s .pre .0 .even))
 
 write-stretch-requires : tie.Need-write-stretch-requires Inv-loop μ-loop
 write-stretch-requires c κs =
     let d = c .before .before .before .before in
     let s = d .before .before .before .before .before .before .before .before .before .before .before .before .before in
     let cut = d .next-cut .ensures .1 in
-    (s .pre .0, (s .pre .1 .0, ((cut .0, omega (arith, cut .1, s .pre .1 .0 .even)), room d)))
+    (s .pre .0, ((cut .0, omega (arith, cut .1, s .pre .0 .even)), room d))
 
 add-at : tie.Need-add-at Inv-loop μ-loop
 add-at c =
@@ -92,7 +92,7 @@ loop-again c =
     let s = d .before .before .before .before .before .before .before .before .before .before .before .before .before in
     let w = c .before .before .before .before .before .before .before .before .write-stretch in (
       omega (arith, d .before .before .loop-test .taken),
-      omega (arith, d .next-cut .ensures .1 .1, s .pre .1 .0 .even),
+      omega (arith, d .next-cut .ensures .1 .1, s .pre .0 .even),
       lists-stores _ _ _ _ _ (l .at) _ _ (l .firsts) (l .lasts) (l .totals) (l .marks) (w .result) _ _ _ _ (room d) (w .ensures) (turning d),
     )
 
@@ -100,7 +100,7 @@ write-stretch-requires-2 : tie.Need-write-stretch-requires-2 Inv-loop μ-loop
 write-stretch-requires-2 c κs =
     let e = c .before .before .before .before in
     let s = e .before .before .before .before .before .before .before .before .before .before .before in
-    (s .pre .0, (s .pre .1 .0, ((e .before .loop .inv .1, omega arith), last-room e)))
+    (s .pre .0, ((e .before .loop .inv .1, omega arith), last-room e))
 
 add-result : tie.Need-add-result Inv-loop μ-loop
 add-result c =

@@ -41,7 +41,7 @@ low c =
     omega (arith, room c .2, l .inv .1 .sizes-so .long, s .good)
 
 loop-holds : tie.Need-loop-holds Inv-loop μ-loop
-loop-holds c = (c .before .before .before .before .before .before .before .before .pre .1 .0, lists-start _ _ _ _ _)
+loop-holds c = (c .before .before .before .before .before .before .before .before .pre .0, lists-start _ _ _ _ _)
 
 run-end-requires : tie.Need-run-end-requires Inv-loop μ-loop
 run-end-requires c κs = search needs

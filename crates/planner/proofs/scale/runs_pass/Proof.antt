@@ -1,6 +1,6 @@
 -- `planner::scale::runs_pass` meets its contract. The loop's invariant: the runs so far fit and meet the target, and the answer for those of the slots that are left is the whole answer. Assumes nothing.
 use mathlib.Core.Path.{_≡_, sym, ap, _∙_}
-use mathlib.Core.Bool.{true, cond, _&&_}
+use mathlib.Core.Bool.{true, false, _&&_}
 use mathlib.Core.List.{_∷_}
 use Prim.Native.Nat.{ℕ, _+_, _≤_}
 use native.Mathlib.Omega.{arith}
@@ -9,9 +9,8 @@ use lib.Seq.{length-take-le}
 use borrow.Author.Tests.{not-true, not-false}
 use Rattle.rules.specs.declared.runs.RunEnd.{RunEnd}
 use Rattle.rules.specs.Slots.{Slots, sum}
-use Rattle.rules.specs.Titles.{pastTitle}
 use Rattle.rules.specs.Runs.{run, runs}
-use Rattle.rules.specs.Scale.{fitsSide, allFit, meets, rendered, spaceOf, titled}
+use Rattle.rules.specs.Scale.{fitsSide, allFit, meets, printed, rendered, spaceOf, titled}
 use Rattle.rules.proofs.Laws.{part, length-part, slots-part, small-take, turn, none, some}
 use Rattle.rules.proofs.TitleLaws.{small-sum}
 use Rattle.rules.proofs.ScaleLaws.{meets-none, passFrom, from-none, too-many, one-out, one-in, all-in}
@@ -46,13 +45,13 @@ fits-here f =
     let l = e .before .before .before .before .loop in
     let a = e .before .before .before .before .before .before .before .before .before .args in
     let size-is = f .before .before .before .total .ensures ∙ ap (λ (r : RunEnd). sum (take (r .slots) (l .ss .now))) (e .run-end .ensures .0) in
-    f .fits-side .ensures ∙ ap (fitsSide (spaceOf (a .page)) (a .permille)) (f .before .rendered .ensures .0 ∙ ap (λ (x : ℕ). x + cond (pastTitle (a .frame .title) (getD (l .is .now) 0 0)) (a .page .titles) 0 + a .page .headings) size-is)
+    f .fits-side .ensures ∙ ap (fitsSide (spaceOf (a .page)) (a .permille)) (f .before .printed .ensures .0 ∙ ap (printed (spaceOf (a .page)) (a .frame .title) false (getD (l .is .now) 0 0)) size-is)
 
 loop-holds : tie.Need-loop-holds Inv-loop μ-loop
 loop-holds c =
     let s = c .before .before .before .before in
     let a = s .args in
-    (s .pre .1 .1, from-none (spaceOf (a .page)) (titled (a .frame .title)) (a .target) (a .permille) _, meets-none (a .target), omega arith)
+    (s .pre .1, from-none (spaceOf (a .page)) (titled (a .frame .title)) (a .target) (a .permille) _, meets-none (a .target), omega arith)
 
 add-count : tie.Need-add-count Inv-loop μ-loop
 add-count c = search needs
@@ -77,18 +76,18 @@ slice-aggregate-total c = sym (length-take-le _ _ (c .before .run-end .ensures .
 total-requires : tie.Need-total-requires Inv-loop μ-loop
 total-requires c κs = small-take _ _ (c .before .run-end .ensures .1 .1) (c .before .before .before .before .before .loop .inv .0 .small)
 
-shared-slice-read-rendered : tie.Need-shared-slice-read-rendered Inv-loop μ-loop
-shared-slice-read-rendered c = search needs
+shared-slice-read-printed : tie.Need-shared-slice-read-printed Inv-loop μ-loop
+shared-slice-read-printed c = search needs
 
-rendered-requires : tie.Need-rendered-requires Inv-loop μ-loop
-rendered-requires c κs =
+printed-requires : tie.Need-printed-requires Inv-loop μ-loop
+printed-requires c κs =
     let e = c .before .before .before in
     let n = e .run-end .result .slots in
     let l = e .before .before .before .before .loop in
     (e .before .before .before .before .before .before .before .before .before .pre .0, omega (arith, c .before .total .ensures, small-sum (take n (l .ss .now)) (small-take n (l .ss .now) (e .run-end .ensures .1 .1) (l .inv .0 .small))))
 
 fits-side-requires : tie.Need-fits-side-requires Inv-loop μ-loop
-fits-side-requires c κs = c .rendered .ensures .1
+fits-side-requires c κs = c .printed .ensures .1
 
 returns-2 : tie.Need-returns-2 Inv-loop μ-loop
 returns-2 c =
@@ -160,8 +159,8 @@ runs-pass-spec =
     run-end-requires
     slice-aggregate-total
     total-requires
-    shared-slice-read-rendered
-    rendered-requires
+    shared-slice-read-printed
+    printed-requires
     fits-side-requires
     returns-2
     mul-is

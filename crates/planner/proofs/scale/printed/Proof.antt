@@ -1,10 +1,10 @@
--- `planner::overflow::printed` meets its contract. Assumes nothing.
+-- `planner::scale::printed` meets its contract. Assumes nothing.
 use native.Mathlib.Omega.{arith}
 use Rattle.rules.specs.Scale.{spaceOf}
-use Rattle.rules.proofs.PagesCode.{printed-empty, printed-absent, printed-past, printed-before}
+use Rattle.rules.proofs.ScaleLaws.{printed-empty, printed-absent, printed-past, printed-before}
 use borrow.Author.Needs.{needs}
-use Rattle.planner.proofs.overflow.printed.Statement.{statement}
-use Rattle.planner.proofs.overflow.printed.Tie as tie
+use Rattle.planner.proofs.scale.printed.Statement.{statement}
+use Rattle.planner.proofs.scale.printed.Tie as tie
 
 add-result : tie.Need-add-result
 add-result c = search needs
