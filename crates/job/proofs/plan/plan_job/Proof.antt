@@ -41,8 +41,8 @@ same-length-8 c = c .before .before .before .before .before .before .before .bef
 
 returns : tie.Need-returns
 returns c =
-    let a = c .before .before .before .before .before .before .before .before .before .before .before .before .before .before .before .before .before .before .before .before .before .before .before .before .before .before .before .before .before .before .before .before .before .before .before .before .before .before .before .before .before .before .before .before .before .before .args in
-    outcome-told (job-even (a .bytes .now) (runLists (a .row-run-firsts .now) (a .row-run-lasts .now) (a .row-run-sizes .now) (a .row-run-marks .now)) (runLists (a .column-run-firsts .now) (a .column-run-lasts .now) (a .column-run-sizes .now) (a .column-run-marks .now)) _ (ap₂ _&&_ (c .before .before .before .before .before .before .before .before .before .before .before .before .before .before .before .before .before .before .before .before .before .before .before .before .before .before .before .before .before .before .before .before .lists-even .ensures) (c .before .before .before .before .before .before .before .before .before .before .before .before .before .before .before .before .before .before .before .before .before .before .before .before .before .before .before .lists-even2 .ensures)) (c .before .before .before .before .before .before .before .before .before .before .before .before .before .before .before .before .before .before .before .before .before .before .before .before .before .before .if1 .taken)) _ _ _ _ _ (told-even (c .before .before .before .before .before .before .before .before .before .before .before .before .before .before .before .before .plan-small .ensures))
+    let a = c .before .before .before .before .before .before .before .before .before .before .before .before .before .before .before .before .before .before .before .before .before .before .before .before .before .before .before .before .before .before .before .before .before .before .before .before .before .before .args in
+    outcome-told (job-even (a .bytes .now) (runLists (a .row-run-firsts .now) (a .row-run-lasts .now) (a .row-run-sizes .now) (a .row-run-marks .now)) (runLists (a .column-run-firsts .now) (a .column-run-lasts .now) (a .column-run-sizes .now) (a .column-run-marks .now)) _ (ap₂ _&&_ (c .before .before .before .before .before .before .before .before .before .before .before .before .before .before .before .before .before .before .before .before .before .before .before .before .before .before .before .before .lists-even .ensures) (c .before .before .before .before .before .before .before .before .before .before .before .before .before .before .before .before .before .before .before .before .before .before .before .before .before .before .before .lists-even2 .ensures)) (c .before .before .before .before .before .before .before .before .before .before .before .before .before .before .before .before .before .before .before .before .before .before .before .before .before .before .if1 .taken)) _ _ _ _ _ (told-even (c .before .before .before .before .before .before .before .before .before .before .before .before .before .before .before .before .plan-small .ensures))
 
 plan-large-requires : tie.Need-plan-large-requires
 plan-large-requires c κs = tt
@@ -73,40 +73,16 @@ same-length-16 c = c .before .before .before .before .before .before .before .be
 
 returns-2 : tie.Need-returns-2
 returns-2 c =
-    let a = c .before .before .before .before .before .before .before .before .before .before .before .before .before .before .before .before .before .before .before .before .before .before .before .before .before .before .before .before .before .before .before .before .before .before .before .before .before .before .before .before .before .before .before .before .before .before .args in
-    outcome-told (job-even (a .bytes .now) (runLists (a .row-run-firsts .now) (a .row-run-lasts .now) (a .row-run-sizes .now) (a .row-run-marks .now)) (runLists (a .column-run-firsts .now) (a .column-run-lasts .now) (a .column-run-sizes .now) (a .column-run-marks .now)) _ (ap₂ _&&_ (c .before .before .before .before .before .before .before .before .before .before .before .before .before .before .before .before .before .before .before .before .before .before .before .before .before .before .before .before .before .before .before .before .lists-even .ensures) (c .before .before .before .before .before .before .before .before .before .before .before .before .before .before .before .before .before .before .before .before .before .before .before .before .before .before .before .lists-even2 .ensures)) (c .before .before .before .before .before .before .before .before .before .before .before .before .before .before .before .before .before .before .before .before .before .before .before .before .before .before .if1 .taken)) _ _ _ _ _ (told-even (c .before .before .before .before .before .before .before .before .before .before .before .before .before .before .before .before .plan-large .ensures))
+    let a = c .before .before .before .before .before .before .before .before .before .before .before .before .before .before .before .before .before .before .before .before .before .before .before .before .before .before .before .before .before .before .before .before .before .before .before .before .before .before .args in
+    outcome-told (job-even (a .bytes .now) (runLists (a .row-run-firsts .now) (a .row-run-lasts .now) (a .row-run-sizes .now) (a .row-run-marks .now)) (runLists (a .column-run-firsts .now) (a .column-run-lasts .now) (a .column-run-sizes .now) (a .column-run-marks .now)) _ (ap₂ _&&_ (c .before .before .before .before .before .before .before .before .before .before .before .before .before .before .before .before .before .before .before .before .before .before .before .before .before .before .before .before .lists-even .ensures) (c .before .before .before .before .before .before .before .before .before .before .before .before .before .before .before .before .before .before .before .before .before .before .before .before .before .before .before .lists-even2 .ensures)) (c .before .before .before .before .before .before .before .before .before .before .before .before .before .before .before .before .before .before .before .before .before .before .before .before .before .before .if1 .taken)) _ _ _ _ _ (told-even (c .before .before .before .before .before .before .before .before .before .before .before .before .before .before .before .before .plan-large .ensures))
 
 uneven-refusal-requires : tie.Need-uneven-refusal-requires
 uneven-refusal-requires c κs = tt
 
-same-length-17 : tie.Need-same-length-17
-same-length-17 c = refl
-
-same-length-18 : tie.Need-same-length-18
-same-length-18 c = refl
-
-same-length-19 : tie.Need-same-length-19
-same-length-19 c = refl
-
-same-length-20 : tie.Need-same-length-20
-same-length-20 c = refl
-
-same-length-21 : tie.Need-same-length-21
-same-length-21 c = refl
-
-same-length-22 : tie.Need-same-length-22
-same-length-22 c = refl
-
-same-length-23 : tie.Need-same-length-23
-same-length-23 c = refl
-
-same-length-24 : tie.Need-same-length-24
-same-length-24 c = refl
-
 returns-3 : tie.Need-returns-3
 returns-3 c =
-    let a = c .before .before .before .before .before .before .before .before .before .before .before .before .before .before .before .before .before .before .before .before .before .args in
-    refused-told _ _ _ _ _ (runLists (a .row-run-firsts .now) (a .row-run-lasts .now) (a .row-run-sizes .now) (a .row-run-marks .now)) (runLists (a .column-run-firsts .now) (a .column-run-lasts .now) (a .column-run-sizes .now) (a .column-run-marks .now)) (job-uneven (a .bytes .now) (runLists (a .row-run-firsts .now) (a .row-run-lasts .now) (a .row-run-sizes .now) (a .row-run-marks .now)) (runLists (a .column-run-firsts .now) (a .column-run-lasts .now) (a .column-run-sizes .now) (a .column-run-marks .now)) _ (ap₂ _&&_ (c .before .before .before .before .before .before .before .lists-even .ensures) (c .before .before .lists-even2 .ensures)) _ (c .before .if1 .left) (c .uneven-refusal .ensures))
+    let a = c .before .before .before .before .before .before .before .before .before .before .before .before .before .args in
+    refused-told _ _ _ _ _ (runLists (a .row-run-firsts .now) (a .row-run-lasts .now) (a .row-run-sizes .now) (a .row-run-marks .now)) (runLists (a .column-run-firsts .now) (a .column-run-lasts .now) (a .column-run-sizes .now) (a .column-run-marks .now)) (job-uneven (a .bytes .now) (runLists (a .row-run-firsts .now) (a .row-run-lasts .now) (a .row-run-sizes .now) (a .row-run-marks .now)) (runLists (a .column-run-firsts .now) (a .column-run-lasts .now) (a .column-run-sizes .now) (a .column-run-marks .now)) _ (ap₂ _&&_ (c .before .before .before .lists-even .ensures) (c .before .before .lists-even2 .ensures)) _ (c .before .if1 .left) (c .uneven-refusal .ensures))
 
 pub plan-job-spec : {M : Type 1} → statement M
 plan-job-spec =
@@ -135,12 +111,4 @@ plan-job-spec =
     same-length-16
     returns-2
     uneven-refusal-requires
-    same-length-17
-    same-length-18
-    same-length-19
-    same-length-20
-    same-length-21
-    same-length-22
-    same-length-23
-    same-length-24
     returns-3)
