@@ -75,18 +75,17 @@ pub fn all_within(indexes: &[u32], limit: u32) -> bool
     true
 }
 
-// Each index is below the next.
+// Each index is below the next: all are asked, so that there is no branch on what one of them answers.
 fn strictly_rising(indexes: &[u32]) -> bool
     ensures { λ r. ⌜ r ≡ rising (now (indexes .entry)) ⌝ }
 {
-    let mut n = 1;
-    while n < indexes.len() {
-        if indexes[n - 1] >= indexes[n] {
-            return false;
-        }
-        n += 1;
+    let mut i = indexes.len();
+    let mut rises = true;
+    while i > 1 {
+        i -= 1;
+        rises = (indexes[i - 1] < indexes[i]) & rises;
     }
-    true
+    rises
 }
 
 // 8: each index is below the next, and the last is not past the limit.
@@ -103,18 +102,17 @@ pub fn rising_within(indexes: &[u32], limit: u32) -> bool
     indexes[count - 1] <= limit
 }
 
-// 9: no size is above the largest.
+// 9: no size is above the largest, which has all its bits set: so none is, if all bits of all sizes together make no greater number.
 pub fn all_small(sizes: &[u64]) -> bool
     ensures { λ r. ⌜ r ≡ allSmall (now (sizes .entry)) ⌝ }
 {
-    let mut n = 0;
-    while n < sizes.len() {
-        if sizes[n] > LARGEST_SIZE {
-            return false;
-        }
-        n += 1;
+    let mut i = sizes.len();
+    let mut bits = 0;
+    while i > 0 {
+        i -= 1;
+        bits = sizes[i] | bits;
     }
-    true
+    bits <= LARGEST_SIZE
 }
 
 // 6, but for the order of the merges: lists that go together are equally long, and the range's first is not above its last.

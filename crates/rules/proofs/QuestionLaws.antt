@@ -7,13 +7,14 @@ use native.Mathlib.Nat.{lt-of-not-le}
 use native.Mathlib.Decide.{decLe}
 use native.Mathlib.Numerals.{add-one}
 use native.Mathlib.Omega.{arith}
+use lib.Bits.{bitOr, or-lt, or-add-and, and-le-l, and-le-r}
 use lib.Dec.{leb, ltb}
 use lib.ListN.{length, getD, drop, drop-of-length-le}
 use lib.Seq.{drop-cons}
 use borrow.Author.Tests.{lt-ltb, le-ltb, le-leb, lt-leb, leb-true, ltb-true}
 use Rattle.rules.specs.Slots.{Slots}
 use Rattle.rules.specs.Questions.{allOrdered, allWithin, rising, risingWithin, allSmall}
-use Rattle.rules.proofs.Laws.{drop-back}
+use Rattle.rules.proofs.Laws.{drop-back, run-out}
 
 -- ---- the loops: the item at n decides, or none is left
 
@@ -34,11 +35,7 @@ module _ (n : ℕ) (fs ls : List ℕ) where
 
   pub ordered-end : min (length fs) (length ls) ≤ n → allOrdered (drop n fs) (drop n ls) ≡ true
   unfolding allOrdered
-  ordered-end h =
-      elim (decLe (length fs) n) [
-        | yes p ↦ rw (drop-of-length-le fs p)
-        | no p ↦ let short : length ls ≤ n = omega (arith, lt-of-not-le p) in rw (drop-of-length-le ls short) (none-below (drop n fs))
-      ]
+  ordered-end h = run-out (λ (xs ys : List ℕ). allOrdered xs ys ≡ true) fs ls n h (λ ys. refl) none-below
 
 module _ (limit n : ℕ) (l : List ℕ) where
   pub within-yes : n < length l → getD l n 0 ≤ limit → allWithin limit (drop n l) ≡ allWithin limit (drop (n + 1) l)
@@ -53,21 +50,35 @@ module _ (limit n : ℕ) (l : List ℕ) where
   unfolding allWithin
   within-end h = rw (drop-of-length-le l h)
 
-module _ (n : ℕ) (l : List ℕ) where
-  pub rising-yes : 0 < n → n < length l → getD l (n - 1) 0 < getD l n 0 → rising (drop (n - 1) l) ≡ rising (drop ((n + 1) - 1) l)
-  unfolding rising
-  rising-yes h k p =
-      let e : (n + 1) - 1 ≡ n = omega arith in
-      let m : n ≤ length l = omega arith in
-      rw (e, drop-back l n 0, drop-cons l n 0, lt-ltb (getD l (n - 1) 0) (getD l n 0))
+-- the bits of two numbers together make a number within 30 bits, if both are
+or-small : (a b : ℕ) → leb (bitOr a b) 1073741823 ≡ (leb a 1073741823 && leb b 1073741823)
+or-small a b =
+    let sum = or-add-and a b in
+    elim (decLe a 1073741823) [
+      | no p ↦ rw (lt-leb a 1073741823 (lt-of-not-le p), lt-leb (bitOr a b) 1073741823 (omega (arith, lt-of-not-le p, sum, and-le-r a b)))
+      | yes p ↦
+          elim (decLe b 1073741823) [
+            | no q ↦ rw (le-leb a 1073741823 p, lt-leb b 1073741823 (lt-of-not-le q), lt-leb (bitOr a b) 1073741823 (omega (arith, lt-of-not-le q, sum, and-le-l a b)))
+            | yes q ↦ rw (le-leb a 1073741823 p, le-leb b 1073741823 q, le-leb (bitOr a b) 1073741823 (omega (arith, or-lt 30 a b (omega arith) (omega arith))))
+          ]
+    ]
 
-  pub rising-no : 0 < n → n < length l → getD l n 0 ≤ getD l (n - 1) 0 → rising (drop (n - 1) l) ≡ false
-  unfolding rising
-  rising-no h k p =
-      let m : n ≤ length l = omega arith in
-      rw (drop-back l n 0, drop-cons l n 0, le-ltb (getD l (n - 1) 0) (getD l n 0))
+-- one size more, from the last one back
+pub small-back : (i bits : ℕ) (l : List ℕ) → 0 < i → i ≤ length l → leb bits 1073741823 ≡ allSmall (drop i l)
+    → leb (bitOr (getD l (i - 1) 0) bits) 1073741823 ≡ allSmall (drop (i - 1) l)
+unfolding allSmall allWithin
+small-back i bits l h k e = or-small (getD l (i - 1) 0) bits ∙ rw (drop-back l i 0) (rw e)
 
--- none or one is left
+-- one index more, from the last one back
+pub rising-back : (i : ℕ) (l : List ℕ) → 1 < i → i ≤ length l
+    → rising (drop (i - 1 - 1) l) ≡ (ltb (getD l (i - 1 - 1) 0) (getD l (i - 1) 0) && rising (drop (i - 1) l))
+unfolding rising
+rising-back i l h k =
+    let p : 0 < i - 1 = omega arith in
+    let q : i - 1 ≤ length l = omega arith in
+    let z : 0 < i = omega arith in
+    rw (drop-back l (i - 1) 0 p q, drop-back l i 0 z k)
+
 pub rising-end : (n : ℕ) (l : List ℕ) → length l ≤ n + 1 → rising (drop n l) ≡ true
 unfolding rising
 rising-end zero [] h = refl

@@ -1,53 +1,49 @@
--- `questions::all_small` meets its contract. The loop's invariant: what the definition says of the items that are left, it says of all.
--- Assumes nothing.
-use mathlib.Core.Path.{_≡_, refl, sym, _∙_}
-use Prim.Native.Nat.{_-_, _≤_}
+-- `questions::all_small` meets its contract. The loop goes down, so that its invariant is the definition at the sizes passed. Assumes
+-- nothing.
+use mathlib.Core.Path.{_≡_, sym}
+use Prim.Native.Nat.{_≤_}
+use lib.Dec.{leb}
 use lib.ListN.{length, drop}
-use Rattle.rules.proofs.QuestionLaws.{within-yes, within-no, within-end}
-use Rattle.rules.specs.Questions.{allWithin, allSmall}
+use Rattle.rules.proofs.QuestionLaws.{small-back, within-end}
+use Rattle.rules.specs.Questions.{allSmall}
 use borrow.Author.Needs.{needs}
+use native.Mathlib.Omega.{arith}
 use Rattle.questions.proofs.all_small.Statement.{statement}
 use Rattle.questions.proofs.all_small.Tie as tie
 
 abbrev Inv-loop : tie.InvT-loop
-Inv-loop sizes n₀ n = (n ≤ length sizes) × (allWithin 1073741823 (drop n sizes) ≡ allSmall sizes)
+Inv-loop sizes i₀ bits₀ i bits = (i ≤ length sizes) × (leb bits 1073741823 ≡ allSmall (drop i sizes))
 
 abbrev μ-loop : tie.MeasureT-loop
-μ-loop sizes n₀ n = length sizes - n
+μ-loop sizes i₀ bits₀ i bits = i
 
 loop-holds : tie.Need-loop-holds Inv-loop μ-loop
 unfolding allSmall
-loop-holds c = (search needs, refl)
+loop-holds c =
+    let ss = c .args .sizes .now in
+    (omega arith, sym (within-end 1073741823 (length ss) ss (omega arith)))
 
-mul-if1 : tie.Need-mul-if1 Inv-loop μ-loop
-mul-if1 c = search needs
+sub-i : tie.Need-sub-i Inv-loop μ-loop
+sub-i c = search needs
 
-shared-slice-read-if1 : tie.Need-shared-slice-read-if1 Inv-loop μ-loop
-shared-slice-read-if1 c = search needs
+mul-bits : tie.Need-mul-bits Inv-loop μ-loop
+mul-bits c = search needs
 
-returns : tie.Need-returns Inv-loop μ-loop
-returns c =
-    let l = c .before .before .before .loop in
-    let a = c .before .before .before .before .args in
-    sym (within-no 1073741823 (l .n) (a .sizes .now) (c .before .before .loop-test .taken) (c .if1 .taken)) ∙ l .inv .1
-
-add-n : tie.Need-add-n Inv-loop μ-loop
-add-n c = search needs
+shared-slice-read-bits : tie.Need-shared-slice-read-bits Inv-loop μ-loop
+shared-slice-read-bits c = search needs
 
 loop-less : tie.Need-loop-less Inv-loop μ-loop
 loop-less c = search needs
 
 loop-again : tie.Need-loop-again Inv-loop μ-loop
 loop-again c =
-    let l = c .before .before .before .loop in
-    let a = c .before .before .before .before .args in
-    (search needs, sym (within-yes 1073741823 (l .n) (a .sizes .now) (c .before .before .loop-test .taken) (c .if1 .left)) ∙ l .inv .1)
+    let l = c .before .before .loop in
+    (omega arith, small-back (l .i) (l .bits) (c .before .before .before .args .sizes .now) (omega arith) (l .inv .0) (l .inv .1))
 
-returns-2 : tie.Need-returns-2 Inv-loop μ-loop
-returns-2 c =
-    let l = c .before .loop in
-    let a = c .before .before .args in
-    sym (within-end 1073741823 (l .n) (a .sizes .now) (c .loop-test .left)) ∙ l .inv .1
+returns : tie.Need-returns Inv-loop μ-loop
+returns c =
+    let z : c .before .loop .i ≡ 0 = omega arith in
+    rw z at (c .before .loop .inv .1)
 
 pub all-small-spec : {M : Type 1} → statement M
 all-small-spec =
@@ -56,10 +52,9 @@ all-small-spec =
     Inv-loop
     μ-loop
     loop-holds
-    mul-if1
-    shared-slice-read-if1
-    returns
-    add-n
+    sub-i
+    mul-bits
+    shared-slice-read-bits
     loop-less
     loop-again
-    returns-2)
+    returns)

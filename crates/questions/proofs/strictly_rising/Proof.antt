@@ -1,60 +1,61 @@
--- `questions::strictly_rising` meets its contract. The loop's invariant: the indexes from the last one passed on rise as all do. Assumes nothing.
-use mathlib.Core.Path.{_≡_, refl, sym, _∙_}
+-- `questions::strictly_rising` meets its contract. The loop goes down, so that its invariant is the definition at the indexes passed.
+-- Assumes nothing.
+use mathlib.Core.Path.{_≡_, sym, ap, _∙_}
+use mathlib.Core.Bool.{Bool, _&&_}
 use Prim.Native.Nat.{_-_, _≤_}
-use lib.ListN.{length, drop}
-use Rattle.rules.proofs.QuestionLaws.{rising-yes, rising-no, rising-end}
+use lib.Dec.{ltb}
+use lib.ListN.{length, getD, drop}
+use Rattle.rules.proofs.QuestionLaws.{rising-back, rising-end}
 use Rattle.rules.specs.Questions.{rising}
 use borrow.Author.Needs.{needs}
+use native.Mathlib.Omega.{arith}
 use Rattle.questions.proofs.strictly_rising.Statement.{statement}
 use Rattle.questions.proofs.strictly_rising.Tie as tie
 
 abbrev Inv-loop : tie.InvT-loop
-Inv-loop indexes n₀ n = (1 ≤ n) × (rising (drop (n - 1) indexes) ≡ rising indexes)
+Inv-loop indexes i₀ rises₀ i rises = (i ≤ length indexes) × (rises ≡ rising (drop (i - 1) indexes))
 
 abbrev μ-loop : tie.MeasureT-loop
-μ-loop indexes n₀ n = length indexes - n
+μ-loop indexes i₀ rises₀ i rises = i
 
 loop-holds : tie.Need-loop-holds Inv-loop μ-loop
-loop-holds c = (search needs, refl)
+loop-holds c =
+    let is = c .args .indexes .now in
+    (omega arith, sym (rising-end (length is - 1) is (omega arith)))
 
-sub-if1 : tie.Need-sub-if1 Inv-loop μ-loop
-sub-if1 c = search needs
+sub-i : tie.Need-sub-i Inv-loop μ-loop
+sub-i c = search needs
 
-mul-if1 : tie.Need-mul-if1 Inv-loop μ-loop
-mul-if1 c = search needs
+sub-rises : tie.Need-sub-rises Inv-loop μ-loop
+sub-rises c = search needs
 
-shared-slice-read-if1 : tie.Need-shared-slice-read-if1 Inv-loop μ-loop
-shared-slice-read-if1 c = search needs
+mul-rises : tie.Need-mul-rises Inv-loop μ-loop
+mul-rises c = search needs
 
-mul-if1-2 : tie.Need-mul-if1-2 Inv-loop μ-loop
-mul-if1-2 c = search needs
+shared-slice-read-rises : tie.Need-shared-slice-read-rises Inv-loop μ-loop
+shared-slice-read-rises c = search needs
 
-shared-slice-read-if1-2 : tie.Need-shared-slice-read-if1-2 Inv-loop μ-loop
-shared-slice-read-if1-2 c = search needs
+mul-rises-2 : tie.Need-mul-rises-2 Inv-loop μ-loop
+mul-rises-2 c = search needs
 
-returns : tie.Need-returns Inv-loop μ-loop
-returns c =
-    let l = c .before .before .before .before .loop in
-    let a = c .before .before .before .before .before .args in
-    sym (rising-no (l .n) (a .indexes .now) (search needs) (c .before .before .before .loop-test .taken) (c .if1 .taken)) ∙ l .inv .1
-
-add-n : tie.Need-add-n Inv-loop μ-loop
-add-n c = search needs
+shared-slice-read-rises-2 : tie.Need-shared-slice-read-rises-2 Inv-loop μ-loop
+shared-slice-read-rises-2 c = search needs
 
 loop-less : tie.Need-loop-less Inv-loop μ-loop
 loop-less c = search needs
 
 loop-again : tie.Need-loop-again Inv-loop μ-loop
 loop-again c =
-    let l = c .before .before .before .before .loop in
-    let a = c .before .before .before .before .before .args in
-    (search needs, sym (rising-yes (l .n) (a .indexes .now) (search needs) (c .before .before .before .loop-test .taken) (c .if1 .left)) ∙ l .inv .1)
+    let l = c .before .before .before .loop in
+    let is = c .before .before .before .before .args .indexes .now in (
+      omega arith,
+      ap (λ (b : Bool). ltb (getD is (l .i - 1 - 1) 0) (getD is (l .i - 1) 0) && b) (l .inv .1) ∙ sym (rising-back (l .i) is (c .before .before .loop-test .taken) (l .inv .0)),
+    )
 
-returns-2 : tie.Need-returns-2 Inv-loop μ-loop
-returns-2 c =
-    let l = c .before .loop in
-    let a = c .before .before .args in
-    sym (rising-end (l .n - 1) (a .indexes .now) (search needs)) ∙ l .inv .1
+returns : tie.Need-returns Inv-loop μ-loop
+returns c =
+    let z : c .before .loop .i - 1 ≡ 0 = omega arith in
+    rw z at (c .before .loop .inv .1)
 
 pub strictly-rising-spec : {M : Type 1} → statement M
 strictly-rising-spec =
@@ -63,13 +64,12 @@ strictly-rising-spec =
     Inv-loop
     μ-loop
     loop-holds
-    sub-if1
-    mul-if1
-    shared-slice-read-if1
-    mul-if1-2
-    shared-slice-read-if1-2
-    returns
-    add-n
+    sub-i
+    sub-rises
+    mul-rises
+    shared-slice-read-rises
+    mul-rises-2
+    shared-slice-read-rises-2
     loop-less
     loop-again
-    returns-2)
+    returns)
