@@ -3,11 +3,10 @@ use rules::AxisRange;
 use rules::AxisSetup;
 ghost use mathlib.Core.Path.{_≡_};
 ghost use Prim.Native.Nat.{min, max};
-ghost use Rattle.rules.specs.Questions.{allOrdered, allWithin, rising, risingWithin, allSmall, equallyLong};
+ghost use Rattle.rules.specs.Questions.{noOr, allOrdered, wellFormed, allWithin, rising, risingWithin, allSmall};
 ghost use mathlib.Core.Bool.{_&&_};
 ghost use mathlib.Core.List.{[]};
 ghost use lib.Dec.{leb};
-ghost use Rattle.rules.specs.Partition.{noOr};
 ghost use Rattle.rules.specs.Plan as call;
 ghost use Rattle.rules.specs.Partition as partition;
 
@@ -115,53 +114,6 @@ pub fn all_small(sizes: &[u64]) -> bool
     bits <= LARGEST_SIZE
 }
 
-// 6, but for the order of the merges: lists that go together are equally long, and the range's first is not above its last.
-fn well_shaped(
-    setup: AxisSetup,
-    indexes: &[u32],
-    sizes: &[u64],
-    merge_firsts: &[u32],
-    merge_lasts: &[u32],
-    lent_even: bool,
-) -> bool
-    ensures { λ r. ⌜ r ≡ partition.shaped setup (now (indexes .entry)) (now (sizes .entry)) (now («merge_firsts» .entry)) (now («merge_lasts» .entry)) «lent_even» ⌝ }
-{
-    (indexes.len() == sizes.len())
-        & (merge_firsts.len() == merge_lasts.len())
-        & lent_even
-        & (setup.first <= setup.last)
-}
-
-// The first of the questions 6 to 9 whose answer is no, or 0.
-pub fn partition_refusal(
-    limit: u32,
-    setup: AxisSetup,
-    indexes: &[u32],
-    sizes: &[u64],
-    merge_firsts: &[u32],
-    merge_lasts: &[u32],
-    lent_even: bool,
-) -> u8
-    ensures { λ r. ⌜ r ≡ partition.firstNo limit setup (now (indexes .entry)) (now (sizes .entry)) (now («merge_firsts» .entry)) (now («merge_lasts» .entry)) «lent_even» ⌝ }
-{
-    if !well_shaped(setup, indexes, sizes, merge_firsts, merge_lasts, lent_even) {
-        return 6;
-    }
-    if !pairs_ordered(merge_firsts, merge_lasts) {
-        return 6;
-    }
-    if setup.last > limit {
-        return 7;
-    }
-    if !all_within(merge_lasts, limit) {
-        return 7;
-    }
-    if !rising_within(indexes, limit) {
-        return 8;
-    }
-    if all_small(sizes) { 0 } else { 9 }
-}
-
 // 6 of an axis: its lists are equally long, and no first is above its last.
 fn formed(
     first: u32,
@@ -172,7 +124,7 @@ fn formed(
     merge_firsts: &[u32],
     merge_lasts: &[u32],
 ) -> bool
-    ensures { λ r. ⌜ r ≡ (equallyLong (now (indexes .entry)) (now (sizes .entry)) && equallyLong (now («merge_firsts» .entry)) (now («merge_lasts» .entry)) && «lent_even» && leb first last && allOrdered (now («merge_firsts» .entry)) (now («merge_lasts» .entry))) ⌝ }
+    ensures { λ r. ⌜ r ≡ wellFormed first last «lent_even» (now (indexes .entry)) (now (sizes .entry)) (now («merge_firsts» .entry)) (now («merge_lasts» .entry)) ⌝ }
 {
     (indexes.len() == sizes.len())
         & (merge_firsts.len() == merge_lasts.len())
@@ -191,7 +143,34 @@ fn in_grid(limit: u32, last: u32, merge_lasts: &[u32]) -> bool
     all_within(merge_lasts, limit)
 }
 
-// The first of the questions 6 to 9 whose answer is no, or 0.
+// The first of the questions 6 to 9 of one axis whose answer is no, or 0.
+pub fn partition_refusal(
+    limit: u32,
+    setup: AxisSetup,
+    indexes: &[u32],
+    sizes: &[u64],
+    merge_firsts: &[u32],
+    merge_lasts: &[u32],
+    lent_even: bool,
+) -> u8
+    ensures { λ r. ⌜ r ≡ partition.firstNo limit setup (now (indexes .entry)) (now (sizes .entry)) (now («merge_firsts» .entry)) (now («merge_lasts» .entry)) «lent_even» ⌝ }
+{
+    let six = formed(
+        setup.first,
+        setup.last,
+        lent_even,
+        indexes,
+        sizes,
+        merge_firsts,
+        merge_lasts,
+    );
+    let seven = in_grid(limit, setup.last, merge_lasts);
+    let eight = rising_within(indexes, limit);
+    let nine = all_small(sizes);
+    first_refused(six, seven, eight, nine)
+}
+
+// The first of the questions 6 to 9 of both axes whose answer is no, or 0.
 pub fn plan_refusal(
     row_axis: AxisRange,
     column_axis: AxisRange,

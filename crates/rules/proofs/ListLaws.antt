@@ -14,10 +14,10 @@ use borrow.Author.Tests.{le-leb, lt-leb, leb-true}
 use Rattle.geometry.specs.Outcome.{Outcome, given, refused}
 use Rattle.rules.specs.declared.pages.Page.{Page}
 use Rattle.rules.specs.declared.pages.Plan.{Plan}
-use Rattle.rules.specs.Questions.{ask}
-use Rattle.rules.specs.Partition.{Even, noOr}
+use Rattle.rules.specs.Questions.{ask, noOr}
+use Rattle.rules.specs.Partition.{Even}
 use Rattle.rules.specs.Pages.{RunLists, pageAt, inOrder, pagesOf, evenLists, numbered, pageNumbered, pageAfter, listPages, pagesLent, countIn, pageCount, listsNo}
-use Rattle.rules.proofs.QuestionLaws.{both}
+use Rattle.rules.proofs.QuestionLaws.{asked-no, asked-yes, no-number, both}
 use Rattle.rules.proofs.Division.{split}
 use Rattle.rules.proofs.PageLaws.{numbered-first, page-count}
 use Rattle.rules.proofs.PagesCode.{is-page, page-some, even-of}
@@ -73,14 +73,10 @@ module _ (p : Plan) (even : Bool) (rows columns : ℕ) where
 -- ---- what is answered
 
 stops : {A : Type 0} (a b : Bool) (k : ℕ) (o : Outcome A) → k ≡ noOr 6 a (noOr 11 b 0) → 0 < k → refused k ≡ ask 6 a (ask 11 b o)
-stops false b k o e h = ap refused e
-stops true false k o e h = ap refused e
-stops true true k o e h = absurd (omega arith)
+stops a b k o e h = sym (rw e (asked-no 6 a _ _ (asked-no 11 b 0 o (no-number o)) (rw e at h)))
 
 goes : {A : Type 0} (a b : Bool) (o : Outcome A) → 0 ≡ noOr 6 a (noOr 11 b 0) → o ≡ ask 6 a (ask 11 b o)
-goes false b o e = absurd (omega arith)
-goes true false o e = absurd (omega arith)
-goes true true o e = refl
+goes a b o e = let six = asked-yes 6 a _ (omega arith) e in rw (six .0, asked-yes 11 b _ (omega arith) (six .1) .0)
 
 module _ (p : Plan) (room : ℕ) (rows columns : RunLists) (a b : Bool) (k : ℕ) (ea : a ≡ evenLists rows) (eb : b ≡ evenLists columns)
     (e : k ≡ listsNo p (a && b) (length (rows .firsts)) (length (columns .firsts))) where

@@ -18,11 +18,11 @@ use Rattle.rules.specs.declared.pages.PageRun.{PageRun}
 use Rattle.rules.specs.declared.pages.Page.{Page}
 use Rattle.rules.specs.declared.pages.Place.{Place}
 use Rattle.rules.specs.declared.pages.Plan.{Plan}
-use Rattle.rules.specs.Questions.{ask, equallyLong}
-use Rattle.rules.specs.Partition.{Even, noOr}
+use Rattle.rules.specs.Questions.{ask, equallyLong, noOr}
+use Rattle.rules.specs.Partition.{Even}
 use Rattle.rules.specs.Scale.{Space, fitsSide, printed}
 use Rattle.rules.specs.Pages.{overflowing, RunLists, runAt, pageAt, inOrder, pagesOf, evenLists, numbered, pageNumbered, placeOf, pageAfter, hasPage, listsNo, firstNo}
-use Rattle.rules.proofs.QuestionLaws.{both}
+use Rattle.rules.proofs.QuestionLaws.{asked-no, asked-yes, both}
 use Rattle.rules.proofs.Division.{split}
 use Rattle.rules.proofs.PageLaws.{numbered-zero, numbered-take, numbered-take-past, page-of, page-beyond}
 
@@ -173,17 +173,19 @@ module _ (p : Plan) (n : ℕ) (even : Bool) (rows columns k : ℕ) (e : k ≡ li
 -- a no refuses with its number
 stops : {A : Type 0} (a b d : Bool) (k : ℕ) (o : Outcome A) → k ≡ noOr 6 a (noOr 11 b (noOr 14 d 0)) → 0 < k → (d ≡ false → o ≡ refused 14)
     → refused k ≡ ask 6 a (ask 11 b o)
-stops false b d k o e h f = ap refused e
-stops true false d k o e h f = ap refused e
-stops true true false k o e h f = ap refused e ∙ sym (f refl)
-stops true true true k o e h f = absurd (omega arith)
+stops a b d k o e h f =
+    sym (rw e (asked-no 6 a _ _ (asked-no 11 b _ _ (last d f)) (rw e at h)))
+  where
+    last : (d : Bool) → (d ≡ false → o ≡ refused 14) → 0 < noOr 14 d 0 → o ≡ refused (noOr 14 d 0)
+    last false f z = f refl
+    last true f z = absurd (omega arith)
 
 -- none: every answer is yes
 goes : (a b d : Bool) → 0 ≡ noOr 6 a (noOr 11 b (noOr 14 d 0)) → (a ≡ true) × (b ≡ true) × (d ≡ true)
-goes false b d e = absurd (omega arith)
-goes true false d e = absurd (omega arith)
-goes true true false e = absurd (omega arith)
-goes true true true e = (refl, refl, refl)
+goes a b d e =
+    let six = asked-yes 6 a _ (omega arith) e in
+    let eleven = asked-yes 11 b _ (omega arith) (six .1) in
+    (six .0, eleven .0, asked-yes 14 d _ (omega arith) (eleven .1) .0)
 
 pub even-of : (l : RunLists) → evenLists l ≡ true → Even (l .firsts) (l .lasts) (l .sizes) (l .marks)
 even-of l h =

@@ -16,73 +16,34 @@ use Rattle.rules.specs.declared.partition.Partition.the-variants.{Value,
 use Rattle.rules.specs.declared.runs.Frame.{Frame}
 use Rattle.rules.specs.declared.runs.Tally.{Tally}
 use Rattle.rules.specs.Slots.{Slots, below, mid}
-use Rattle.rules.specs.Questions.{ask, equallyLong, allOrdered, allWithin, risingWithin, allSmall}
+use Rattle.rules.specs.Questions.{ask, noOr, equallyLong, wellFormed, allOrdered, allWithin, risingWithin, allSmall}
 use Rattle.rules.specs.Titles.{bodyStart}
 use Rattle.rules.specs.Runs.{Run, runsBy, runs, firstMarked, stretch, kept, placed, nextCut, axisRuns, shifts, expansions, tallies, axisTally}
 use Rattle.rules.specs.Lent.{Written}
-use Rattle.rules.specs.Partition.{shaped, lentEven, noOr, firstNo, fits, partition, Even, frameOf, bodyRuns, bodyTally, roomFor, Answered}
+use Rattle.rules.specs.Partition.{lentEven, firstNo, fits, partition, Even, frameOf, bodyRuns, bodyTally, roomFor, Answered}
 use Rattle.rules.proofs.Laws.{either-lt}
-use Rattle.rules.proofs.QuestionLaws.{both, slots-of}
-
--- ---- the first no, way by way
-
-module _ (limit : ℕ) (s : AxisSetup) (is ss fs ls : List ℕ) (e : Bool) where
-  pub no-shape : shaped s is ss fs ls e ≡ false → 6 ≡ firstNo limit s is ss fs ls e
-  unfolding firstNo
-  no-shape h = rw h
-
-  module _ (shape : shaped s is ss fs ls e ≡ true) where
-    pub no-order : allOrdered fs ls ≡ false → 6 ≡ firstNo limit s is ss fs ls e
-    unfolding firstNo
-    no-order h = rw (shape, h)
-
-    module _ (order : allOrdered fs ls ≡ true) where
-      pub no-range : limit < s .last → 7 ≡ firstNo limit s is ss fs ls e
-      unfolding firstNo
-      no-range h = rw (shape, order, lt-leb (s .last) limit h)
-
-      module _ (range : s .last ≤ limit) where
-        pub no-grid : allWithin limit ls ≡ false → 7 ≡ firstNo limit s is ss fs ls e
-        unfolding firstNo
-        no-grid h = rw (shape, order, le-leb (s .last) limit range, h)
-
-        module _ (grid : allWithin limit ls ≡ true) where
-          pub no-rise : risingWithin limit is ≡ false → 8 ≡ firstNo limit s is ss fs ls e
-          unfolding firstNo
-          no-rise h = rw (shape, order, le-leb (s .last) limit range, grid, h)
-
-          module _ (rise : risingWithin limit is ≡ true) where
-            pub no-size : allSmall ss ≡ false → 9 ≡ firstNo limit s is ss fs ls e
-            unfolding firstNo
-            no-size h = rw (shape, order, le-leb (s .last) limit range, grid, rise, h)
-
-            pub no-no : allSmall ss ≡ true → 0 ≡ firstNo limit s is ss fs ls e
-            unfolding firstNo
-            no-no h = rw (shape, order, le-leb (s .last) limit range, grid, rise, h)
+use Rattle.rules.proofs.QuestionLaws.{asked-no, asked-yes, no-number, both, slots-of}
 
 -- ---- what the first no says of the whole
 
 -- a no refuses with its number
 pub stops : {A : Type 0} (a b c d : Bool) (n : ℕ) (o : Outcome A) → n ≡ noOr 6 a (noOr 7 b (noOr 8 c (noOr 9 d 0))) → 0 < n
     → ask 6 a (ask 7 b (ask 8 c (ask 9 d o))) ≡ refused n
-stops false b c d n o e h = ap refused (sym e)
-stops true false c d n o e h = ap refused (sym e)
-stops true true false d n o e h = ap refused (sym e)
-stops true true true false n o e h = ap refused (sym e)
-stops true true true true n o e h = absurd (omega arith)
+stops a b c d n o e h =
+    rw e (asked-no 6 a _ _ (asked-no 7 b _ _ (asked-no 8 c _ _ (asked-no 9 d 0 o (no-number o)))) (rw e at h))
 
 -- none: every answer is yes
 pub goes : (a b c d : Bool) → 0 ≡ noOr 6 a (noOr 7 b (noOr 8 c (noOr 9 d 0))) → (a ≡ true) × (b ≡ true) × (c ≡ true) × (d ≡ true)
-goes false b c d e = absurd (omega arith)
-goes true false c d e = absurd (omega arith)
-goes true true false d e = absurd (omega arith)
-goes true true true false e = absurd (omega arith)
-goes true true true true e = (refl, refl, refl, refl)
+goes a b c d e =
+    let six = asked-yes 6 a _ (omega arith) e in
+    let seven = asked-yes 7 b _ (omega arith) (six .1) in
+    let eight = asked-yes 8 c _ (omega arith) (seven .1) in
+    (six .0, seven .0, eight .0, asked-yes 9 d _ (omega arith) (eight .1) .0)
 
 module _ (limit : ℕ) (s : AxisSetup) (is ss fs ls bs f l z m : List ℕ) (n : ℕ) (e : n ≡ firstNo limit s is ss fs ls (lentEven f l z m)) where
   pub is-refused : 0 < n → partition limit s is ss fs ls bs f l z m ≡ refused n
   unfolding partition firstNo
-  is-refused h = stops (shaped s is ss fs ls (lentEven f l z m) && allOrdered fs ls) (leb (s .last) limit && allWithin limit ls) (risingWithin limit is) (allSmall ss) n _ e h
+  is-refused h = stops (wellFormed (s .first) (s .last) (lentEven f l z m) is ss fs ls) (leb (s .last) limit && allWithin limit ls) (risingWithin limit is) (allSmall ss) n _ e h
 
   -- what the private functions rely on
   pub record Asked : Type 0 where
@@ -91,13 +52,12 @@ module _ (limit : ℕ) (s : AxisSetup) (is ss fs ls bs f l z m : List ℕ) (n : 
     pub goes-on : partition limit s is ss fs ls bs f l z m ≡ fits s is ss fs ls bs (length f)
 
   pub is-asked : n ≤ 0 → limit ≤ 1048575 → Asked
-  unfolding partition firstNo shaped
+  unfolding partition firstNo
   is-asked h bound =
-      let a = shaped s is ss fs ls (lentEven f l z m) && allOrdered fs ls in
       let z0 : 0 ≡ n = omega arith in
-      let y = goes a (leb (s .last) limit && allWithin limit ls) (risingWithin limit is) (allSmall ss) (z0 ∙ e) in
-      let shape = both (shaped s is ss fs ls (lentEven f l z m)) (allOrdered fs ls) (y .0) .0 in
-      let upto = both (equallyLong is ss && equallyLong fs ls && lentEven f l z m) (leb (s .first) (s .last)) shape .0 in
+      let y = goes (wellFormed (s .first) (s .last) (lentEven f l z m) is ss fs ls) (leb (s .last) limit && allWithin limit ls) (risingWithin limit is) (allSmall ss) (z0 ∙ e) in
+      let five = both (equallyLong is ss && equallyLong fs ls && lentEven f l z m && leb (s .first) (s .last)) (allOrdered fs ls) (y .0) .0 in
+      let upto = both (equallyLong is ss && equallyLong fs ls && lentEven f l z m) (leb (s .first) (s .last)) five .0 in
       let four = both (equallyLong is ss && equallyLong fs ls) (lentEven f l z m) upto in
       let two = both (equallyLong is ss) (equallyLong fs ls) (four .0) in
       let lent = both (equallyLong f l && equallyLong f z) (equallyLong f m) (four .1) in

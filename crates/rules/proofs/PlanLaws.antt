@@ -24,15 +24,15 @@ use Rattle.rules.specs.declared.plan.FinalCut.{FinalCut}
 use Rattle.rules.specs.declared.plan.Planning.{Planning}
 use Rattle.rules.specs.declared.plan.Planning.the-variants.{Value, Refused}
 use Rattle.rules.specs.Slots.{Slots, sum, below}
-use Rattle.rules.specs.Questions.{ask, equallyLong, allOrdered, allWithin, risingWithin, allSmall}
+use Rattle.rules.specs.Questions.{ask, equallyLong, allOrdered, allWithin, risingWithin, allSmall, noOr}
 use Rattle.rules.specs.Titles.{limitOf, widened, bodyStart}
 use Rattle.rules.specs.Runs.{Run, axisRuns, shifts, expansions, tallies}
 use Rattle.rules.specs.Lent.{firsts, lasts, sizes, marks, Room, Written}
-use Rattle.rules.specs.Partition.{lentEven, noOr, Even}
+use Rattle.rules.specs.Partition.{lentEven, Even}
 use Rattle.rules.specs.Scale.{Scale, Space, spaceOf, bodyFor, frameFor, fitsSide, printed, axisPasses, fitPasses, fitScale, fixedScale}
 use Rattle.rules.specs.Pages.{RunLists, runLists, evenLists, none, orEmpty, overflowing, Moderate}
 use Rattle.rules.specs.Plan.{AxisInput, rowsOf, columnsOf, AreRows, AreColumns, Sides, titleOf, startOf, bodyPart, bodyOf, spaceOn, lookedAt, contentSides, chosenScale, cutRuns, cutShifts, pageRuns, overflows, Layout, planOf, layoutAt, layout, RunsLent, roomFor, planned, formed, inGrid, firstNo, Planned, axisFor, Fine, ReadyFor, within, readyFrame, readyRuns, readyShifts, cutOf, cutFrom, roomNo, Cuttable}
-use Rattle.rules.proofs.QuestionLaws.{both, slots-of}
+use Rattle.rules.proofs.QuestionLaws.{asked-no, asked-yes, no-number, both, slots-of}
 use Rattle.rules.proofs.PartitionLaws.{stops, goes}
 use Rattle.rules.proofs.Laws.{either}
 use Rattle.rules.proofs.EndLaws.{below-le}
@@ -276,21 +276,14 @@ module _ (l : Layout) (m n row-room column-room limit r : ℕ) (rows-are : lengt
 
   pub room-refused : 0 < r → roomFor l row-room column-room limit ≡ refused r
   unfolding roomFor
-  room-refused h = go fits few by-number
-    where
-      go : (p q : Bool) → r ≡ noOr 11 p (noOr 12 q 0) → ask 11 p (ask 12 q (given l)) ≡ refused r
-      go true true e = absurd (omega arith)
-      go true false e = ap refused (sym e)
-      go false q e = ap refused (sym e)
+  room-refused h = rw by-number (asked-no 11 fits _ _ (asked-no 12 few 0 (given l) (no-number (given l))) (rw by-number at h))
 
   module _ (h : r ≤ 0) where
     both-yes : (fits ≡ true) × (few ≡ true)
-    both-yes = go fits few by-number
-      where
-        go : (p q : Bool) → r ≡ noOr 11 p (noOr 12 q 0) → (p ≡ true) × (q ≡ true)
-        go true true e = (refl, refl)
-        go true false e = absurd (omega arith)
-        go false q e = absurd (omega arith)
+    both-yes =
+        let z : 0 ≡ r = omega arith in
+        let eleven = asked-yes 11 fits _ (omega arith) (z ∙ by-number) in
+        (eleven .0, asked-yes 12 few _ (omega arith) (eleven .1) .0)
 
     pub room-given : roomFor l row-room column-room limit ≡ given l
     unfolding roomFor

@@ -13,8 +13,25 @@ use lib.ListN.{length, getD, drop, drop-of-length-le}
 use lib.Seq.{drop-cons}
 use borrow.Author.Tests.{lt-ltb, le-ltb, le-leb, lt-leb, leb-true, ltb-true}
 use Rattle.rules.specs.Slots.{Slots}
-use Rattle.rules.specs.Questions.{allOrdered, allWithin, rising, risingWithin, allSmall}
+use Rattle.geometry.specs.Outcome.{Outcome, refused}
+use Rattle.rules.specs.Questions.{ask, noOr, allOrdered, allWithin, rising, risingWithin, allSmall}
 use Rattle.rules.proofs.Laws.{drop-back, run-out}
+
+-- ---- questions one after another, and the number of the first no
+
+-- a no refuses with its number, if what comes after it does so with the number that comes after
+pub asked-no : {A : Type 0} (n : ℕ) (b : Bool) (k : ℕ) (o : Outcome A) → (0 < k → o ≡ refused k) → 0 < noOr n b k → ask n b o ≡ refused (noOr n b k)
+asked-no n true k o f h = f h
+asked-no n false k o f h = refl
+
+-- none: the answer is yes, and there is none after it
+pub asked-yes : (n : ℕ) (b : Bool) (k : ℕ) → 0 < n → 0 ≡ noOr n b k → (b ≡ true) × (0 ≡ k)
+asked-yes n true k p e = (refl, e)
+asked-yes n false k p e = absurd (omega arith)
+
+-- no number refuses nothing
+pub no-number : {A : Type 0} (o : Outcome A) → 0 < 0 → o ≡ refused 0
+no-number o h = absurd (omega arith)
 
 -- ---- the loops: the item at n decides, or none is left
 

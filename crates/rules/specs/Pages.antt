@@ -17,10 +17,10 @@ use Rattle.rules.specs.declared.pages.PageAnswer.{PageAnswer}
 use Rattle.rules.specs.declared.pages.PageAnswer.the-variants.{Value, Refused}
 use Rattle.rules.specs.declared.pages.Listing.{Listing}
 use Rattle.rules.specs.declared.pages.Listing.the-variants as listing
-use Rattle.rules.specs.Questions.{ask}
+use Rattle.rules.specs.Questions.{ask, noOr}
 use Rattle.rules.specs.Titles.{pastTitle}
 use Rattle.rules.specs.Runs.{Run}
-use Rattle.rules.specs.Partition.{lentEven, noOr}
+use Rattle.rules.specs.Partition.{lentEven}
 use Rattle.rules.specs.Scale.{Space, fitsSide, printed}
 
 -- ---- the runs that pages are made of

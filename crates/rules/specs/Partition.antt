@@ -13,7 +13,7 @@ use Rattle.rules.specs.declared.partition.AxisSetup.{AxisSetup}
 use Rattle.rules.specs.declared.partition.Partition.{Partition}
 use Rattle.rules.specs.declared.partition.Partition.the-variants.{Value, Refused}
 use Rattle.rules.specs.Slots.{below, mid, written}
-use Rattle.rules.specs.Questions.{ask, equallyLong, allOrdered, allWithin, risingWithin, allSmall}
+use Rattle.rules.specs.Questions.{ask, noOr, wellFormed, allWithin, risingWithin, allSmall}
 use Rattle.rules.specs.Titles.{bodyStart}
 use Rattle.rules.specs.Runs.{Run, axisRuns, axisTally}
 use Rattle.rules.specs.Lent.{firsts, lasts, sizes, marks}
@@ -32,10 +32,6 @@ bodyRuns s is ss fs ls bs = axisRuns (frameOf s) fs ls (bodyOf s is is) (bodyOf 
 unfoldable pub bodyTally : AxisSetup → List ℕ → List ℕ → List ℕ → List ℕ → List ℕ → Tally
 bodyTally s is ss fs ls bs = axisTally (frameOf s) fs ls (bodyOf s is is) (bodyOf s is ss) bs
 
--- 6 of an axis: its slots, its merges and the four lent lists, by their lengths, and the range
-unfoldable pub shaped : AxisSetup → List ℕ → List ℕ → List ℕ → List ℕ → Bool → Bool
-shaped s is ss fs ls even-lent = equallyLong is ss && equallyLong fs ls && even-lent && leb (s .first) (s .last)
-
 -- "Items read, and row and column runs, fit their lent lists?", then what was counted
 abbrev pub roomFor : List Run → Tally → ℕ → Outcome Tally
 roomFor rs t room = ask 11 (leb (length rs) room) (given t)
@@ -53,7 +49,7 @@ lentEven f l s m = evenLengths (length f) (length l) (length s) (length m)
 -- questions 6, 7, 8, 9 and 11 in order, then how many runs, expansions and shifts; f, l, z and m are the lent lists
 unfoldable pub partition : ℕ → AxisSetup → List ℕ → List ℕ → List ℕ → List ℕ → List ℕ → List ℕ → List ℕ → List ℕ → List ℕ → Outcome Tally
 partition limit s is ss fs ls bs f l z m =
-    ask 6 (shaped s is ss fs ls (lentEven f l z m) && allOrdered fs ls)
+    ask 6 (wellFormed (s .first) (s .last) (lentEven f l z m) is ss fs ls)
     (ask 7 (leb (s .last) limit && allWithin limit ls)
     (ask 8 (risingWithin limit is)
     (ask 9 (allSmall ss)
@@ -85,13 +81,8 @@ pub record Even (f l s m : List ℕ) : Type 0 where
   pub sizes-even : length f ≡ length s
   pub marks-even : length f ≡ length m
 
--- the number of a question whose answer is no, or what comes after it
-abbrev pub noOr : ℕ → Bool → ℕ → ℕ
-noOr n true rest = rest
-noOr n false rest = n
-
 -- the first of the questions 6 to 9 with the answer no, or 0
 unfoldable pub firstNo : ℕ → AxisSetup → List ℕ → List ℕ → List ℕ → List ℕ → Bool → ℕ
 firstNo limit s is ss fs ls even-lent =
-    noOr 6 (shaped s is ss fs ls even-lent && allOrdered fs ls)
+    noOr 6 (wellFormed (s .first) (s .last) even-lent is ss fs ls)
     (noOr 7 (leb (s .last) limit && allWithin limit ls) (noOr 8 (risingWithin limit is) (noOr 9 (allSmall ss) 0)))

@@ -27,11 +27,11 @@ use Rattle.rules.specs.declared.plan.SidesFound.the-variants as found
 use Rattle.rules.specs.declared.plan.Planning.{Planning}
 use Rattle.rules.specs.declared.plan.Planning.the-variants.{Value, Refused}
 use Rattle.rules.specs.Slots.{Slots, below, mid}
-use Rattle.rules.specs.Questions.{ask, equallyLong, allOrdered, allWithin, risingWithin, allSmall}
+use Rattle.rules.specs.Questions.{ask, wellFormed, equallyLong, allWithin, risingWithin, allSmall, noOr}
 use Rattle.rules.specs.Titles.{limitOf, widened, bodyStart, titleTotal}
 use Rattle.rules.specs.Runs.{Run, axisRuns, shifts, expansions}
 use Rattle.rules.specs.Lent.{firsts, lasts, sizes, marks}
-use Rattle.rules.specs.Partition.{lent, noOr}
+use Rattle.rules.specs.Partition.{lent}
 use Rattle.rules.specs.Scale.{Scale, Space, Body, orElse, frameFor, fixedScale, axisPasses, fitScale, spaceOf, bodyFor, Low}
 use Rattle.rules.specs.Pages.{RunLists, evenLists, none, orEmpty, overflowing}
 
@@ -211,12 +211,9 @@ layout s c rows columns = layoutAt s c rows columns (chosenScale s c rows column
 
 -- ---- the call
 
--- 6 of an axis, whose lent lists are equally long or not: "Slices that make up one list equally long, and firsts not above lasts in AR and
--- every MR"
+-- 6 of an axis
 unfoldable pub formed : AxisInput → Bool → Bool
-formed a lent-even =
-    equallyLong (a .indexes) (a .sizes) && equallyLong (a .merge-firsts) (a .merge-lasts) && lent-even && leb (a .first) (a .last)
-    && allOrdered (a .merge-firsts) (a .merge-lasts)
+formed a lent-even = wellFormed (a .first) (a .last) lent-even (a .indexes) (a .sizes) (a .merge-firsts) (a .merge-lasts)
 
 -- 7 of an axis: "AR and every MR inside the grid"
 unfoldable pub inGrid : AxisInput → Bool

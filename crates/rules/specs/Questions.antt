@@ -11,6 +11,11 @@ abbrev pub ask : {A : Type 0} → ℕ → Bool → Outcome A → Outcome A
 ask n true rest = rest
 ask n false rest = refused n
 
+-- the number of a question whose answer is no, or the number that comes after it (for the private functions)
+abbrev pub noOr : ℕ → Bool → ℕ → ℕ
+noOr n true rest = rest
+noOr n false rest = n
+
 -- 6: "Slices that make up one list equally long"
 abbrev pub equallyLong : List ℕ → List ℕ → Bool
 equallyLong xs ys = eqb (length xs) (length ys)
@@ -20,6 +25,11 @@ unfoldable pub allOrdered : List ℕ → List ℕ → Bool
 allOrdered [] ls = true
 allOrdered (f ∷ fs) [] = true
 allOrdered (f ∷ fs) (l ∷ ls) = leb f l && allOrdered fs ls
+
+-- 6 of an axis, whose range is from first to last and whose lent lists are equally long or not: "Slices that make up one list equally long,
+-- and firsts not above lasts in AR and every MR"
+abbrev pub wellFormed : ℕ → ℕ → Bool → List ℕ → List ℕ → List ℕ → List ℕ → Bool
+wellFormed first last lent-even is ss fs ls = equallyLong is ss && equallyLong fs ls && lent-even && leb first last && allOrdered fs ls
 
 -- 7: "every MR inside the grid", whose last index is the limit
 unfoldable pub allWithin : ℕ → List ℕ → Bool
