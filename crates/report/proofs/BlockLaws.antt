@@ -14,10 +14,10 @@ use Rattle.rules.specs.declared.pages.PageAnswer.{PageAnswer}
 use Rattle.rules.specs.declared.pages.PageAnswer.the-variants.{Value, Refused}
 use Rattle.rules.specs.Pages.{RunLists, pageNumbered, pageOutcome}
 use Rattle.rules.proofs.QuestionLaws.{both}
-use Rattle.rules.proofs.Division.{split}
 use Rattle.report.specs.Lines.{pageLine}
 use Rattle.report.specs.Blocks.{lineIfGiven, pageLines, isThere, BlockOf}
 use Rattle.report.proofs.TextLaws.{counts}
+use Rattle.rules.proofs.Laws.{split}
 
 -- a loop's test: there is room, and a next number
 pub open-told : (next end last top : ℕ) → (leb end last && ltb next top) ≡ true → (end ≤ last) × (next < top)

@@ -6,8 +6,8 @@ use native.Mathlib.Nat.{pow-succ', one-le-pow, pow-le-pow-right}
 use native.Mathlib.Omega.{arith}
 use borrow.Author.Tests.{lt-ltb, le-ltb}
 use Rattle.io.specs.Digits.{glyph, digits, Fewest}
-use Rattle.rules.proofs.Division.{split}
 use Rattle.report.specs.Lines.{digitsWithin, decimal}
+use Rattle.rules.proofs.Laws.{split}
 
 last-digit : (n : ℕ) → glyph (n % 10) ≡ 48 + n % 10
 last-digit n = let h : n % 10 < 10 = omega arith in rw (lt-ltb (n % 10) 10 h)

@@ -10,11 +10,11 @@ use Rattle.geometry.specs.Outcome.{given}
 use Rattle.rules.specs.declared.pages.Page.{Page}
 use Rattle.rules.specs.declared.pages.Plan.{Plan}
 use Rattle.rules.specs.Pages.{RunLists, evenLists, pagesOf, pageNumbered, numbered}
-use Rattle.rules.proofs.Division.{split}
 use Rattle.rules.proofs.PageLaws.{numbered-past}
 use Rattle.report.specs.declared.blocks.Block.{Block}
 use Rattle.report.specs.Blocks.{pageLines, linesFrom, isThere, BlockOf}
 use Rattle.report.proofs.BlockLaws.{lines-then}
+use Rattle.rules.proofs.Laws.{split}
 
 module _ (p : Plan) (rows columns : RunLists) where
   joined : (from middle next : ℕ) (bytes : List ℕ) → from ≤ middle → middle ≤ next → bytes ≡ pageLines p rows columns from (middle - from)

@@ -1,14 +1,14 @@
 -- Laws of cuts and of the runs of an axis (`specs/Runs.antt`), way by way. Assumes nothing.
 use mathlib.Core.Path.{_≡_, refl, sym, ap, _∙_}
-use mathlib.Core.Bool.{Bool, true, false, cond}
+use mathlib.Core.Bool.{true, false}
 use mathlib.Core.List.{List, [], _∷_, _++_}
-use Prim.Native.Nat.{ℕ, zero, suc, _+_, _-_, _≤_, _<_, min}
+use Prim.Native.Nat.{ℕ, _+_, _-_, _≤_, _<_, min}
 use native.Mathlib.Omega.{arith}
-use lib.ListN.{length, getD, take, drop, drop-of-length-le}
+use lib.ListN.{length, getD, drop, drop-of-length-le}
 use lib.Seq.{drop-cons}
 use native.Mathlib.Numerals.{add-one}
-use lib.Dec.{leb, ltb}
-use borrow.Author.Tests.{lt-ltb, le-ltb, le-leb, lt-leb}
+use lib.Dec.{ltb}
+use borrow.Author.Tests.{lt-ltb, le-ltb}
 use Rattle.rules.specs.declared.runs.Held.{Held}
 use Rattle.rules.specs.declared.runs.Held.the-variants.{Free, By}
 use Rattle.rules.specs.declared.runs.Frame.{Frame}
@@ -109,7 +109,7 @@ marked-expansions m [] = refl
 marked-expansions m (r ∷ rs) = refl
 
 -- only the first of a stretch can be marked
-unmarked : (k : Frame) (fs ls is ss : List ℕ) → firstMarked 0 (runs k fs ls is ss) ≡ runs k fs ls is ss
+pub unmarked : (k : Frame) (fs ls is ss : List ℕ) → firstMarked 0 (runs k fs ls is ss) ≡ runs k fs ls is ss
 unfolding firstMarked runs runsBy run
 unmarked k fs ls [] ss = refl
 unmarked k fs ls (i ∷ is) [] = refl

@@ -18,9 +18,8 @@ use Rattle.rules.specs.Pages.{orEmpty}
 use Rattle.rules.specs.Plan.{AxisInput, titleOf, startOf, bodyOf, spaceOn, cutRuns, pageRuns}
 use Rattle.rules.specs.Division.{_∈_, Division, counts, keptBreaks, InOneRun, FewestRuns}
 use Rattle.rules.specs.Demand.{IsBody, Bare, bodyIndexes, bodySizes, capacityBeside}
-use Rattle.rules.proofs.Laws.{rising-take, rising-drop, length-mid}
+use Rattle.rules.proofs.Laws.{rising-take, rising-drop, length-mid, split}
 use Rattle.rules.proofs.EndLaws.{below-le}
-use Rattle.rules.proofs.Division.{split}
 use Rattle.rules.proofs.Places.{below-up-to, below-past-it}
 use Rattle.rules.proofs.Whole.{axis-division}
 use Rattle.rules.proofs.OneRun.{axis-covered}

@@ -12,8 +12,8 @@ use Rattle.rules.specs.declared.runs.Cut.{Cut}
 use Rattle.rules.specs.Slots.{mid, below}
 use Rattle.rules.specs.Runs.{Run, runsBy, runs, kept, placed, nextCut, firstMarked, stretch, axisRuns}
 use Rattle.rules.specs.Division.{_∈_, keptCuts}
-use Rattle.rules.proofs.Laws.{either-lt, length-mid, step, none}
-use Rattle.rules.proofs.Division.{split, Chain, done, link, chain-append, chain-end}
+use Rattle.rules.proofs.Laws.{either-lt, length-mid, step, none, split}
+use Rattle.rules.proofs.Division.{Chain, done, link, chain-append, chain-end}
 
 abbrev pub slotsOf : Run → ℕ
 slotsOf r = r .slots

@@ -7,7 +7,7 @@ use native.Mathlib.Omega.{arith}
 use lib.Dec.{leb}
 use lib.IntN.{ℤ}
 use lib.Signed.{mag}
-use lib.ListN.{length, getD, take, length-map}
+use lib.ListN.{length, getD, take}
 use lib.Seq.{getD-take, length-take-le}
 use borrow.Author.Tests.{le-leb, leb-true, eq-eqb}
 use Rattle.geometry.specs.Outcome.{Outcome, given, refused, andThen}
@@ -26,12 +26,13 @@ use Rattle.rules.specs.Fitting.{Chosen}
 use Rattle.rules.specs.Demand.{Finished, OnPage, OnOnePage, CoversPairs, Bare, FewestPlan, Exceeds, EachReaches, LargestPlan}
 use Rattle.rules.proofs.QuestionLaws.{both, rising-of}
 use Rattle.rules.proofs.Lent.{front-written, long-written}
-use Rattle.rules.proofs.PlanLaws.{formed-of, even-of}
-use Rattle.rules.proofs.Division.{split}
+use Rattle.rules.proofs.PlanLaws.{formed-of}
+use Rattle.rules.proofs.PartitionLaws.{even-of}
 use Rattle.rules.proofs.PageLaws.{verticalOf, horizontalOf, beforeOf, numbered-zero, numbered-take, numbered-take-past, page-after, vertical-below, horizontal-below, before-of-place, before-below, vertical-is, horizontal-is}
 use Rattle.rules.proofs.BodyLaws.{body-even, page-runs-cover, bare-title, bare-total, page-runs-fewest}
 use Rattle.rules.proofs.Largest.{Plain, scale-chosen}
 use Rattle.rules.proofs.NoTen.{sides-given}
+use Rattle.rules.proofs.Laws.{split}
 
 -- ---- what a plan that was given says of the questions
 

@@ -11,8 +11,7 @@ use Rattle.rules.specs.declared.runs.Held.{Held}
 use Rattle.rules.specs.declared.runs.Held.the-variants.{Free, By}
 use Rattle.rules.specs.Titles.{holds}
 use Rattle.rules.specs.Runs.{earlier, nearer, holding}
-use Rattle.rules.proofs.Laws.{either-lt}
-use Rattle.rules.proofs.Division.{split}
+use Rattle.rules.proofs.Laws.{either-lt, split}
 
 -- the merge number i, clipped, holds b
 pub record HoldsAt (lo hi b : ℕ) (fs ls : List ℕ) (i : ℕ) : Type 0 where

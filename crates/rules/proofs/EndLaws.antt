@@ -1,5 +1,5 @@
 -- Laws of searches, of the title's resumption and of the merge step (`specs/Slots.antt`, `specs/Runs.antt`), way by way. Assumes nothing.
-use mathlib.Core.Path.{_≡_, refl, sym, ap, _∙_}
+use mathlib.Core.Path.{_≡_, _∙_}
 use mathlib.Core.List.{List, [], _∷_}
 use Prim.Native.Nat.{ℕ, zero, suc, _+_, _-_, _≤_, _<_}
 use native.Mathlib.Numerals.{add-one}
@@ -9,14 +9,14 @@ use lib.Seq.{drop-cons, drop-length}
 use borrow.Author.Tests.{lt-ltb, le-ltb, le-leb, lt-leb}
 use Rattle.rules.specs.declared.runs.Held.{Held}
 use Rattle.rules.specs.declared.titles.Title.{Title}
-use Rattle.rules.specs.declared.titles.Title.the-variants.{Absent, Pair}
+use Rattle.rules.specs.declared.titles.Title.the-variants.{Pair}
 use Rattle.rules.proofs.Laws.{part, rest, either, either-lt, drop-back}
 use lib.Dec.{leb, ltb}
 use Rattle.rules.specs.declared.runs.RunEnd.{RunEnd}
 use Rattle.rules.specs.declared.runs.Frame.{Frame}
 use Rattle.rules.specs.declared.runs.Held.the-variants.{Free, By}
 use Rattle.rules.specs.Slots.{below, through}
-use Rattle.rules.specs.Runs.{ends, mergeStep, merged, again, resumed, resumption, filled, taken, runEnd, holding}
+use Rattle.rules.specs.Runs.{ends, mergeStep, merged, again, resumed, resumption, filled, taken, holding}
 
 -- ---- slots below a limit
 

@@ -8,7 +8,7 @@ use native.Mathlib.Omega.{arith}
 use borrow.Author.Tests.{lt-ltb, le-ltb}
 use Rattle.rules.specs.Scale.{middle, halve, fitScale}
 use Rattle.rules.specs.Fitting.{Largest, Chosen}
-use Rattle.rules.proofs.Division.{split}
+use Rattle.rules.proofs.Laws.{split}
 
 pub by-test {ℓ} : {X : Type ℓ} (b : Bool) → (b ≡ true → X) → (b ≡ false → X) → X
 by-test true f g = f refl

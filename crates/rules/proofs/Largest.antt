@@ -18,13 +18,14 @@ use Rattle.rules.specs.declared.titles.Title.the-variants.{Absent}
 use Rattle.rules.specs.declared.runs.Frame.{Frame}
 use Rattle.rules.specs.Slots.{sum}
 use Rattle.rules.specs.Titles.{pastTitle}
-use Rattle.rules.specs.Runs.{Run, run, runsBy, runs, firstMarked, stretch, axisRuns}
+use Rattle.rules.specs.Runs.{Run, run, runs, stretch, axisRuns}
 use Rattle.rules.specs.Lent.{sizes}
 use Rattle.rules.specs.Division.{_∈_, Division, pieces, Within, Fewest, counts, keptCuts}
 use Rattle.rules.specs.Scale.{Space, Body, units, capacityOf, frameFor, runsAt, fitsSide, rendered, allFit, runsFit, meets, axisPasses, fitScale}
 use Rattle.rules.specs.Fitting.{RoundedFits, FitsPage, MeetsTarget, Reaches, Chosen}
-use Rattle.rules.proofs.Laws.{either}
-use Rattle.rules.proofs.Division.{split, join, join-pieces}
+use Rattle.rules.proofs.Laws.{either, split}
+use Rattle.rules.proofs.AxisLaws.{unmarked}
+use Rattle.rules.proofs.Division.{join, join-pieces}
 use Rattle.rules.proofs.Whole.{axis-tells}
 use Rattle.rules.proofs.Fewest.{axis-fewest}
 use Rattle.rules.proofs.Halving.{fit-chosen}
@@ -184,16 +185,10 @@ fits-side s n p x e k =
 
 -- ---- the runs of an axis without breaks
 
-first-unmarked : (k : Frame) (fs ls is ss : List ℕ) → firstMarked 0 (runs k fs ls is ss) ≡ runs k fs ls is ss
-unfolding firstMarked runs runsBy run
-first-unmarked k fs ls [] ss = refl
-first-unmarked k fs ls (i ∷ is) [] = refl
-first-unmarked k fs ls (i ∷ is) (s ∷ ss) = refl
-
 runs-whole : (k : Frame) (fs ls is ss : List ℕ) → length is ≡ length ss → axisRuns k fs ls is ss 0 [] ≡ runs k fs ls is ss
 unfolding axisRuns stretch
 runs-whole k fs ls is ss even =
-    rw (take-all (length ss - 0) is (omega arith), take-all (length ss - 0) ss (omega arith)) (first-unmarked k fs ls is ss)
+    rw (take-all (length ss - 0) is (omega arith), take-all (length ss - 0) ss (omega arith)) (unmarked k fs ls is ss)
 
 -- ---- the test of an axis is the demand's
 

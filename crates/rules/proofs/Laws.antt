@@ -1,6 +1,6 @@
 -- Laws of filling, of lists of runs and of parts of slots (`specs/Slots.antt`, `specs/Runs.antt`), for the loops of `planner`. Assumes nothing.
 use mathlib.Core.Path.{_≡_, refl, sym, ap, _∙_, subst}
-use mathlib.Core.List.{List, [], _∷_, _++_, map}
+use mathlib.Core.List.{List, [], _∷_}
 use Prim.Native.Nat.{ℕ, zero, suc, pred, _+_, _-_, _≤_, _<_, _^_, min}
 use native.Mathlib.Nat.{not-suc-le-zero, lt-of-not-le}
 use native.Mathlib.Decide.{decLe}
@@ -19,6 +19,10 @@ use Rattle.rules.specs.Runs.{more, natural, Run, runsBy}
 pub either {ℓ} : {X : Type ℓ} (P : X → Type 0) (b : Bool) {x y : X} → P x → P y → P (cond b x y)
 either P true p q = p
 either P false p q = q
+
+-- one number is at most the other, or above it
+pub split {ℓ} : {X : Type ℓ} (a b : ℕ) → (a ≤ b → X) → (b < a → X) → X
+split a b f g = elim (decLe a b) [ yes h ↦ f h | no h ↦ g (lt-of-not-le h) ]
 
 -- ---- natural filling
 

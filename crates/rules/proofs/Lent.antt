@@ -1,7 +1,7 @@
 -- A loop that writes a lent list from its front, and four of them, one for each number of a run. Assumes nothing.
 use mathlib.Core.Path.{_≡_, refl, sym, ap, _∙_}
 use mathlib.Core.List.{List, [], _∷_, _++_, map, append-nil, append-assoc, map-append}
-use Prim.Native.Nat.{ℕ, zero, suc, _+_, _-_, _≤_, _<_}
+use Prim.Native.Nat.{ℕ, suc, _+_, _-_, _≤_, _<_}
 use native.Mathlib.Numerals.{add-one}
 use native.Mathlib.Omega.{arith}
 use lib.ListN.{length, take, drop, set, length-set, take-append-drop, length-map, length-append, length-drop, drop-of-length-le}

@@ -18,9 +18,10 @@ use Rattle.rules.specs.Questions.{ask, noOr}
 use Rattle.rules.specs.Partition.{Even}
 use Rattle.rules.specs.Pages.{RunLists, pageAt, inOrder, pagesOf, evenLists, numbered, pageNumbered, pageAfter, listPages, pagesLent, countIn, pageCount, listsNo}
 use Rattle.rules.proofs.QuestionLaws.{asked-no, asked-yes, no-number, both}
-use Rattle.rules.proofs.Division.{split}
 use Rattle.rules.proofs.PageLaws.{numbered-first, page-count}
-use Rattle.rules.proofs.PagesCode.{is-page, page-some, even-of}
+use Rattle.rules.proofs.PagesCode.{is-page, page-some}
+use Rattle.rules.proofs.PartitionLaws.{even-of}
+use Rattle.rules.proofs.Laws.{split}
 
 -- ---- how many pages a plan has
 
@@ -195,7 +196,7 @@ module _ (p : Plan) (rows columns : RunLists) (room : ℕ) where
       let two = both (evenLists rows) (evenLists columns) (y .0) in
       let rooms = both (leb (p .«row_runs») (length (rows .firsts))) (leb (p .«column_runs») (length (columns .firsts))) (y .1) in
       let low = y .3 in
-      (even-of rows (two .0), (even-of columns (two .1), (leb-true (p .«row_runs») (length (rows .firsts)) (rooms .0), (leb-true (p .«column_runs») (length (columns .firsts)) (rooms .1), omega (arith, low, list-length p rows columns)))))
+      (even-of (rows .firsts) (rows .lasts) (rows .sizes) (rows .marks) (two .0), (even-of (columns .firsts) (columns .lasts) (columns .sizes) (columns .marks) (two .1), (leb-true (p .«row_runs») (length (rows .firsts)) (rooms .0), (leb-true (p .«column_runs») (length (columns .firsts)) (rooms .1), omega (arith, low, list-length p rows columns)))))
 
   -- that page is the next of the list
   pub page-next : (i : ℕ) → i < count → numbered pages (suc i) ≡ given (pageAfter p rows columns i)

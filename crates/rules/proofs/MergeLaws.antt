@@ -1,6 +1,6 @@
 -- Laws of the merge that is used at a boundary (`specs/Runs.antt`), for the loops of `cuts::merges`. Assumes nothing.
-use mathlib.Core.Path.{_≡_, refl, sym, ap, _∙_}
-use mathlib.Core.Bool.{true, not, _&&_, and-false}
+use mathlib.Core.Path.{_≡_, refl, ap, _∙_}
+use mathlib.Core.Bool.{true, not, and-false}
 use mathlib.Core.List.{List, [], _∷_}
 use Prim.Native.Nat.{ℕ, zero, suc, _+_, _-_, _≤_, _<_, min, max}
 use native.Mathlib.Omega.{arith}
@@ -12,9 +12,8 @@ use Rattle.rules.specs.declared.runs.Held.the-variants.{Free}
 use Rattle.rules.specs.Slots.{mid}
 use Rattle.rules.specs.Titles.{holds, noMerge}
 use Rattle.rules.specs.Runs.{nearer, holding, holdingOnto}
-use Rattle.rules.proofs.Laws.{drop-back, run-out}
+use Rattle.rules.proofs.Laws.{drop-back, run-out, split}
 use Rattle.rules.proofs.QuestionLaws.{both}
-use Rattle.rules.proofs.Division.{split}
 
 -- ---- one merge
 

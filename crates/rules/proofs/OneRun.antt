@@ -11,8 +11,7 @@ use Rattle.rules.specs.Slots.{Rising, sum}
 use Rattle.rules.specs.Runs.{axisRuns}
 use Rattle.rules.specs.Lent.{firsts, lasts}
 use Rattle.rules.specs.Division.{Division, pieces, firstOf, lastOf, LiesIn, InOneRun, Covered}
-use Rattle.rules.proofs.Laws.{rising-drop}
-use Rattle.rules.proofs.Division.{split}
+use Rattle.rules.proofs.Laws.{rising-drop, split}
 use Rattle.rules.proofs.Whole.{axis-division, axis-tells}
 
 rising-le : (xs : List ℕ) → Rising xs → (j k : ℕ) → j ≤ k → k < length xs → getD xs j 0 ≤ getD xs k 0

@@ -2,14 +2,15 @@
 use mathlib.Core.Path.{_≡_, refl, sym, ap, _∙_}
 use mathlib.Core.List.{List, [], _∷_, _++_, map}
 use Prim.Native.Nat.{ℕ, zero, suc, _+_, _-_, _*_, _/_, _%_, _≤_, _<_}
-use native.Mathlib.Nat.{mod-lt, mod-eq-of-lt, mod-eq-sub-mod, div-eq-of-lt, div-eq-sub-div, div-lt-iff-lt-mul, div-add-mod', mul-le-mul-right, add-zero}
+use native.Mathlib.Nat.{mod-lt, mod-eq-of-lt, mod-eq-sub-mod, div-eq-of-lt, div-eq-sub-div, div-lt-iff-lt-mul, div-add-mod', add-zero}
+use lib.Arith.{digits-lt, digits-div, digits-mod}
 use native.Mathlib.Omega.{arith}
 use lib.ListN.{length, take, length-take, length-append}
 use Rattle.geometry.specs.Outcome.{given, refused}
 use Rattle.rules.specs.declared.pages.PageOrder.{PageOrder}
 use Rattle.rules.specs.declared.pages.PageOrder.the-variants.{DownThenOver, OverThenDown}
 use Rattle.rules.specs.Pages.{upFrom, joined, inOrder, numbered, placeOf}
-use Rattle.rules.proofs.Division.{split}
+use Rattle.rules.proofs.Laws.{split}
 
 -- ---- one of a list by its number
 
@@ -137,22 +138,6 @@ module _ {A : Type 0} (rows columns : ℕ) (page : ℕ → ℕ → A) where
 
 -- ---- the place of a page, and the page at a place
 
--- a quotient and a remainder, from what they make
-div-of : (m q r : ℕ) → r < m → (q * m + r) / m ≡ q
-div-of m zero r h = let e : 0 * m + r ≡ r = omega arith in rw e (div-eq-of-lt h)
-div-of m (suc q) r h =
-    let low : 0 < m = omega arith in
-    let l : m ≤ suc q * m + r = omega arith in
-    let e : (suc q * m + r) - m ≡ q * m + r = omega arith in
-    omega (arith, div-eq-sub-div low l, ap (λ (n : ℕ). n / m) e, div-of m q r h)
-
-mod-of : (m q r : ℕ) → r < m → (q * m + r) % m ≡ r
-mod-of m zero r h = let e : 0 * m + r ≡ r = omega arith in rw e (mod-eq-of-lt h)
-mod-of m (suc q) r h =
-    let l : m ≤ suc q * m + r = omega arith in
-    let e : (suc q * m + r) - m ≡ q * m + r = omega arith in
-    mod-eq-sub-mod l ∙ rw e (mod-of m q r h)
-
 -- a number below n lines of m is in a line, at a place of it
 module _ (n m i : ℕ) (h : i < n * m) where
   wide : 0 < m
@@ -163,10 +148,6 @@ module _ (n m i : ℕ) (h : i < n * m) where
 
   place-below : i % m < m
   place-below = mod-lt i wide
-
--- a place below n lines of m is a number below them
-number-below : (n m q r : ℕ) → q < n → r < m → q * m + r < n * m
-number-below n m q r h k = let l : suc q * m ≤ n * m = mul-le-mul-right m h in omega arith
 
 module _ (rows columns : ℕ) where
   module _ (before : ℕ) (h : before < rows * columns) where
@@ -184,13 +165,13 @@ module _ (rows columns : ℕ) where
 
   module _ (v h : ℕ) (below : v < rows) (right : h < columns) where
     pub before-below : (order : PageOrder) → beforeOf order rows columns v h < rows * columns
-    before-below DownThenOver = omega (arith, number-below columns rows h v right below)
-    before-below OverThenDown = number-below rows columns v h below right
+    before-below DownThenOver = omega (arith, digits-lt right below)
+    before-below OverThenDown = digits-lt below right
 
     pub vertical-is : (order : PageOrder) → verticalOf order rows columns (beforeOf order rows columns v h) ≡ v
-    vertical-is DownThenOver = mod-of rows h v below
-    vertical-is OverThenDown = div-of columns v h right
+    vertical-is DownThenOver = digits-mod h below
+    vertical-is OverThenDown = digits-div v right
 
     pub horizontal-is : (order : PageOrder) → horizontalOf order rows columns (beforeOf order rows columns v h) ≡ h
-    horizontal-is DownThenOver = div-of rows h v below
-    horizontal-is OverThenDown = mod-of columns v h right
+    horizontal-is DownThenOver = digits-div h below
+    horizontal-is OverThenDown = digits-mod v right

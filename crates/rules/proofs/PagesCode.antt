@@ -9,22 +9,21 @@ use native.Mathlib.Omega.{arith}
 use lib.Dec.{leb, ltb}
 use lib.ListN.{length, getD, drop, drop-of-length-le}
 use lib.Seq.{drop-cons}
-use borrow.Author.Tests.{lt-ltb, le-ltb, le-leb, lt-leb, leb-true, eqb-true}
+use borrow.Author.Tests.{lt-ltb, le-ltb, le-leb, lt-leb, leb-true}
 use Rattle.geometry.specs.Outcome.{Outcome, given, refused}
 use Rattle.rules.specs.declared.titles.Title.{Title}
-use Rattle.rules.specs.declared.pages.PageOrder.{PageOrder}
-use Rattle.rules.specs.declared.pages.PageOrder.the-variants.{DownThenOver, OverThenDown}
 use Rattle.rules.specs.declared.pages.PageRun.{PageRun}
 use Rattle.rules.specs.declared.pages.Page.{Page}
 use Rattle.rules.specs.declared.pages.Place.{Place}
 use Rattle.rules.specs.declared.pages.Plan.{Plan}
-use Rattle.rules.specs.Questions.{ask, equallyLong, noOr}
+use Rattle.rules.specs.Questions.{ask, noOr}
 use Rattle.rules.specs.Partition.{Even}
 use Rattle.rules.specs.Scale.{Space, fitsSide, printed}
 use Rattle.rules.specs.Pages.{overflowing, RunLists, runAt, pageAt, inOrder, pagesOf, evenLists, numbered, pageNumbered, placeOf, pageAfter, hasPage, listsNo, firstNo}
 use Rattle.rules.proofs.QuestionLaws.{asked-no, asked-yes, both}
-use Rattle.rules.proofs.Division.{split}
+use Rattle.rules.proofs.PartitionLaws.{even-of}
 use Rattle.rules.proofs.PageLaws.{numbered-zero, numbered-take, numbered-take-past, page-of, page-beyond}
+use Rattle.rules.proofs.Laws.{split}
 
 -- ---- overflowing runs: the run at k, and those after it
 
@@ -187,16 +186,6 @@ goes a b d e =
     let eleven = asked-yes 11 b _ (omega arith) (six .1) in
     (six .0, eleven .0, asked-yes 14 d _ (omega arith) (eleven .1) .0)
 
-pub even-of : (l : RunLists) → evenLists l ≡ true → Even (l .firsts) (l .lasts) (l .sizes) (l .marks)
-even-of l h =
-    let three = both (equallyLong (l .firsts) (l .lasts) && equallyLong (l .firsts) (l .sizes)) (equallyLong (l .firsts) (l .marks)) h in
-    let two = both (equallyLong (l .firsts) (l .lasts)) (equallyLong (l .firsts) (l .sizes)) (three .0) in
-    record {
-      lasts-even = eqb-true (length (l .firsts)) (length (l .lasts)) (two .0);
-      sizes-even = eqb-true (length (l .firsts)) (length (l .sizes)) (two .1);
-      marks-even = eqb-true (length (l .firsts)) (length (l .marks)) (three .1);
-    }
-
 -- what `page_after` relies on, and what it answers
 pub record Answers (p : Plan) (n : ℕ) (rows columns : RunLists) : Type 0 where
   pub rows-even : Even (rows .firsts) (rows .lasts) (rows .sizes) (rows .marks)
@@ -231,8 +220,8 @@ module _ (p : Plan) (n : ℕ) (rows columns : RunLists) (a b : Bool) (k : ℕ) (
       let low = c .from-one in
       let high = c .to-last in
       record {
-        rows-even = even-of rows (two .0);
-        columns-even = even-of columns (two .1);
+        rows-even = even-of (rows .firsts) (rows .lasts) (rows .sizes) (rows .marks) (two .0);
+        columns-even = even-of (columns .firsts) (columns .lasts) (columns .sizes) (columns .marks) (two .1);
         row-room = leb-true (p .«row_runs») (length (rows .firsts)) (rooms .0);
         column-room = leb-true (p .«column_runs») (length (columns .firsts)) (rooms .1);
         from-one = low;

@@ -1,13 +1,13 @@
 -- Laws of `specs/Partition.antt`'s definitions. Assumes nothing.
-use mathlib.Core.Path.{_≡_, refl, sym, ap, _∙_}
-use mathlib.Core.Bool.{Bool, true, false, cond, _&&_}
+use mathlib.Core.Path.{_≡_, refl, _∙_}
+use mathlib.Core.Bool.{Bool, true, cond, _&&_}
 use mathlib.Core.List.{List, [], _∷_}
-use Prim.Native.Nat.{ℕ, zero, suc, _+_, _-_, _≤_, _<_}
+use Prim.Native.Nat.{ℕ, suc, _+_, _-_, _≤_, _<_}
 use native.Mathlib.Omega.{arith}
 use native.Mathlib.Nat.{lt-of-not-le}
 use native.Mathlib.Decide.{decLe}
-use lib.Dec.{leb, ltb, eqb}
-use lib.ListN.{length, take, drop}
+use lib.Dec.{leb, ltb}
+use lib.ListN.{length}
 use borrow.Author.Tests.{le-leb, lt-leb, lt-ltb, eqb-true}
 use Rattle.geometry.specs.Outcome.{Outcome, given, refused}
 use Rattle.rules.specs.declared.partition.AxisSetup.{AxisSetup}
@@ -40,6 +40,13 @@ goes a b c d e =
     let eight = asked-yes 8 c _ (omega arith) (seven .1) in
     (six .0, seven .0, eight .0, asked-yes 9 d _ (omega arith) (eight .1) .0)
 
+-- the lent lists are equally long
+pub even-of : (f l z m : List ℕ) → lentEven f l z m ≡ true → Even f l z m
+even-of f l z m h =
+    let three = both (equallyLong f l && equallyLong f z) (equallyLong f m) h in
+    let two = both (equallyLong f l) (equallyLong f z) (three .0) in
+    record { lasts-even = eqb-true _ _ (two .0); sizes-even = eqb-true _ _ (two .1); marks-even = eqb-true _ _ (three .1) }
+
 module _ (limit : ℕ) (s : AxisSetup) (is ss fs ls bs f l z m : List ℕ) (n : ℕ) (e : n ≡ firstNo limit s is ss fs ls (lentEven f l z m)) where
   pub is-refused : 0 < n → partition limit s is ss fs ls bs f l z m ≡ refused n
   unfolding partition firstNo
@@ -60,15 +67,9 @@ module _ (limit : ℕ) (s : AxisSetup) (is ss fs ls bs f l z m : List ℕ) (n : 
       let upto = both (equallyLong is ss && equallyLong fs ls && lentEven f l z m) (leb (s .first) (s .last)) five .0 in
       let four = both (equallyLong is ss && equallyLong fs ls) (lentEven f l z m) upto in
       let two = both (equallyLong is ss) (equallyLong fs ls) (four .0) in
-      let lent = both (equallyLong f l && equallyLong f z) (equallyLong f m) (four .1) in
-      let lz = both (equallyLong f l) (equallyLong f z) (lent .0) in
       record {
         slots = slots-of limit is ss bound (eqb-true (length is) (length ss) (two .0)) (y .2) (y .3);
-        lists = record {
-          lasts-even = eqb-true (length f) (length l) (lz .0);
-          sizes-even = eqb-true (length f) (length z) (lz .1);
-          marks-even = eqb-true (length f) (length m) (lent .1);
-        };
+        lists = even-of f l z m (four .1);
         goes-on = rw (y .0, y .1, y .2, y .3);
       }
 

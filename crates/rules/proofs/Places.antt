@@ -7,8 +7,7 @@ use native.Mathlib.Omega.{arith}
 use lib.ListN.{length, getD, take, drop}
 use borrow.Author.Tests.{lt-ltb, le-ltb, le-leb, lt-leb}
 use Rattle.rules.specs.Slots.{Rising, below, through, mid}
-use Rattle.rules.proofs.Division.{split}
-use Rattle.rules.proofs.Laws.{either-lt, rising-take, rising-drop}
+use Rattle.rules.proofs.Laws.{either-lt, rising-take, rising-drop, split}
 
 -- ---- one slot
 

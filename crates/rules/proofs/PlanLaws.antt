@@ -5,15 +5,13 @@ use mathlib.Core.List.{List, [], _∷_, map}
 use Prim.Native.Nat.{ℕ, zero, suc, _+_, _-_, _*_, _^_, _≤_, _<_, max}
 use native.Mathlib.Omega.{arith}
 use native.Mathlib.Nat.{mul-le-mul-left, le-trans}
-use lib.Dec.{leb, eqb}
+use lib.Dec.{leb}
 use lib.IntN.{ℤ}
 use lib.ListN.{length, getD, take, drop, length-map}
 use lib.Seq.{take-all}
-use borrow.Author.Tests.{le-leb, lt-leb, leb-true, eqb-true, ne-eqb}
+use borrow.Author.Tests.{leb-true, eqb-true, ne-eqb}
 use Rattle.geometry.specs.Outcome.{Outcome, given, refused, andThen}
 use Rattle.rules.specs.declared.titles.Title.{Title}
-use Rattle.rules.specs.declared.titles.Title.the-variants.{Pair}
-use Rattle.rules.specs.declared.scale.PageSide.{PageSide}
 use Rattle.rules.specs.declared.runs.Frame.{Frame}
 use Rattle.rules.specs.declared.pages.Plan.{Plan}
 use Rattle.rules.specs.declared.plan.Settings.{Settings}
@@ -24,11 +22,11 @@ use Rattle.rules.specs.declared.plan.FinalCut.{FinalCut}
 use Rattle.rules.specs.declared.plan.Planning.{Planning}
 use Rattle.rules.specs.declared.plan.Planning.the-variants.{Value, Refused}
 use Rattle.rules.specs.Slots.{Slots, sum, below}
-use Rattle.rules.specs.Questions.{ask, equallyLong, allOrdered, allWithin, risingWithin, allSmall, noOr}
+use Rattle.rules.specs.Questions.{equallyLong, allOrdered, allWithin, risingWithin, allSmall, noOr}
 use Rattle.rules.specs.Titles.{limitOf, widened, bodyStart}
 use Rattle.rules.specs.Runs.{Run, axisRuns, shifts, expansions, tallies}
-use Rattle.rules.specs.Lent.{firsts, lasts, sizes, marks, Room, Written}
-use Rattle.rules.specs.Partition.{lentEven, Even}
+use Rattle.rules.specs.Lent.{firsts, sizes, Room, Written}
+use Rattle.rules.specs.Partition.{Even}
 use Rattle.rules.specs.Scale.{Scale, Space, spaceOf, bodyFor, frameFor, fitsSide, printed, axisPasses, fitPasses, fitScale, fixedScale}
 use Rattle.rules.specs.Pages.{RunLists, runLists, evenLists, none, orEmpty, overflowing, Moderate}
 use Rattle.rules.specs.Plan.{AxisInput, rowsOf, columnsOf, AreRows, AreColumns, Sides, titleOf, startOf, bodyPart, bodyOf, spaceOn, lookedAt, contentSides, chosenScale, cutRuns, cutShifts, pageRuns, overflows, Layout, planOf, layoutAt, layout, RunsLent, roomFor, planned, formed, inGrid, firstNo, Planned, axisFor, Fine, ReadyFor, within, readyFrame, readyRuns, readyShifts, cutOf, cutFrom, roomNo, Cuttable}
@@ -90,13 +88,6 @@ formed-of a even h =
       range = leb-true _ _ (four .1);
       ordered = five .1;
     }
-
--- the lent lists are equally long
-pub even-of : (f l z m : List ℕ) → lentEven f l z m ≡ true → Even f l z m
-even-of f l z m h =
-    let three = both (equallyLong f l && equallyLong f z) (equallyLong f m) h in
-    let two = both (equallyLong f l) (equallyLong f z) (three .0) in
-    record { lasts-even = eqb-true _ _ (two .0); sizes-even = eqb-true _ _ (two .1); marks-even = eqb-true _ _ (three .1) }
 
 -- what the private functions rely on
 pub fine-of : (r : AxisRange) (is ss fs ls bs : List ℕ) (even : Bool) → r .limit ≤ 1048575 → r .headings ≤ 2 ^ 50 → Yes (axisFor r is ss fs ls bs) even → Fine r is ss fs ls

@@ -11,7 +11,7 @@ use lib.Bits.{bitOr, or-lt, or-add-and, and-le-l, and-le-r}
 use lib.Dec.{leb, ltb}
 use lib.ListN.{length, getD, drop, drop-of-length-le}
 use lib.Seq.{drop-cons}
-use borrow.Author.Tests.{lt-ltb, le-ltb, le-leb, lt-leb, leb-true, ltb-true}
+use borrow.Author.Tests.{le-leb, lt-leb, leb-true, ltb-true}
 use Rattle.rules.specs.Slots.{Slots}
 use Rattle.geometry.specs.Outcome.{Outcome, refused}
 use Rattle.rules.specs.Questions.{ask, noOr, allOrdered, allWithin, rising, risingWithin, allSmall}
@@ -109,13 +109,6 @@ rising-end (suc n) (i ∷ is) h = rising-end n is (omega arith)
 pub both : (a b : Bool) → (a && b) ≡ true → (a ≡ true) × (b ≡ true)
 both true b h = (refl, h)
 both false b h = (h, cc)
-
-pub ordered-each : (fs ls : List ℕ) → allOrdered fs ls ≡ true → (k : ℕ) → k < length fs → k < length ls → getD fs k 0 ≤ getD ls k 0
-unfolding allOrdered
-ordered-each [] ls h k p q = absurd (omega arith)
-ordered-each (f ∷ fs) [] h k p q = absurd (omega arith)
-ordered-each (f ∷ fs) (l ∷ ls) h zero p q = leb-true f l (both (leb f l) (allOrdered fs ls) h .0)
-ordered-each (f ∷ fs) (l ∷ ls) h (suc k) p q = ordered-each fs ls (both (leb f l) (allOrdered fs ls) h .1) k (omega arith) (omega arith)
 
 pub within-each : (limit : ℕ) (l : List ℕ) → allWithin limit l ≡ true → (k : ℕ) → getD l k 0 ≤ limit
 unfolding allWithin

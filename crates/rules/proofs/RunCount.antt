@@ -3,7 +3,7 @@ use mathlib.Core.Path.{_≡_, refl}
 use mathlib.Core.Logic.{inl, inr}
 use mathlib.Core.Bool.{_&&_}
 use mathlib.Core.List.{List, [], _∷_}
-use Prim.Native.Nat.{ℕ, _+_, _≤_}
+use Prim.Native.Nat.{ℕ, _≤_}
 use native.Mathlib.Omega.{arith}
 use lib.Dec.{leb}
 use lib.IntN.{ℤ}
@@ -17,7 +17,7 @@ use Rattle.rules.specs.Runs.{Run}
 use Rattle.rules.specs.Scale.{frameFor}
 use Rattle.rules.specs.Pages.{RunLists, evenLists}
 use Rattle.rules.specs.Plan.{AxisInput, bodyOf, spaceOn, cutRuns, pageRuns, formed, chosenScale, layoutAt, layout, roomFor, planned}
-use Rattle.rules.specs.Division.{_∈_, Division, counts}
+use Rattle.rules.specs.Division.{_∈_, Division}
 use Rattle.rules.specs.Demand.{bodyIndexes, bodySizes}
 use Rattle.rules.proofs.QuestionLaws.{both}
 use Rattle.rules.proofs.PlanLaws.{few-runs, formed-of}

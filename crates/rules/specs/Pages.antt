@@ -1,6 +1,5 @@
 -- Document 01, section "Pages". Assumes nothing.
-use mathlib.Core.Path.{_≡_}
-use mathlib.Core.Bool.{Bool, true, false, cond, _&&_, _||_}
+use mathlib.Core.Bool.{Bool, true, false, cond, _&&_}
 use mathlib.Core.List.{List, [], _∷_, _++_, map}
 use Prim.Native.Nat.{ℕ, zero, suc, _+_, _*_, _/_, _%_, _^_, _≤_, min}
 use lib.Dec.{leb, ltb}
@@ -18,7 +17,6 @@ use Rattle.rules.specs.declared.pages.PageAnswer.the-variants.{Value, Re
 use Rattle.rules.specs.declared.pages.Listing.{Listing}
 use Rattle.rules.specs.declared.pages.Listing.the-variants as listing
 use Rattle.rules.specs.Questions.{ask, noOr}
-use Rattle.rules.specs.Titles.{pastTitle}
 use Rattle.rules.specs.Runs.{Run}
 use Rattle.rules.specs.Partition.{lentEven}
 use Rattle.rules.specs.Scale.{Space, fitsSide, printed}

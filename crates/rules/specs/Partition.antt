@@ -1,7 +1,7 @@
 -- The call that cuts an axis into lent lists: the body of a range (document 01, "Titles"), its runs ("Runs") and what is asked first
 -- ("Questions in order"). Assumes nothing.
 use mathlib.Core.Path.{_≡_}
-use mathlib.Core.Bool.{Bool, true, false, _&&_}
+use mathlib.Core.Bool.{Bool, _&&_}
 use mathlib.Core.List.{List}
 use Prim.Native.Nat.{ℕ, _+_}
 use lib.Dec.{leb, eqb}

@@ -1,7 +1,7 @@
 -- The plan call: what document 01's sections give, one after another, for both axes of a range, and what is asked first ("Questions in
 -- order"). Assumes nothing.
 use mathlib.Core.Path.{_≡_}
-use mathlib.Core.Bool.{Bool, true, false, cond, _&&_}
+use mathlib.Core.Bool.{Bool, true, cond, _&&_}
 use mathlib.Core.List.{List, []}
 use Prim.Native.Nat.{ℕ, _+_, _*_, _^_, _≤_, _<_, max}
 use lib.Dec.{leb, eqb}

@@ -1,8 +1,7 @@
 -- `cuts::merge_step` meets its contract. Assumes nothing.
-use mathlib.Core.Path.{_≡_, ap, _∙_}
-use Prim.Native.Nat.{ℕ, _+_}
+use mathlib.Core.Path.{ap, _∙_}
+use Prim.Native.Nat.{ℕ}
 use Rattle.rules.proofs.EndLaws.{step-start, step-far, step-stay}
-use borrow.Author.Tests.{lt-ltb, le-ltb, le-leb, lt-leb}
 use borrow.Author.Needs.{needs}
 use Rattle.cuts.proofs.merge_step.Statement.{statement}
 use Rattle.cuts.proofs.merge_step.Tie as tie

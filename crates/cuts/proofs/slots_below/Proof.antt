@@ -2,7 +2,7 @@
 -- Assumes nothing.
 use Rattle.rules.proofs.EndLaws.{below-yes, below-no, below-end}
 use lib.ListN.{length, drop}
-use Prim.Native.Nat.{_+_, _-_, _≤_, _<_}
+use Prim.Native.Nat.{_+_, _-_, _≤_}
 use mathlib.Core.Path.{_≡_}
 use borrow.Author.Needs.{needs}
 use native.Mathlib.Omega.{arith}

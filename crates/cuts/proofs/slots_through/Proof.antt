@@ -1,6 +1,6 @@
 -- `cuts::slots_through` meets its contract. The loop comes from the end: none of the slots that it passed is at or below. Assumes nothing.
-use mathlib.Core.Path.{_≡_, refl, ap, sym, _∙_}
-use Prim.Native.Nat.{ℕ, zero, suc, _+_, _-_, _≤_}
+use mathlib.Core.Path.{_≡_, sym}
+use Prim.Native.Nat.{_+_, _-_, _≤_}
 use lib.ListN.{length, drop}
 use Rattle.rules.specs.Slots.{through}
 use Rattle.rules.proofs.EndLaws.{through-none, through-found, through-passed, through-front}

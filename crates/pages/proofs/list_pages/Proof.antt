@@ -4,7 +4,7 @@
 mod Enter
 use Rattle.pages.proofs.list_pages.Proof.Enter.{enters}
 use mathlib.Core.Path.{_≡_, refl, sym, _∙_, ap, subst}
-use Prim.Native.Nat.{ℕ, suc, _+_, _-_, _*_, _<_, _≤_, _^_, zero-le}
+use Prim.Native.Nat.{ℕ, _+_, _-_, _*_, _<_, _≤_, _^_, zero-le}
 use native.Mathlib.Nat.{le-antisymm, le-of-lt, lt-of-lt-of-le, lt-of-le-of-lt, le-trans}
 use native.Mathlib.Omega.{arith}
 use native.Mathlib.Numerals.{add-one}
@@ -54,7 +54,7 @@ use denote.Triple.Walked.{says, Stays, stay-dropped, stay-slice, walkOf, goes-dr
 use denote.Exit.{yes}
 use Rattle.geometry.specs.Outcome.{Outcome}
 use Rattle.rules.specs.Partition.{Even}
-use Rattle.rules.specs.Pages.{RunLists, runLists, pagesOf, pageAfter, listPages, listOutcome, pagesLent, countIn}
+use Rattle.rules.specs.Pages.{RunLists, runLists, pagesOf, pageAfter, listPages, listOutcome, countIn}
 use Rattle.rules.specs.declared.pages.Page.{Page}
 use Rattle.rules.specs.declared.pages.Plan.{Plan}
 use Rattle.rules.specs.declared.pages.Listing.{Listing}

@@ -5,7 +5,6 @@ use Rattle.rules.specs.declared.pages.Place.{Place}
 use Rattle.rules.specs.Pages.{runLists}
 use Rattle.rules.proofs.PageLaws.{vertical-below, horizontal-below}
 use Rattle.rules.proofs.PagesCode.{some-rows, some-columns, page-there}
-use borrow.Author.Needs.{needs}
 use Rattle.pages.proofs.page_after.Statement.{statement}
 use Rattle.pages.proofs.page_after.Tie as tie
 

@@ -1,14 +1,14 @@
 -- `questions::room_refusal` meets its contract. Assumes nothing.
-use Prim.Native.Nat.{ℕ, _*_, _/_, _≤_, _<_}
+use Prim.Native.Nat.{_*_, _≤_}
 use mathlib.Core.Path.{_≡_}
 use native.Mathlib.Nat.{div-lt-iff-lt-mul}
 use native.Mathlib.Omega.{arith}
 use borrow.Author.Tests.{le-leb, lt-leb}
 use borrow.Author.Needs.{needs}
 use Rattle.rules.specs.Plan.{roomNo}
-use Rattle.rules.proofs.Division.{split}
 use Rattle.questions.proofs.room_refusal.Statement.{statement}
 use Rattle.questions.proofs.room_refusal.Tie as tie
+use Rattle.rules.proofs.Laws.{split}
 
 returns : tie.Need-returns
 unfolding roomNo

@@ -1,6 +1,4 @@
 -- `setup::fixed_scale` meets its contract. Assumes nothing.
-use mathlib.Core.Path.{_≡_}
-use native.Mathlib.Omega.{arith}
 use Rattle.rules.proofs.ScaleLaws.{too-small, too-large, kept}
 use borrow.Author.Needs.{needs}
 use Rattle.setup.proofs.fixed_scale.Statement.{statement}

@@ -1,5 +1,4 @@
 -- `setup::meets_target` meets its contract. Assumes nothing.
-use mathlib.Core.Path.{refl}
 use borrow.Author.Tests.{eq-eqb, ne-eqb}
 use Rattle.setup.proofs.meets_target.Statement.{statement}
 use Rattle.setup.proofs.meets_target.Tie as tie

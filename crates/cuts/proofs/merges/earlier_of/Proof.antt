@@ -1,8 +1,7 @@
-use borrow.Author.Tests.{lt-ltb, le-ltb, le-leb, lt-leb}
+use borrow.Author.Tests.{lt-ltb, le-ltb}
 use borrow.Author.Needs.{needs}
 use Rattle.cuts.proofs.merges.earlier_of.Statement.{statement}
 use Rattle.cuts.proofs.merges.earlier_of.Tie as tie
-use Rattle.rules.specs.Titles.{holds}
 use Rattle.rules.specs.Runs.{earlier, nearer}
 
 enum-known-held : tie.Need-enum-known-held

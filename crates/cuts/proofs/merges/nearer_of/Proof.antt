@@ -2,7 +2,6 @@ use borrow.Author.Tests.{lt-ltb, le-ltb, le-leb, lt-leb}
 use borrow.Author.Needs.{needs}
 use Rattle.cuts.proofs.merges.nearer_of.Statement.{statement}
 use Rattle.cuts.proofs.merges.nearer_of.Tie as tie
-use Rattle.rules.specs.Titles.{holds}
 use Rattle.rules.specs.Runs.{earlier, nearer}
 
 earlier-of-requires : tie.Need-earlier-of-requires

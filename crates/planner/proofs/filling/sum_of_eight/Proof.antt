@@ -1,5 +1,4 @@
 -- `planner::filling::sum_of_eight` meets its contract. Assumes nothing.
-use Prim.Native.Nat.{ℕ}
 use borrow.Author.Needs.{needs}
 use native.Mathlib.Omega.{arith}
 use Rattle.rules.proofs.Laws.{sum-eight}

@@ -1,6 +1,6 @@
 -- `planner::overflow::overflowing_runs` meets its contract. The loop's invariant: the runs counted so far, and those that the definition
 -- counts of the runs that are left, are all. Assumes nothing.
-use mathlib.Core.Path.{_≡_, refl, sym, ap, _∙_}
+use mathlib.Core.Path.{_≡_, sym, ap, _∙_}
 use mathlib.Core.Logic.{⊎-elim}
 use Prim.Native.Nat.{_+_, _-_, _≤_, _<_}
 use native.Mathlib.Omega.{arith}

@@ -1,11 +1,10 @@
 -- `planner::partition::partition_slots` meets its contract: refused for want of room nothing was written, and else all runs were. Assumes nothing.
-use mathlib.Core.Path.{_≡_, sym, ap, subst, _∙_}
-use Prim.Native.Nat.{ℕ, _≤_, _<_}
+use mathlib.Core.Path.{_≡_, sym, ap, _∙_}
 use native.Mathlib.Omega.{arith}
 use lib.ListN.{length}
-use Rattle.geometry.specs.Outcome.{Outcome, given}
+use Rattle.geometry.specs.Outcome.{given}
 use Rattle.rules.specs.declared.runs.Tally.{Tally}
-use Rattle.rules.specs.Runs.{Run, axisRuns, axisTally}
+use Rattle.rules.specs.Runs.{axisRuns, axisTally}
 use Rattle.rules.specs.Partition.{roomFor}
 use Rattle.rules.proofs.PartitionLaws.{refuses, answers, no-room, room-enough}
 use borrow.Author.Needs.{needs}

@@ -3,7 +3,7 @@ use Rattle.rules.proofs.AxisLaws.{moved-start, moved-past}
 use Rattle.rules.proofs.Places.{through-below}
 use Prim.Native.Nat.{ℕ, _+_}
 use native.Mathlib.Numerals.{add-one}
-use mathlib.Core.Path.{_≡_, sym, ap, _∙_}
+use mathlib.Core.Path.{sym, ap, _∙_}
 use borrow.Author.Needs.{needs}
 use Rattle.planner.proofs.places.moved_cut.Statement.{statement}
 use Rattle.planner.proofs.places.moved_cut.Tie as tie

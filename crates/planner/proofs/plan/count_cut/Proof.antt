@@ -1,10 +1,9 @@
 -- `planner::plan::count_cut` meets its contract. Assumes nothing.
-use mathlib.Core.Path.{_≡_, sym, ap, _∙_}
-use Prim.Native.Nat.{_≤_, _^_}
+use mathlib.Core.Path.{_≡_, ap, _∙_}
 use lib.ListN.{length}
 use Rattle.rules.specs.declared.runs.Frame.{Frame}
 use Rattle.rules.specs.Runs.{axisTally, expansions, tallies}
-use Rattle.rules.specs.Plan.{readyRuns, readyShifts, within, readyFrame, cutFrom}
+use Rattle.rules.specs.Plan.{readyRuns, readyShifts, within, cutFrom}
 use Rattle.rules.proofs.Laws.{slots-mid}
 use Rattle.rules.proofs.PlanLaws.{cut-from}
 use native.Mathlib.Omega.{arith}

@@ -2,11 +2,10 @@
 use mathlib.Core.Path.{_≡_, ap, _∙_}
 use Prim.Native.Nat.{_*_}
 use lib.ListN.{length}
-use Rattle.rules.specs.declared.pages.Plan.{Plan}
 use Rattle.rules.specs.declared.pages.Notes.{Notes}
-use Rattle.rules.specs.Scale.{scaleOf, spaceOf}
-use Rattle.rules.specs.Pages.{runLists, orEmpty}
-use Rattle.rules.specs.Plan.{AxisInput, Layout, titleOf, axisFor, sidesOf, cutRuns, cutShifts, layoutAt, roomFor, cutOf, readyRuns, readyShifts}
+use Rattle.rules.specs.Scale.{scaleOf}
+use Rattle.rules.specs.Pages.{runLists}
+use Rattle.rules.specs.Plan.{AxisInput, Layout, axisFor, sidesOf, cutRuns, cutShifts, layoutAt, cutOf, readyRuns}
 use Rattle.rules.proofs.TitleLaws.{ignored-le, expanded-le}
 use Rattle.rules.proofs.PlanLaws.{cuttable, cut-of, row-count, column-count, page-count, refuses-plan, answers-plan, room-refused, room-given, rows-fit, columns-fit, room-of, few-pages, overflows-few, overflows-of, written-of, plan-value}
 use native.Mathlib.Omega.{arith}

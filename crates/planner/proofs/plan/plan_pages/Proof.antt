@@ -8,7 +8,8 @@ use Rattle.geometry.specs.Outcome.{given, refused}
 use Rattle.rules.specs.Pages.{RunLists, runLists, evenLists}
 use Rattle.rules.specs.Plan.{AxisInput, rowsOf, columnsOf, lookedAt, axisFor, sidesOutcome, contentSides, firstNo}
 use Rattle.rules.proofs.Demand.{clauses}
-use Rattle.rules.proofs.PlanLaws.{even-of, formed-of, is-refused, is-asked, refuses-plan, no-breaks, looked, looked-few, ten-of, sides-of, relay-call, rows-fine, columns-fine}
+use Rattle.rules.proofs.PartitionLaws.{even-of}
+use Rattle.rules.proofs.PlanLaws.{formed-of, is-refused, is-asked, refuses-plan, no-breaks, looked, looked-few, ten-of, sides-of, relay-call, rows-fine, columns-fine}
 use borrow.Author.Needs.{needs}
 use Rattle.planner.proofs.plan.plan_pages.Statement.{statement}
 use Rattle.planner.proofs.plan.plan_pages.Tie as tie

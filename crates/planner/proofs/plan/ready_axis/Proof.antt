@@ -1,12 +1,11 @@
 -- `planner::plan::ready_axis` meets its contract. Assumes nothing.
-use mathlib.Core.Path.{_≡_, refl, sym, ap, _∙_}
+use mathlib.Core.Path.{refl, sym, ap, _∙_}
 use Prim.Native.Nat.{ℕ, _+_, max}
 use Rattle.rules.proofs.TitleLaws.{title-total-le}
-use lib.ListN.{length}
 use Rattle.rules.specs.declared.titles.Title.{Title}
 use Rattle.rules.specs.declared.titles.Widened.{Widened}
 use Rattle.rules.specs.Slots.{below}
-use Rattle.rules.specs.Titles.{bodyStart, titleTotal}
+use Rattle.rules.specs.Titles.{bodyStart}
 use Rattle.rules.specs.Plan.{spaceOn}
 use Rattle.rules.proofs.PlanLaws.{start-small}
 use native.Mathlib.Omega.{arith}

@@ -4,15 +4,14 @@ use Rattle.rules.proofs.Laws.{slots-part, length-part, turn, none}
 use Rattle.rules.specs.Lent.{counts}
 use Rattle.rules.specs.declared.runs.RunEnd.{RunEnd}
 use lib.ListN.{length}
-use Prim.Native.Nat.{ℕ, _+_, _≤_}
-use mathlib.Core.List.{List}
-use mathlib.Core.Path.{_≡_, ap, ap₂, _∙_}
+use Prim.Native.Nat.{_+_, _≤_}
+use mathlib.Core.Path.{_≡_, ap, ap₂}
 use borrow.Author.Needs.{needs}
 use native.Mathlib.Omega.{arith}
 use Rattle.planner.proofs.runs.count_runs.Statement.{statement}
 use Rattle.planner.proofs.runs.count_runs.Tie as tie
 use Rattle.rules.specs.Slots.{Slots}
-use Rattle.rules.specs.Runs.{run, runs, expansions, Run}
+use Rattle.rules.specs.Runs.{run, runs, expansions}
 
 abbrev Inv-loop : tie.InvT-loop
 Inv-loop k mfirsts mlasts indexes sizes is₀ ss₀ count₀ grown₀ is ss count grown =

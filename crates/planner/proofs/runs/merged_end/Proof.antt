@@ -1,5 +1,5 @@
 -- `planner::runs::merged_end` meets its contract. Assumes nothing.
-use borrow.Author.Tests.{lt-ltb, le-ltb, le-leb, lt-leb}
+use borrow.Author.Tests.{lt-ltb, le-ltb}
 use borrow.Author.Needs.{needs}
 use Rattle.planner.proofs.runs.merged_end.Statement.{statement}
 use Rattle.planner.proofs.runs.merged_end.Tie as tie

@@ -2,7 +2,7 @@
 use Rattle.rules.proofs.AxisLaws.{placed-zero, placed-past, placed-title, placed-moved}
 use Rattle.rules.specs.declared.runs.Held.{Held}
 use native.Mathlib.Omega.{arith}
-use mathlib.Core.Path.{_≡_, sym, ap, _∙_}
+use mathlib.Core.Path.{sym, ap, _∙_}
 use borrow.Author.Needs.{needs}
 use Rattle.planner.proofs.runs.placed_cut.Statement.{statement}
 use Rattle.planner.proofs.runs.placed_cut.Tie as tie

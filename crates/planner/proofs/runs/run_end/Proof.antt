@@ -1,9 +1,8 @@
 -- `planner::runs::run_end` meets its contract. Assumes nothing.
 use native.Mathlib.Omega.{arith}
 use Rattle.rules.proofs.EndLaws.{Within, merged-within}
-use Rattle.rules.specs.declared.runs.RunEnd.{RunEnd}
 use Prim.Native.Nat.{ℕ}
-use mathlib.Core.Path.{_≡_, sym, ap, subst, _∙_}
+use mathlib.Core.Path.{sym, ap, subst, _∙_}
 use borrow.Author.Needs.{needs}
 use Rattle.planner.proofs.runs.run_end.Statement.{statement}
 use Rattle.planner.proofs.runs.run_end.Tie as tie

@@ -1,7 +1,7 @@
 -- `planner::runs::taken_slots` meets its contract. Assumes nothing.
 use Rattle.rules.proofs.EndLaws.{taken-all, taken-more}
 use Prim.Native.Nat.{ℕ}
-use mathlib.Core.Path.{_≡_, ap, _∙_}
+use mathlib.Core.Path.{ap, _∙_}
 use borrow.Author.Needs.{needs}
 use Rattle.planner.proofs.runs.taken_slots.Statement.{statement}
 use Rattle.planner.proofs.runs.taken_slots.Tie as tie

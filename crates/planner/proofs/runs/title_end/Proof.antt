@@ -1,9 +1,9 @@
 use native.Mathlib.Omega.{arith}
 -- `planner::runs::title_end` meets its contract. Assumes nothing.
 use Rattle.rules.proofs.EndLaws.{title-holds, title-before, title-after}
-use Rattle.rules.proofs.Laws.{part, slots-part, length-part}
+use Rattle.rules.proofs.Laws.{slots-part, length-part}
 use Prim.Native.Nat.{ℕ, _+_}
-use mathlib.Core.Path.{_≡_, ap, _∙_}
+use mathlib.Core.Path.{ap, _∙_}
 use borrow.Author.Needs.{needs}
 use Rattle.planner.proofs.runs.title_end.Statement.{statement}
 use Rattle.planner.proofs.runs.title_end.Tie as tie

@@ -1,5 +1,5 @@
 -- `planner::runs::write_runs` meets its contract. The loop's invariant: what is written, and the runs of the slots that are left, are all. Assumes nothing.
-use mathlib.Core.Path.{_≡_, refl, sym, ap, subst, _∙_}
+use mathlib.Core.Path.{refl, sym, ap, subst, _∙_}
 use mathlib.Core.List.{List}
 use Prim.Native.Nat.{ℕ, _-_, _^_, _<_}
 use native.Mathlib.Omega.{arith}

@@ -1,9 +1,8 @@
 -- `planner::runs::write_stretch` meets its contract: the parts are lent, and come back with the runs at their fronts. Assumes nothing.
-use mathlib.Core.Path.{_≡_, sym, subst, _∙_}
-use mathlib.Core.List.{List}
-use Prim.Native.Nat.{ℕ, min}
+use mathlib.Core.Path.{sym, subst}
+use Prim.Native.Nat.{ℕ}
 use native.Mathlib.Omega.{arith}
-use Rattle.rules.specs.Runs.{Run, runs, firstMarked, stretch}
+use Rattle.rules.specs.Runs.{runs, firstMarked, stretch}
 use Rattle.rules.specs.Slots.{mid}
 use Rattle.rules.specs.Lent.{Room, Written, firsts, lasts, sizes, marks}
 use Rattle.rules.proofs.Laws.{part, length-part, slots-mid}

@@ -1,5 +1,4 @@
 -- `planner::scale::both_pass` meets its contract. Assumes nothing.
-use mathlib.Core.Path.{refl, sym, _∙_}
 use borrow.Author.Tests.{not-true, not-false}
 use borrow.Author.Needs.{needs}
 use Rattle.planner.proofs.scale.both_pass.Statement.{statement}

@@ -1,6 +1,6 @@
 -- `planner::scale::capacity_at` meets its contract: titles and headings are small, so they are themselves as i64. Assumes nothing.
 use mathlib.Core.Path.{_≡_, sym, ap, _∙_}
-use Prim.Native.Nat.{ℕ, _^_, _<_, _≤_}
+use Prim.Native.Nat.{_^_, _<_}
 use native.Mathlib.Omega.{arith}
 use lib.IntN.{ℤ, pos}
 use mir.Syntax.{w64}
