@@ -1,4 +1,4 @@
-// Places among the slots of an axis, whose indexes rise: searches by halving, as the Rust's.
+// Places among the slots of an axis, whose indexes rise: searches by halving, as the Rust's. Document 01, section "Runs".
 use questions::wide;
 use rules::Cut;
 use rules::Held;

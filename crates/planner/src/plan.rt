@@ -1,4 +1,4 @@
-// The plan call: questions, scale, cuts and notes for both axes of a range.
+// The plan call: questions, scale, cuts and notes for both axes of a range. Document 01, sections "Scale", "Pages" and "Questions in order".
 use crate::overflow::overflowing_runs;
 use crate::places::place_of;
 use crate::runs::count_axis;

@@ -16,7 +16,7 @@ use Rattle.rules.specs.Lent.{firsts, lasts, sizes}
 use Rattle.rules.specs.Scale.{frameFor}
 use Rattle.rules.specs.Pages.{orEmpty}
 use Rattle.rules.specs.Plan.{AxisInput, titleOf, startOf, bodyOf, spaceOn, cutRuns, pageRuns}
-use Rattle.rules.specs.Division.{_∈_, Division, counts, keptBreaks, InOneRun, FewestRuns}
+use Rattle.rules.specs.Division.{_∈_, Division, keptBreaks, InOneRun, FewestRuns}
 use Rattle.rules.specs.Demand.{IsBody, Bare, bodyIndexes, bodySizes, capacityBeside}
 use Rattle.rules.proofs.Laws.{rising-take, rising-drop, length-mid, split}
 use Rattle.rules.proofs.EndLaws.{below-le}
@@ -24,6 +24,7 @@ use Rattle.rules.proofs.Places.{below-up-to, below-past-it}
 use Rattle.rules.proofs.Whole.{axis-division}
 use Rattle.rules.proofs.OneRun.{axis-covered}
 use Rattle.rules.proofs.Fewest.{axis-fewest-runs, kept-plain}
+use Rattle.rules.proofs.Cuts.{counts}
 
 -- ---- places of indexes
 

@@ -1,22 +1,36 @@
 -- The runs of an axis from kept cut to kept cut: what holds of each run of each stretch holds of each run of the axis. Assumes nothing.
 use mathlib.Core.Path.{_≡_, refl, sym, ap}
 use mathlib.Core.Logic.{_⊎_, inl, inr, ⊎-elim, ⊎-map}
-use mathlib.Core.List.{List, [], _∷_, _++_}
+use mathlib.Core.Bool.{cond}
+use mathlib.Core.List.{List, [], _∷_, _++_, map}
 use Prim.Native.Nat.{ℕ, zero, suc, _+_, _-_, _≤_, _<_}
 use native.Mathlib.Nat.{lt-irrefl, sub-self, sub-zero, zero-sub, suc-sub-suc}
 use native.Mathlib.Omega.{arith}
 use lib.ListN.{length, take, drop}
 use lib.Seq.{take-nil, drop-drop}
+use lib.Dec.{ltb}
 use Rattle.rules.specs.declared.runs.Frame.{Frame}
 use Rattle.rules.specs.declared.runs.Cut.{Cut}
 use Rattle.rules.specs.Slots.{mid, below}
 use Rattle.rules.specs.Runs.{Run, runsBy, runs, kept, placed, nextCut, firstMarked, stretch, axisRuns}
-use Rattle.rules.specs.Division.{_∈_, keptCuts}
+use Rattle.rules.specs.Division.{_∈_}
 use Rattle.rules.proofs.Laws.{either-lt, length-mid, step, none, split}
 use Rattle.rules.proofs.Division.{Chain, done, link, chain-append, chain-end}
 
 abbrev pub slotsOf : Run → ℕ
 slotsOf r = r .slots
+
+-- how many slots each run has
+abbrev pub counts : List Run → List ℕ
+counts = map slotsOf
+
+-- the kept manual breaks: the places of the cuts that stay, in order, after the last kept cut
+unfoldable pub keptCuts : Frame → List ℕ → List ℕ → List ℕ → ℕ → List ℕ → List ℕ
+keptCuts k fs ls is prev [] = []
+keptCuts k fs ls is prev (b ∷ bs) =
+    let c = nextCut k fs ls is prev b .place in
+    let rest = keptCuts k fs ls is c bs in
+    cond (ltb prev c) (c ∷ rest) rest
 
 -- ---- a part of a part
 

@@ -18,11 +18,11 @@ use Rattle.rules.specs.Slots.{sum, mid, below}
 use Rattle.rules.specs.Titles.{titleHolds, pastTitle}
 use Rattle.rules.specs.Runs.{Run, more, natural, capacityAt, filled, resumption, taken, holding, mergeStep, merged, runEnd, run, runs, cutAt, moved, placed, kept, nextCut, stretch, axisRuns}
 use Rattle.rules.specs.Lent.{firsts, lasts, sizes}
-use Rattle.rules.specs.Division.{Fewest, FewestRuns, keptCuts, keptBreaks, counts}
+use Rattle.rules.specs.Division.{Fewest, FewestRuns, keptBreaks}
 use Rattle.rules.proofs.Laws.{either, natural-pos, natural-le, length-mid, split}
 use Rattle.rules.proofs.AxisLaws.{placed-zero, placed-past, placed-moved, kept-yes, kept-low}
 use Rattle.rules.proofs.Division.{Chain, done, link, Counts, chain-le, chain-counts, division-of, total, Good, cuts-from, within-from, chain-of}
-use Rattle.rules.proofs.Cuts.{slotsOf, Stretch, marked-chain, runs-chain, axis-chain, kept-ordered, ordered-in}
+use Rattle.rules.proofs.Cuts.{keptCuts, counts, slotsOf, Stretch, marked-chain, runs-chain, axis-chain, kept-ordered, ordered-in}
 use Rattle.rules.proofs.Whole.{axis-tells}
 
 -- ---- runs none of which could be one slot longer are the fewest

@@ -20,7 +20,7 @@ use Rattle.rules.specs.Slots.{sum}
 use Rattle.rules.specs.Titles.{pastTitle}
 use Rattle.rules.specs.Runs.{Run, run, runs, stretch, axisRuns}
 use Rattle.rules.specs.Lent.{sizes}
-use Rattle.rules.specs.Division.{_∈_, Division, pieces, Within, Fewest, counts, keptCuts}
+use Rattle.rules.specs.Division.{_∈_, Division, pieces, Within, Fewest}
 use Rattle.rules.specs.Scale.{Space, Body, units, capacityOf, frameFor, runsAt, fitsSide, rendered, allFit, runsFit, meets, axisPasses, fitScale}
 use Rattle.rules.specs.Fitting.{RoundedFits, FitsPage, MeetsTarget, Reaches, Chosen}
 use Rattle.rules.proofs.Laws.{either, split}
@@ -29,6 +29,7 @@ use Rattle.rules.proofs.Division.{join, join-pieces}
 use Rattle.rules.proofs.Whole.{axis-tells}
 use Rattle.rules.proofs.Fewest.{axis-fewest}
 use Rattle.rules.proofs.Halving.{fit-chosen}
+use Rattle.rules.proofs.Cuts.{counts, keptCuts}
 
 -- ---- slots of runs
 

@@ -14,11 +14,11 @@ use Rattle.rules.specs.Slots.{sum, mid}
 use Rattle.rules.specs.Titles.{holds}
 use Rattle.rules.specs.Runs.{Run, runOf, natural, again, resumed, resumption, filled, taken, capacityAt, runEnd, run, runs, stretch, axisRuns}
 use Rattle.rules.specs.Lent.{firsts, lasts, sizes, marks}
-use Rattle.rules.specs.Division.{_∈_, Division, startsFrom, pieces, keptCuts, counts, firstOf, lastOf, Tells, MarkedAt, MarksKept}
+use Rattle.rules.specs.Division.{_∈_, Division, startsFrom, pieces, firstOf, lastOf, Tells, MarkedAt, MarksKept}
 use Rattle.rules.proofs.Laws.{either, natural-pos, natural-le, length-mid}
 use Rattle.rules.proofs.EndLaws.{merged-within}
 use Rattle.rules.proofs.Division.{Chain, done, link, chain-counts, division-of, join, join-pieces}
-use Rattle.rules.proofs.Cuts.{slotsOf, runs-chain, marked-chain, axis-chain, kept-ordered, ordered-in}
+use Rattle.rules.proofs.Cuts.{keptCuts, counts, slotsOf, runs-chain, marked-chain, axis-chain, kept-ordered, ordered-in}
 
 -- ---- a run takes at least one slot, and at most all
 

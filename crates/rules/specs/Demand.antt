@@ -70,6 +70,7 @@ pub record NoMergesNoTitles (a b : AxisInput) : Type 0 where
 abbrev pub bodyIndexes : AxisInput → List ℕ
 bodyIndexes a = bodyPart a (a .indexes)
 
+-- the sizes of the body
 abbrev pub bodySizes : AxisInput → List ℕ
 bodySizes a = bodyPart a (a .sizes)
 

@@ -7,9 +7,7 @@ use mathlib.Core.List.{List, [], _∷_, map}
 use Prim.Native.Nat.{ℕ, _+_, _-_, _≤_, _<_}
 use lib.ListN.{length, getD, take, drop}
 use lib.Dec.{ltb}
-use Rattle.rules.specs.declared.runs.Frame.{Frame}
 use Rattle.rules.specs.Slots.{sum, below}
-use Rattle.rules.specs.Runs.{Run, nextCut}
 
 infix 40 _∈_
 -- x is one of the list
@@ -50,16 +48,8 @@ pub record Fewest (cap : ℕ) (cuts sizes ns : List ℕ) : Type 0 where
   pub within-capacity : Within cap sizes ns
   pub none-fewer : (ms : List ℕ) → Division (length sizes) ms → CutsAt cuts ms → Within cap sizes ms → length ns ≤ length ms
 
--- the kept manual breaks: the places of the cuts that stay, in order, after the last kept cut
-unfoldable pub keptCuts : Frame → List ℕ → List ℕ → List ℕ → ℕ → List ℕ → List ℕ
-keptCuts k fs ls is prev [] = []
-keptCuts k fs ls is prev (b ∷ bs) =
-    let c = nextCut k fs ls is prev b .place in
-    let rest = keptCuts k fs ls is c bs in
-    cond (ltb prev c) (c ∷ rest) rest
-
--- what that comes to with no merges and no title: "position = first slot not below the break"; a position past the last kept one and before
--- the end is kept
+-- the kept manual breaks, where there are no merges and no title: "position = first slot not below the break"; a position past the last kept
+-- one and before the end is kept
 unfoldable pub keptBreaks : List ℕ → ℕ → List ℕ → List ℕ
 keptBreaks is prev [] = []
 keptBreaks is prev (b ∷ bs) =
@@ -70,10 +60,7 @@ keptBreaks is prev (b ∷ bs) =
 
 -- ---- runs
 
--- how many slots each run has
-abbrev pub counts : List Run → List ℕ
-counts = map (λ (r : Run). r .slots)
-
+-- the first and the last of some
 abbrev pub firstOf : List ℕ → ℕ
 firstOf xs = getD xs 0 0
 

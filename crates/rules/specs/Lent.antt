@@ -7,6 +7,7 @@ use Rattle.rules.specs.declared.runs.Counted.{Counted}
 use Rattle.rules.specs.Slots.{written}
 use Rattle.rules.specs.Runs.{Run, expansions}
 
+-- so many runs and expansions
 abbrev pub counts : ℕ → ℕ → Counted
 counts n g = record { runs = n; grown = g }
 
@@ -14,6 +15,7 @@ counts n g = record { runs = n; grown = g }
 abbrev pub counted : List Run → Counted
 counted rs = counts (length rs) (expansions rs)
 
+-- the four lists of runs: firsts, lasts, sizes, and marks of manual breaks
 abbrev pub firsts : List Run → List ℕ
 firsts = map (λ (r : Run). r .first)
 
@@ -48,6 +50,7 @@ pub record Room (rs : List Run) (f l s m : List ℕ) : Type 0 where
   pub sizes-even : length f ≡ length s
   pub marks-even : length f ≡ length m
 
+-- the same of lists that are written from their front on
 pub record Written (rs : List Run) (n : ℕ) (f₀ l₀ s₀ m₀ f l s m : List ℕ) : Type 0 where
   pub count : n ≡ length rs
   pub firsts-are : f ≡ written (firsts rs) f₀

@@ -1,4 +1,4 @@
--- What the contracts of `planner` cite: a file for each section of document 01, what they share, and the words of demand 3.
+-- What contracts cite, here and in the crates that cut, plan and page: a file for each section of document 01, what they share, and the words of demand 3.
 pub mod Slots
 pub mod Questions
 pub mod Titles

@@ -27,6 +27,7 @@ use Rattle.rules.specs.Scale.{Space, fitsSide, printed}
 abbrev pub emptyRun : ℕ → Run
 emptyRun first = record { first = first; last = first; size = 0; slots = 0; grown = 0; manual = 0 }
 
+-- there are no runs
 abbrev pub none : {A : Type 0} → List A → Bool
 none [] = true
 none (x ∷ xs) = false
@@ -53,6 +54,7 @@ pub record RunLists : Type 0 where
   pub sizes : List ℕ
   pub marks : List ℕ
 
+-- four lists of runs together
 abbrev pub runLists : List ℕ → List ℕ → List ℕ → List ℕ → RunLists
 runLists f l z m = record { firsts = f; lasts = l; sizes = z; marks = m }
 
@@ -69,6 +71,7 @@ unfoldable pub upFrom : ℕ → ℕ → List ℕ
 upFrom k zero = []
 upFrom k (suc n) = k ∷ upFrom (suc k) n
 
+-- lists one after another
 unfoldable pub joined : {A : Type 0} → List (List A) → List A
 joined [] = []
 joined (xs ∷ rest) = xs ++ joined rest
@@ -86,6 +89,7 @@ pagesOf p rows columns = take (p .pages) (inOrder (p .order) (p .«row_runs») (
 
 -- ---- one page by its number
 
+-- 6: the lists of an axis' runs are equally long
 abbrev pub evenLists : RunLists → Bool
 evenLists l = lentEven (l .firsts) (l .lasts) (l .sizes) (l .marks)
 

@@ -26,9 +26,11 @@ frameOf s = record { untitled = s .untitled; titled = s .titled; title = s .titl
 abbrev pub bodyOf : AxisSetup → List ℕ → List ℕ → List ℕ
 bodyOf s is xs = mid (below (bodyStart (s .title) (s .first)) is) (below (s .last + 1) is) xs
 
+-- the runs of the body, between the manual breaks
 unfoldable pub bodyRuns : AxisSetup → List ℕ → List ℕ → List ℕ → List ℕ → List ℕ → List Run
 bodyRuns s is ss fs ls bs = axisRuns (frameOf s) fs ls (bodyOf s is is) (bodyOf s is ss) 0 bs
 
+-- how many there are, with expansions and shifts
 unfoldable pub bodyTally : AxisSetup → List ℕ → List ℕ → List ℕ → List ℕ → List ℕ → Tally
 bodyTally s is ss fs ls bs = axisTally (frameOf s) fs ls (bodyOf s is is) (bodyOf s is ss) bs
 
@@ -36,6 +38,7 @@ bodyTally s is ss fs ls bs = axisTally (frameOf s) fs ls (bodyOf s is is) (bodyO
 abbrev pub roomFor : List Run → Tally → ℕ → Outcome Tally
 roomFor rs t room = ask 11 (leb (length rs) room) (given t)
 
+-- what the body comes to, with so much room
 abbrev pub fits : AxisSetup → List ℕ → List ℕ → List ℕ → List ℕ → List ℕ → ℕ → Outcome Tally
 fits s is ss fs ls bs room = roomFor (bodyRuns s is ss fs ls bs) (bodyTally s is ss fs ls bs) room
 

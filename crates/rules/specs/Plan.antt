@@ -72,6 +72,7 @@ rowsOf s g title is ss fs ls bs = record {
   target = orElse (s .«fit_height») 1;
 }
 
+-- the columns of a job
 abbrev pub columnsOf : Settings → PrintRange → Title → List ℕ → List ℕ → List ℕ → List ℕ → List ℕ → AxisInput
 columnsOf s g title is ss fs ls bs = record {
   limit = limitOf Columns;
@@ -93,6 +94,7 @@ columnsOf s g title is ss fs ls bs = record {
 abbrev pub titleOf : AxisInput → Widened
 titleOf a = widened (a .limit) (a .title) (a .merge-firsts) (a .merge-lasts)
 
+-- where the body starts
 abbrev pub startOf : AxisInput → ℕ
 startOf a = bodyStart (titleOf a .title) (a .first)
 
@@ -125,6 +127,7 @@ pub record Sides : Type 0 where
   pub unknown : ℕ
   pub invalid : ℕ
 
+-- both content sides, with what was noted of paper and margins (section "Paper and content")
 unfoldable pub contentSides : Settings → Outcome Sides
 contentSides s =
     andThen (paperGeometry (s .paper) (s .landscape))
@@ -138,6 +141,7 @@ abbrev pub passesBoth : Sides → AxisInput → AxisInput → ℕ → Bool
 passesBoth c rows columns p =
     axisPasses (spaceOn (c .height) rows) (bodyOf rows) (rows .target) p && axisPasses (spaceOn (c .width) columns) (bodyOf columns) (columns .target) p
 
+-- the scale of a plan: by fitting both axes, or by percent (section "Scale")
 unfoldable pub chosenScale : Settings → Sides → AxisInput → AxisInput → Scale
 chosenScale s c rows columns = cond (s .fit) (fitScale (passesBoth c rows columns)) (fixedScale (s .percent))
 
@@ -149,6 +153,7 @@ cutRuns side a p =
     let b = bodyOf a in
     axisRuns (frameFor (spaceOn side a) b p) (b .firsts) (b .lasts) (b .indexes) (b .sizes) 0 (a .breaks)
 
+-- the shifts of that cut
 unfoldable pub cutShifts : ℤ → AxisInput → ℕ → ℕ
 cutShifts side a p =
     let b = bodyOf a in
@@ -158,9 +163,11 @@ cutShifts side a p =
 unfoldable pub pageRuns : ℤ → AxisInput → ℕ → List Run
 pageRuns side a p = orEmpty (a .first) (cutRuns side a p)
 
+-- an axis without runs
 abbrev pub bodyIsEmpty : ℤ → AxisInput → ℕ → Bool
 bodyIsEmpty side a p = none (cutRuns side a p)
 
+-- how many runs of an axis overflow
 abbrev pub overflows : ℤ → AxisInput → ℕ → ℕ
 overflows side a p =
     let rs = pageRuns side a p in
@@ -199,6 +206,7 @@ planOf s c rows columns scale =
       };
     }
 
+-- the plan at a scale, with the runs of both axes
 unfoldable pub layoutAt : Settings → Sides → AxisInput → AxisInput → Scale → Layout
 layoutAt s c rows columns scale = record {
   plan = planOf s c rows columns scale;
@@ -206,6 +214,7 @@ layoutAt s c rows columns scale = record {
   columns = pageRuns (c .width) columns (scale .permille);
 }
 
+-- the plan at the scale that is chosen
 unfoldable pub layout : Settings → Sides → AxisInput → AxisInput → Layout
 layout s c rows columns = layoutAt s c rows columns (chosenScale s c rows columns)
 
@@ -245,6 +254,7 @@ abbrev pub rowsIn : Outcome Layout → List Run
 rowsIn (given l) = l .rows
 rowsIn (refused n) = []
 
+-- the columns of an axis range
 abbrev pub columnsIn : Outcome Layout → List Run
 columnsIn (given l) = l .columns
 columnsIn (refused n) = []
@@ -280,9 +290,11 @@ axisFor r is ss fs ls bs = record {
   target = r .target;
 }
 
+-- both sides as they were found
 abbrev pub sidesOf : ContentSides → Sides
 sidesOf c = record { width = c .width .0; height = c .height .0; unknown = c .unknown; invalid = c .invalid }
 
+-- the value or the number that each case of `SidesFound` stands for
 abbrev pub sidesOutcome : SidesFound → Outcome Sides
 sidesOutcome (found.Value c) = given (sidesOf c)
 sidesOutcome found.CoordinateOverflow = refused 10
@@ -325,6 +337,7 @@ MadeReady r side axis is ss fs ls = (bs : List ℕ) → ReadyFor r side (axisFor
 abbrev pub AreRows : AxisRange → Settings → PrintRange → Title → Type 0
 AreRows r s g title = (is ss fs ls bs : List ℕ) → axisFor r is ss fs ls (lookedAt (s .fit) bs) ≡ rowsOf s g title is ss fs ls bs
 
+-- the same of columns
 abbrev pub AreColumns : AxisRange → Settings → PrintRange → Title → Type 0
 AreColumns r s g title = (is ss fs ls bs : List ℕ) → axisFor r is ss fs ls (lookedAt (s .fit) bs) ≡ columnsOf s g title is ss fs ls bs
 
@@ -332,12 +345,15 @@ AreColumns r s g title = (is ss fs ls bs : List ℕ) → axisFor r is ss fs ls (
 abbrev pub within : Ready → List ℕ → List ℕ
 within r xs = mid (r .from) (r .to) xs
 
+-- what the runs of a ready axis go by at a permille
 abbrev pub readyFrame : Fit → ℕ → Frame
 readyFrame f p = frameFor (spaceOf (f .page)) (bodyFor (f .stretch) [] [] [] []) p
 
+-- the runs of a ready axis at a permille
 abbrev pub readyRuns : Ready → ℕ → List ℕ → List ℕ → List ℕ → List ℕ → List ℕ → List Run
 readyRuns r p is ss fs ls bs = axisRuns (readyFrame (r .fit) p) fs ls (within r is) (within r ss) 0 bs
 
+-- the shifts of that cut
 abbrev pub readyShifts : Ready → ℕ → List ℕ → List ℕ → List ℕ → List ℕ → ℕ
 readyShifts r p is fs ls bs = shifts (readyFrame (r .fit) p) fs ls (within r is) 0 bs
 

@@ -34,12 +34,6 @@ holding lo hi b [] ls = Free
 holding lo hi b (f ∷ fs) [] = Free
 holding lo hi b (f ∷ fs) (l ∷ ls) = nearer (max f lo) (min l hi) b (holding lo hi b fs ls)
 
--- the merge that is used, of these merges and of what was found before (for the private functions)
-unfoldable pub holdingOnto : ℕ → ℕ → ℕ → List ℕ → List ℕ → Held → Held
-holdingOnto lo hi b [] ls held = held
-holdingOnto lo hi b (f ∷ fs) [] held = held
-holdingOnto lo hi b (f ∷ fs) (l ∷ ls) held = nearer (max f lo) (min l hi) b (holdingOnto lo hi b fs ls held)
-
 -- ---- natural filling
 
 -- how many of the slots go onto a sum s within the capacity
@@ -56,6 +50,7 @@ natural cap (x ∷ xs) = suc (more cap x xs)
 unfoldable pub capacityAt : Frame → ℕ → ℕ
 capacityAt k i = cond (pastTitle (k .title) i) (k .titled) (k .untitled)
 
+-- how many slots filling gives the run at the head
 unfoldable pub filled : Frame → List ℕ → List ℕ → ℕ
 filled k is ss = natural (capacityAt k (getD is 0 0)) ss
 
@@ -97,6 +92,7 @@ mergeStep Free n is = ends n 0
 mergeStep (By f l) n is =
     cond (ltb 0 (below f is)) (ends (below f is) 0) (cond (ltb n (through l is)) (ends (through l is) 1) (ends n 0))
 
+-- the run's end, where n slots were taken: if slots remain, the merge step
 unfoldable pub merged : ℕ → ℕ → List ℕ → List ℕ → ℕ → List ℕ → RunEnd
 merged lo hi fs ls n is = cond (ltb n (length is)) (mergeStep (holding lo hi (getD is n 0) fs ls) n is) (ends n 0)
 
@@ -115,9 +111,11 @@ pub record Run : Type 0 where
 abbrev pub runOf : ℕ → ℕ → List ℕ → List ℕ → Run
 runOf n g is ss = record { first = getD is 0 0; last = getD is (n - 1) 0; size = sum (take n ss); slots = n; grown = g; manual = 0 }
 
+-- where the run at the head ends
 unfoldable pub runEnd : Frame → List ℕ → List ℕ → List ℕ → List ℕ → RunEnd
 runEnd k fs ls is ss = merged (k .lo) (k .hi) fs ls (taken k is ss) is
 
+-- the run at the head
 unfoldable pub run : Frame → List ℕ → List ℕ → List ℕ → List ℕ → Run
 run k fs ls is ss = runOf (runEnd k fs ls is ss .slots) (runEnd k fs ls is ss .grown) is ss
 
@@ -128,9 +126,11 @@ runsBy at k (i ∷ is) [] = []
 runsBy at zero (i ∷ is) (s ∷ ss) = at (i ∷ is) (s ∷ ss) ∷ runsBy at (pred (at (i ∷ is) (s ∷ ss) .slots)) is ss
 runsBy at (suc k) (i ∷ is) (s ∷ ss) = runsBy at k is ss
 
+-- the runs of a stretch
 unfoldable pub runs : Frame → List ℕ → List ℕ → List ℕ → List ℕ → List Run
 runs k fs ls is ss = runsBy (run k fs ls) zero is ss
 
+-- how many expansions they count
 unfoldable pub expansions : List Run → ℕ
 expansions [] = 0
 expansions (r ∷ rs) = r .grown + expansions rs
@@ -166,6 +166,7 @@ nextCut k fs ls is prev b = kept (length is) prev (placed k fs ls is prev (below
 
 -- ---- the runs of an axis
 
+-- the run with a mark
 abbrev pub withMark : ℕ → Run → Run
 withMark m r = record { first = r .first; last = r .last; size = r .size; slots = r .slots; grown = r .grown; manual = m }
 
@@ -184,10 +185,12 @@ axisRuns k fs ls is ss prev [] = stretch k fs ls is ss prev (length ss)
 axisRuns k fs ls is ss prev (b ∷ bs) =
     stretch k fs ls is ss prev (nextCut k fs ls is prev b .place) ++ axisRuns k fs ls is ss (nextCut k fs ls is prev b .place) bs
 
+-- how many shifts the breaks count, from the last kept cut on
 unfoldable pub shifts : Frame → List ℕ → List ℕ → List ℕ → ℕ → List ℕ → ℕ
 shifts k fs ls is prev [] = 0
 shifts k fs ls is prev (b ∷ bs) = nextCut k fs ls is prev b .shifted + shifts k fs ls is (nextCut k fs ls is prev b .place) bs
 
+-- so many runs, expansions and shifts
 abbrev pub tallies : ℕ → ℕ → ℕ → Tally
 tallies n g s = record { runs = n; expansions = g; shifts = s }
 
@@ -195,3 +198,11 @@ tallies n g s = record { runs = n; expansions = g; shifts = s }
 unfoldable pub axisTally : Frame → List ℕ → List ℕ → List ℕ → List ℕ → List ℕ → Tally
 axisTally k fs ls is ss bs =
     tallies (length (axisRuns k fs ls is ss 0 bs)) (expansions (axisRuns k fs ls is ss 0 bs)) (shifts k fs ls is 0 bs)
+
+-- ---- for the private functions
+
+-- the merge that is used, of these merges and of what was found before
+unfoldable pub holdingOnto : ℕ → ℕ → ℕ → List ℕ → List ℕ → Held → Held
+holdingOnto lo hi b [] ls held = held
+holdingOnto lo hi b (f ∷ fs) [] held = held
+holdingOnto lo hi b (f ∷ fs) (l ∷ ls) held = nearer (max f lo) (min l hi) b (holdingOnto lo hi b fs ls held)

@@ -70,6 +70,7 @@ units (refused n) = 0
 abbrev pub capacityOf : Space → ℕ → ℕ → ℕ
 capacityOf s p t = units (unscaledCapacity (s .side) p (pos t) (pos (s .headings)))
 
+-- what the runs of an axis go by at a permille: both capacities, the title, and the stretch that merges are clipped to
 abbrev pub frameFor : Space → Body → ℕ → Frame
 frameFor s b p = record { untitled = capacityOf s p 0; titled = capacityOf s p (s .titles); title = b .title; lo = b .lo; hi = b .hi }
 
@@ -77,6 +78,7 @@ frameFor s b p = record { untitled = capacityOf s p 0; titled = capacityOf s p (
 unfoldable pub runsAt : Space → Body → ℕ → List Run
 runsAt s b p = runs (frameFor s b p) (b .firsts) (b .lasts) (b .indexes) (b .sizes)
 
+-- a length that was had is at most the side
 abbrev pub atMost : Outcome ℤ → ℤ → Bool
 atMost (given z) side = leZ z side
 atMost (refused n) side = false
@@ -93,6 +95,7 @@ printed s t empty first size = size + cond (empty || pastTitle t first) (s .titl
 abbrev pub rendered : Space → Body → Run → ℕ
 rendered s b r = printed s (b .title) false (r .first) (r .size)
 
+-- every run does
 unfoldable pub allFit : Space → Body → ℕ → List Run → Bool
 allFit s b p [] = true
 allFit s b p (r ∷ rs) = fitsSide s p (rendered s b r) && allFit s b p rs
@@ -106,6 +109,7 @@ runsFit s b p (r ∷ rs) = allFit s b p (r ∷ rs)
 abbrev pub meets : ℕ → ℕ → Bool
 meets target n = eqb target 0 || leb n target
 
+-- "both axes are cut without breaks": an axis passes if its runs fit and meet the target
 unfoldable pub axisPasses : Space → Body → ℕ → ℕ → Bool
 axisPasses s b target p = runsFit s b p (runsAt s b p) && meets target (length (runsAt s b p))
 
@@ -138,9 +142,11 @@ fitScale passes =
 abbrev pub spaceOf : PageSide → Space
 spaceOf s = record { side = s .side .0; headings = s .headings; titles = s .titles }
 
+-- a scale as the code has it
 abbrev pub scaleOf : ChosenScale → Scale
 scaleOf c = record { permille = c .permille; clamp = c .clamp; unreachable = c .unreachable }
 
+-- the body of an axis that is fitted
 abbrev pub bodyFor : Stretch → List ℕ → List ℕ → List ℕ → List ℕ → Body
 bodyFor t fs ls is ss = record { title = t .title; lo = t .lo; hi = t .hi; firsts = fs; lasts = ls; indexes = is; sizes = ss }
 
@@ -153,6 +159,7 @@ pub record Low (s : PageSide) : Type 0 where
   pub headings-low : s .headings ≤ 2 ^ 50
   pub titles-low : s .titles ≤ 2 ^ 50
 
+-- an axis that is fitted passes at a permille
 abbrev pub fitPasses : Fit → List ℕ → List ℕ → List ℕ → List ℕ → ℕ → Bool
 fitPasses f fs ls is ss p = axisPasses (spaceOf (f .page)) (bodyFor (f .stretch) fs ls is ss) (f .target) p
 

@@ -21,6 +21,7 @@ pub record Slots (indexes sizes : List ℕ) : Type 0 where
   pub small : Small sizes
   pub rising : Rising indexes
 
+-- the sum of some sizes
 unfoldable pub sum : List ℕ → ℕ
 sum [] = 0
 sum (x ∷ xs) = x + sum xs

@@ -22,15 +22,10 @@ use Rattle.rules.specs.Questions.{ask, equallyLong, allOrdered, allWithi
 abbrev pub holds : ℕ → ℕ → ℕ → Bool
 holds f l b = ltb f b && leb b l
 
+-- the title holds b
 unfoldable pub titleHolds : Title → ℕ → Bool
 titleHolds Absent b = false
 titleHolds (Pair f l) b = holds f l b
-
--- no merge is one that p says; merges are two lists side by side (for the private functions)
-unfoldable pub noMerge : (ℕ → ℕ → Bool) → List ℕ → List ℕ → Bool
-noMerge p [] ls = true
-noMerge p (f ∷ fs) [] = true
-noMerge p (f ∷ fs) (l ∷ ls) = not (p f l) && noMerge p fs ls
 
 -- the slot lies past the title's last
 unfoldable pub pastTitle : Title → ℕ → Bool
@@ -63,10 +58,6 @@ normalized limit (Pair f l) =
 -- "widen the pair to each merge that meets it": to one, from f to l
 unfoldable pub widenTo : Span → ℕ → ℕ → Span
 widenTo s f l = cond (leb f (s .last) && leb (s .first) l) (record { first = min (s .first) f; last = max (s .last) l }) s
-
--- a merge meets the span and does not lie within it (for the private functions)
-abbrev pub widens : Span → ℕ → ℕ → Bool
-widens s f l = leb f (s .last) && (leb (s .first) l && not (leb (s .first) f && leb l (s .last)))
 
 -- one of the "passes over all merges in given order"
 unfoldable pub pass : List ℕ → List ℕ → Span → Span
@@ -120,3 +111,15 @@ widenTitle limit title fs ls =
     ask 6 (equallyLong fs ls && allOrdered fs ls)
     (ask 7 (allWithin limit ls)
     (given (widened limit title fs ls)))
+
+-- ---- for the private functions
+
+-- no merge is one that p says; merges are two lists side by side
+unfoldable pub noMerge : (ℕ → ℕ → Bool) → List ℕ → List ℕ → Bool
+noMerge p [] ls = true
+noMerge p (f ∷ fs) [] = true
+noMerge p (f ∷ fs) (l ∷ ls) = not (p f l) && noMerge p fs ls
+
+-- a merge meets the span and does not lie within it
+abbrev pub widens : Span → ℕ → ℕ → Bool
+widens s f l = leb f (s .last) && (leb (s .first) l && not (leb (s .first) f && leb l (s .last)))

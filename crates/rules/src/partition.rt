@@ -1,4 +1,4 @@
-// The cut of an axis into lent lists.
+// What the cut of an axis into lent lists takes and answers: document 01, section "Runs".
 use crate::runs::Tally;
 use crate::titles::Title;
 

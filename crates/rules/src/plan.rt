@@ -1,4 +1,4 @@
-// The plan call.
+// What the plan call takes and answers: document 01, sections "Scale" and "Pages".
 use crate::pages::PageOrder;
 use crate::pages::Plan;
 use crate::scale::Fit;

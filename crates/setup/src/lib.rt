@@ -50,12 +50,14 @@ pub fn fixed_scale(percent: Setting) -> ChosenScale
     }
 }
 
+// What headings take of a page, where they are on.
 fn headings_of(on: bool, size: u64) -> u64
     ensures { λ r. ⌜ r ≡ cond on size 0 ⌝ }
 {
     if on { size } else { 0 }
 }
 
+// The rows of a range as they are cut: the grid's last row, the headings, and the most pages downwards.
 pub fn row_range(settings: Settings, range: PrintRange, title: Title) -> AxisRange
     ensures { λ r. ⌜ call.AreRows r settings range title ⌝ }
 {
@@ -70,6 +72,7 @@ pub fn row_range(settings: Settings, range: PrintRange, title: Title) -> AxisRan
     }
 }
 
+// The columns of a range, likewise.
 pub fn column_range(settings: Settings, range: PrintRange, title: Title) -> AxisRange
     ensures { λ r. ⌜ call.AreColumns r settings range title ⌝ }
 {
@@ -91,6 +94,7 @@ pub fn looked_at(fit: bool, breaks: usize) -> usize
     if fit { 0 } else { breaks }
 }
 
+// The content's width and height, with what was noted of paper and margins.
 pub fn content_sides(settings: Settings) -> SidesFound
     ensures { λ r. ⌜ call.sidesOutcome r ≡ call.contentSides settings ⌝ }
 {

@@ -1,3 +1,4 @@
+-- `cuts::merges::earlier_of` meets its contract. Assumes nothing.
 use borrow.Author.Tests.{lt-ltb, le-ltb}
 use borrow.Author.Needs.{needs}
 use Rattle.cuts.proofs.merges.earlier_of.Statement.{statement}

@@ -1,3 +1,4 @@
+-- `cuts::merges::nearer_of` meets its contract. Assumes nothing.
 use borrow.Author.Tests.{lt-ltb, le-ltb, le-leb, lt-leb}
 use borrow.Author.Needs.{needs}
 use Rattle.cuts.proofs.merges.nearer_of.Statement.{statement}

@@ -1,3 +1,4 @@
+-- `planner::runs::count_axis` meets its contract. Assumes nothing.
 use Rattle.rules.proofs.AxisLaws.{stretch-length, stretch-expansions, axis-more, axis-end, shifts-more, shifts-end, expansions-append}
 use Rattle.rules.proofs.Laws.{length-mid, slots-mid}
 use Rattle.rules.specs.declared.runs.Counted.{Counted}

@@ -1,3 +1,4 @@
+-- `planner::runs::title_end` meets its contract. Assumes nothing.
 use native.Mathlib.Omega.{arith}
 -- `planner::runs::title_end` meets its contract. Assumes nothing.
 use Rattle.rules.proofs.EndLaws.{title-holds, title-before, title-after}
