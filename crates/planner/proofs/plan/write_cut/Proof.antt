@@ -107,16 +107,16 @@ overflowing-runs-requires c κs =
     (q .low, (taken-even _ _ _ _ y, taken-moderate _ _ _ _ y (runs-moderate (a .first) (readyFrame (a .ready .fit) (a .permille)) (a .merge-firsts .now) (a .merge-lasts .now) (within (a .ready) (a .indexes .now)) (within (a .ready) (a .sizes .now)) (a .breaks .now) slots)))
 
 same-length : tie.Need-same-length
-same-length c = search needs
+same-length c = c .before .before .before .before .before .before .before .before .before .before .before .write-page-runs .kept .1 .1 .1 .1 .1 .1 .1 .1 .0
 
 same-length-2 : tie.Need-same-length-2
-same-length-2 c = search needs
+same-length-2 c = c .before .before .before .before .before .before .before .before .before .before .before .write-page-runs .kept .1 .1 .1 .1 .1 .1 .1 .1 .1 .0
 
 same-length-3 : tie.Need-same-length-3
-same-length-3 c = search needs
+same-length-3 c = c .before .before .before .before .before .before .before .before .before .before .before .write-page-runs .kept .1 .1 .1 .1 .1 .1 .1 .1 .1 .1 .0
 
 same-length-4 : tie.Need-same-length-4
-same-length-4 c = search needs
+same-length-4 c = c .before .before .before .before .before .before .before .before .before .before .before .write-page-runs .kept .1 .1 .1 .1 .1 .1 .1 .1 .1 .1 .1 .0
 
 returns : tie.Need-returns
 returns c =
