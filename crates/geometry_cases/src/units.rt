@@ -2,8 +2,8 @@
 use crate::figures::infinity;
 use crate::figures::nan;
 use crate::figures::say;
-use geometry::Fixed;
-use geometry::Length;
+use units::Fixed;
+use units::Length;
 
 fn gives(answer: Length, raw: i64) -> bool {
     match answer {
@@ -20,11 +20,11 @@ fn refuses(answer: Length) -> bool {
 }
 
 fn inches(x: f64) -> Length {
-    geometry::inches_to_fixed(x)
+    units::inches_to_fixed(x)
 }
 
 fn capacity(side: i64, permille: u16, titles: i64, headings: i64) -> Length {
-    geometry::unscaled_capacity(
+    units::unscaled_capacity(
         Fixed::from_raw(side),
         permille,
         Fixed::from_raw(titles),
@@ -33,7 +33,7 @@ fn capacity(side: i64, permille: u16, titles: i64, headings: i64) -> Length {
 }
 
 fn scaled(size: i64, permille: u16) -> Length {
-    geometry::scale_fixed(Fixed::from_raw(size), permille)
+    units::scale_fixed(Fixed::from_raw(size), permille)
 }
 
 fn inches_figures() {

@@ -4,7 +4,7 @@ use mathlib.Core.Bool.{Bool, true, false, true≢false, _&&_}
 use mathlib.Core.List.{List}
 use Prim.Native.Nat.{ℕ}
 use lib.ListN.{take}
-use Rattle.geometry.specs.Outcome.{Outcome, given, refused, andThen}
+use Rattle.units.specs.Outcome.{Outcome, given, refused, andThen}
 use Rattle.rules.specs.declared.plan.Settings.{Settings}
 use Rattle.rules.specs.Questions.{ask, equallyLong}
 use Rattle.rules.specs.Pages.{RunLists, evenLists}

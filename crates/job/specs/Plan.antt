@@ -4,7 +4,7 @@ use mathlib.Core.Bool.{true, cond, _&&_}
 use mathlib.Core.List.{List}
 use Prim.Native.Nat.{ℕ, _≤_}
 use lib.ListN.{length, take}
-use Rattle.geometry.specs.Outcome.{Outcome, andThen}
+use Rattle.units.specs.Outcome.{Outcome, andThen}
 use Rattle.rules.specs.declared.pages.PageOrder.{PageOrder}
 use Rattle.rules.specs.declared.pages.PageOrder.the-variants.{DownThenOver, OverThenDown}
 use Rattle.rules.specs.declared.plan.Settings.{Settings}

@@ -20,7 +20,7 @@ ghost use mathlib.Core.Path.{_≡_};
 ghost use mathlib.Core.Bool.{false};
 ghost use Prim.Native.Nat.{_≤_};
 ghost use lib.ListN.{length};
-ghost use Rattle.geometry.specs.Outcome.{refused};
+ghost use Rattle.units.specs.Outcome.{refused};
 ghost use Rattle.rules.specs.Pages as pages;
 ghost use Rattle.rules.specs.Plan as call;
 ghost use Rattle.rules.specs.Demand.{CoversPairs, FewestPlan, LargestPlan};

@@ -8,7 +8,7 @@ use native.Mathlib.Omega.{arith}
 use lib.Dec.{T, leb, eqb, leb→le}
 use lib.ListN.{length}
 use borrow.Author.Tests.{le-leb, leb-true}
-use Rattle.geometry.specs.Outcome.{given, refused}
+use Rattle.units.specs.Outcome.{given, refused}
 use Rattle.records.specs.declared.records.Record.{Record}
 use Rattle.records.specs.declared.records.Step.{Step}
 use Rattle.records.specs.declared.records.Step.the-variants.{Read, Nothing}

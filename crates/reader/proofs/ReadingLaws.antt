@@ -7,7 +7,7 @@ use native.Mathlib.Omega.{arith}
 use lib.Dec.{leb, eqb}
 use lib.ListN.{length, take, drop}
 use borrow.Author.Tests.{eqb-true, leb-true}
-use Rattle.geometry.specs.Outcome.{Outcome, given, refused}
+use Rattle.units.specs.Outcome.{Outcome, given, refused}
 use Rattle.rules.specs.Slots.{written}
 use Rattle.rules.specs.Partition.{lent}
 use Rattle.records.specs.declared.records.Record.{Record}

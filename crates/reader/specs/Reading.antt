@@ -5,7 +5,7 @@ use mathlib.Core.Bool.{Bool, true, _&&_}
 use mathlib.Core.List.{List, [], _∷_}
 use lib.ListN.{length}
 use lib.Dec.{leb, eqb}
-use Rattle.geometry.specs.Outcome.{Outcome, given, refused}
+use Rattle.units.specs.Outcome.{Outcome, given, refused}
 use Rattle.rules.specs.Slots.{written}
 use Rattle.rules.specs.Partition.{lent}
 use Rattle.records.specs.Records.{RW, CL, MR, BR, BC, records, values}

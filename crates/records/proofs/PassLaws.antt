@@ -9,7 +9,7 @@ use native.Mathlib.Omega.{arith}
 use lib.Dec.{leb, ltb, eqb}
 use lib.ListN.{length, take, drop}
 use borrow.Author.Tests.{le-leb, lt-leb, lt-ltb, eq-eqb, ne-eqb}
-use Rattle.geometry.specs.Outcome.{Outcome, given, refused}
+use Rattle.units.specs.Outcome.{Outcome, given, refused}
 use Rattle.records.specs.declared.records.Record.{Record}
 use Rattle.records.specs.declared.records.Record.the-variants.{Paper, Landscape, Margin, Scale, Wide, High, Fit, Order, Headings, Limit, Area, TitleRows, TitleColumns, Row, Column, Merged, RowBreak, ColumnBreak, End}
 use Rattle.records.specs.declared.records.Step.{Step}

@@ -7,7 +7,7 @@ use lib.ListN.{length}
 use lib.Dec.{leb, ltb, eqb}
 use lib.IntN.{ℤ, pos}
 use lib.Signed.{leZ}
-use Rattle.geometry.specs.Outcome.{Outcome, given, refused}
+use Rattle.units.specs.Outcome.{Outcome, given, refused}
 use Rattle.records.specs.Records.{AR, RW, CL, MR, BR, BC, rank, step, ended, records, rest, marked, values}
 use Rattle.records.specs.declared.records.Range.{Range}
 use Rattle.records.specs.declared.records.Record.{Record}

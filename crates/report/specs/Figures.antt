@@ -7,7 +7,7 @@ use native.Mathlib.Nat.{pow-succ'}
 use native.Mathlib.Omega.{arith}
 use lib.Dec.{lit<, lit≤}
 use borrow.Author.Tests.{lt-ltb}
-use Rattle.geometry.specs.Outcome.{given, refused}
+use Rattle.units.specs.Outcome.{given, refused}
 use Rattle.rules.specs.declared.pages.Notes.{Notes}
 use Rattle.rules.specs.declared.pages.Page.{Page}
 use Rattle.rules.specs.declared.pages.PageOrder.the-variants.{DownThenOver}

@@ -5,7 +5,7 @@ use Prim.Native.Nat.{ℕ, zero, suc, _+_, _-_, _*_, _/_, _%_, _≤_, _<_}
 use native.Mathlib.Nat.{mod-lt, mod-eq-of-lt, mod-eq-sub-mod, div-eq-of-lt, div-eq-sub-div, div-lt-iff-lt-mul, div-add-mod', mul-le-mul-right, add-zero}
 use native.Mathlib.Omega.{arith}
 use lib.ListN.{length, take, length-take, length-append}
-use Rattle.geometry.specs.Outcome.{given, refused}
+use Rattle.units.specs.Outcome.{given, refused}
 use Rattle.rules.specs.declared.pages.PageOrder.{PageOrder}
 use Rattle.rules.specs.declared.pages.PageOrder.the-variants.{DownThenOver, OverThenDown}
 use Rattle.rules.specs.Pages.{upFrom, joined, inOrder, numbered, placeOf}

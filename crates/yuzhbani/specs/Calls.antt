@@ -2,7 +2,7 @@
 use mathlib.Core.Path.{_≡_}
 use mathlib.Core.List.{List}
 use Prim.Native.Nat.{ℕ}
-use Rattle.geometry.specs.Outcome.{Outcome, given, refused, andThen}
+use Rattle.units.specs.Outcome.{Outcome, given, refused, andThen}
 use Rattle.rules.specs.Pages.{RunLists}
 use Rattle.rules.specs.Plan.{Layout, RunsLent, rowsIn, columnsIn, planOutcome}
 use Rattle.report.specs.declared.blocks.Block.{Block}

@@ -3,7 +3,7 @@ use mathlib.Core.Path.{_≡_, sym, ap, subst, _∙_}
 use Prim.Native.Nat.{ℕ, _≤_, _<_}
 use native.Mathlib.Omega.{arith}
 use lib.ListN.{length}
-use Rattle.geometry.specs.Outcome.{Outcome, given}
+use Rattle.units.specs.Outcome.{Outcome, given}
 use Rattle.rules.specs.declared.runs.Tally.{Tally}
 use Rattle.rules.specs.Runs.{Run, axisRuns, axisTally}
 use Rattle.rules.specs.Partition.{roomFor}

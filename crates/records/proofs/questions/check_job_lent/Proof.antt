@@ -1,7 +1,7 @@
 -- `records::questions::check_job_lent` meets its contract: the pass over the records tells the first no. Assumes nothing.
 use mathlib.Core.Path.{ap, _∙_}
 use mathlib.Core.List.{[]}
-use Rattle.geometry.specs.Outcome.{given}
+use Rattle.units.specs.Outcome.{given}
 use Rattle.records.specs.Records.{records}
 use Rattle.records.specs.Verdict.{verdictLent, itemsOf}
 use Rattle.records.proofs.PassLaws.{job-stopped, job-no, job-yes, job-items}
