@@ -1,10 +1,10 @@
 // What is asked of a plan beside its lists, as thirty numbers.
+use defaults::MarginsRead;
+use defaults::margin_setting;
 use geometry::MarginSetting;
 use geometry::Setting;
 use numbers::order_from;
 use numbers::u16_from;
-use reader::MarginsRead;
-use reader::margin_setting;
 use records::MarginBits;
 use rules::PrintRange;
 use rules::Settings;

@@ -11,13 +11,13 @@ use Rattle.rules.specs.Pages.{RunLists, evenLists}
 use Rattle.rules.specs.Plan.{AxisInput, Layout, formed, planned}
 use Rattle.rules.proofs.QuestionLaws.{both}
 use Rattle.rules.proofs.PlanLaws.{formed-of}
-use Rattle.records.specs.declared.questions.Items.{Items}
+use Rattle.job_questions.specs.declared.Items.{Items}
 use Rattle.reader.specs.declared.lists.Job.{Job}
 use Rattle.reader.specs.declared.lists.Reading.the-variants.{Value}
 use Rattle.records.specs.Records.{RW, CL, MR, BR, BC, records}
-use Rattle.records.specs.Verdict.{questions, question6, inOrder, itemsOf, verdictLent}
+use Rattle.job_questions.specs.Verdict.{questions, question6, inOrder, itemsOf, verdictLent}
 use Rattle.reader.specs.Reading.{Lists, evenLists as itemsEven, roomIn, asked, jobOf, readJob, JobRead}
-use Rattle.records.proofs.PassLaws.{All}
+use Rattle.job_questions.proofs.PassLaws.{All}
 use Rattle.reader.proofs.ReadingLaws.{in-order-given, all-given}
 use Rattle.reader.proofs.ItemRoom.{all-in-order}
 use Rattle.job.specs.Plan.{settingsFor, rowsRead, columnsRead, jobSettings, jobRows, jobColumns, planJob}

@@ -21,14 +21,14 @@ use Rattle.rules.specs.Demand.{CoversPairs, FewestPlan, LargestPlan}
 use Rattle.rules.proofs.Lent.{front-written}
 use Rattle.rules.proofs.PlanLaws.{refuses-plan}
 use Rattle.records.specs.declared.records.Record.{Record}
-use Rattle.records.specs.declared.questions.Items.{Items}
-use Rattle.records.specs.declared.questions.Checked.the-variants as checked
+use Rattle.job_questions.specs.declared.Items.{Items}
+use Rattle.job_questions.specs.declared.Checked.the-variants as checked
 use Rattle.reader.specs.declared.settings.JobSettings.{JobSettings}
 use Rattle.reader.specs.declared.lists.Job.{Job}
 use Rattle.reader.specs.declared.lists.Reading.{Reading}
 use Rattle.reader.specs.declared.lists.Reading.the-variants as reading
 use Rattle.records.specs.Records.{RW, CL, MR, BR, BC, records, marked, values, field}
-use Rattle.records.specs.Verdict.{verdictLent, question1, questions, itemsOf}
+use Rattle.job_questions.specs.Verdict.{verdictLent, question1, questions, itemsOf}
 use Rattle.reader.specs.Settings.{settingsOf}
 use Rattle.reader.specs.Reading.{Lists, lists, evenLists as itemsEven, roomIn, fitIn, readJob, jobOf, readingOutcome, JobRead}
 use Rattle.reader.proofs.ReadingLaws.{all-given, admit-no, job-refused as not-read}

@@ -12,9 +12,9 @@ use Rattle.rules.specs.Pages.{RunLists, evenLists}
 use Rattle.rules.specs.Plan.{Layout, planned, roomFor, layout}
 use Rattle.rules.proofs.NoTen.{never-ten, past-nine, asked, not-given}
 use Rattle.rules.proofs.RunCount.{never-eleven}
-use Rattle.records.specs.declared.questions.Items.{Items}
+use Rattle.job_questions.specs.declared.Items.{Items}
 use Rattle.records.specs.Records.{RW, CL, field, records, marked}
-use Rattle.records.specs.Verdict.{verdictLent, questions, itemsOf}
+use Rattle.job_questions.specs.Verdict.{verdictLent, questions, itemsOf}
 use Rattle.reader.proofs.ItemRoom.{verdict-even, few-rows, few-columns, verdict-low}
 use Rattle.job.specs.Plan.{jobSettings, jobRows, jobColumns, planJob}
 

@@ -15,15 +15,16 @@ use Rattle.rules.specs.Demand.{CoversPairs, FewestPlan, LargestPlan}
 use Rattle.rules.specs.declared.plan.Planning.{Planning}
 use Rattle.rules.specs.declared.plan.Planning.the-variants.{Refused}
 use Rattle.records.specs.Records.{RW, CL, MR, BR, BC, records, values}
-use Rattle.records.specs.Verdict.{verdictLent}
+use Rattle.job_questions.specs.Verdict.{verdictLent}
 use Rattle.reader.specs.Reading.{Lists}
 use Rattle.reader.specs.declared.lists.Job.{Job}
 use Rattle.reader.specs.declared.lists.Reading.{Reading}
 use Rattle.reader.specs.declared.lists.Reading.the-variants.{Value, Refused as NotRead}
-use Rattle.reader.specs.Settings.{settingsOf, fitOn, overThenDown, limitOf, marginSetting}
+use Rattle.defaults.specs.Defaults.{fitOn, overThenDown, limitOf, marginSetting}
+use Rattle.reader.specs.Settings.{settingsOf}
 use Rattle.records.specs.declared.records.Range.{Range}
-use Rattle.records.specs.declared.questions.Items.{Items}
-use Rattle.reader.specs.declared.settings.FlagSetting.{FlagSetting}
+use Rattle.job_questions.specs.declared.Items.{Items}
+use Rattle.defaults.specs.declared.FlagSetting.{FlagSetting}
 use Rattle.reader.specs.declared.settings.JobSettings.{JobSettings}
 
 -- ---- what was read, as the planner takes it

@@ -1,17 +1,17 @@
 // The plan of a job's bytes: document 01, sections "Jobs" and "Questions in order".
+use defaults::FlagSetting;
+use defaults::fit_on;
+use defaults::margin_setting;
+use defaults::over_then_down;
+use defaults::page_limit;
+use job_questions::Checked;
+use job_questions::check_job_lent;
 use planner::plan_pages;
 use questions::lists_even;
-use reader::FlagSetting;
 use reader::JobSettings;
 use reader::Reading;
-use reader::fit_on;
-use reader::margin_setting;
-use reader::over_then_down;
-use reader::page_limit;
 use reader::read_job;
-use records::Checked;
 use records::Range;
-use records::check_job_lent;
 use rules::PageOrder;
 use rules::Planning;
 use rules::PrintRange;
@@ -24,7 +24,7 @@ ghost use Rattle.units.specs.Outcome.{refused};
 ghost use Rattle.rules.specs.Pages as pages;
 ghost use Rattle.rules.specs.Plan as call;
 ghost use Rattle.rules.specs.Demand.{CoversPairs, FewestPlan, LargestPlan};
-ghost use Rattle.records.specs.Verdict.{verdictLent};
+ghost use Rattle.job_questions.specs.Verdict.{verdictLent};
 ghost use Rattle.reader.specs.Reading.{lists};
 ghost use Rattle.job.specs.Plan as section;
 

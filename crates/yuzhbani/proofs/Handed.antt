@@ -17,9 +17,9 @@ use Rattle.rules.specs.Pages.{RunLists, evenLists, pageNumbered, pageOutcome}
 use Rattle.rules.specs.Plan.{AxisInput, Sides, Layout, Planned, rowsOf, columnsOf, contentSides, layout, formed, inGrid, roomFor, planned, planOutcome}
 use Rattle.rules.specs.Demand.{CoversPairs, FewestPlan, LargestPlan}
 use Rattle.rules.proofs.NoTen.{sides-given, asked, not-given}
-use Rattle.records.specs.declared.questions.Items.{Items}
+use Rattle.job_questions.specs.declared.Items.{Items}
 use Rattle.records.specs.Records.{records}
-use Rattle.records.specs.Verdict.{inOrder, questions, itemsOf, verdictLent}
+use Rattle.job_questions.specs.Verdict.{inOrder, questions, itemsOf, verdictLent}
 use Rattle.job.specs.Plan.{jobSettings, jobRows, jobColumns, planJob}
 use Rattle.report.specs.declared.blocks.Block.{Block}
 use Rattle.report.specs.Blocks.{BlockOf}

@@ -1,0 +1,2 @@
+-- What the contracts of `defaults` cite.
+pub mod Defaults
