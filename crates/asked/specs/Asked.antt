@@ -13,7 +13,7 @@ use Rattle.rules.specs.declared.plan.Settings.{Settings}
 use Rattle.rules.specs.declared.plan.PrintRange.{PrintRange}
 use Rattle.rules.specs.Plan.{AxisInput, rowsOf, columnsOf}
 use Rattle.records.specs.declared.records.MarginBits.{MarginBits}
-use Rattle.defaults.specs.Defaults.{inchesOf}
+use Rattle.job_settings.specs.Meaning.{inchesOf}
 use Rattle.asked.specs.declared.Asked.{Asked}
 use Rattle.numbers.specs.Numbers.{isSet, orderFrom}
 

@@ -1,8 +1,8 @@
 // What is asked of a plan beside its lists, as thirty numbers.
-use defaults::MarginsRead;
-use defaults::margin_setting;
 use geometry::MarginSetting;
 use geometry::Setting;
+use job_settings::MarginsRead;
+use job_settings::margin_setting;
 use numbers::order_from;
 use numbers::u16_from;
 use records::MarginBits;

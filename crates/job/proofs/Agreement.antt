@@ -20,7 +20,8 @@ use Rattle.reader.specs.Reading.{Lists, evenLists as itemsEven, roomIn, asked, 
 use Rattle.job_questions.proofs.PassLaws.{All}
 use Rattle.reader.proofs.ReadingLaws.{in-order-given, all-given}
 use Rattle.reader.proofs.ItemRoom.{all-in-order}
-use Rattle.job.specs.Plan.{settingsFor, rowsRead, columnsRead, jobSettings, jobRows, jobColumns, planJob}
+use Rattle.job_settings.specs.Meaning.{settingsFor}
+use Rattle.job.specs.Plan.{rowsRead, columnsRead, jobSettings, jobRows, jobColumns, planJob}
 use Rattle.job.proofs.JobLaws.{Front, front, settings-for, rows-for, columns-for}
 
 -- run lists that are not equally long are refused with 6, by the questions of a job

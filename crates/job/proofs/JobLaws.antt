@@ -23,7 +23,7 @@ use Rattle.rules.proofs.PlanLaws.{refuses-plan}
 use Rattle.records.specs.declared.records.Record.{Record}
 use Rattle.job_questions.specs.declared.Items.{Items}
 use Rattle.job_questions.specs.declared.Checked.the-variants as checked
-use Rattle.reader.specs.declared.settings.JobSettings.{JobSettings}
+use Rattle.job_settings.specs.declared.JobSettings.{JobSettings}
 use Rattle.reader.specs.declared.lists.Job.{Job}
 use Rattle.reader.specs.declared.lists.Reading.{Reading}
 use Rattle.reader.specs.declared.lists.Reading.the-variants as reading
@@ -33,7 +33,8 @@ use Rattle.reader.specs.Settings.{settingsOf}
 use Rattle.reader.specs.Reading.{Lists, lists, evenLists as itemsEven, roomIn, fitIn, readJob, jobOf, readingOutcome, JobRead}
 use Rattle.reader.proofs.ReadingLaws.{all-given, admit-no, job-refused as not-read}
 use Rattle.reader.proofs.ItemRoom.{Brings, items-fit, all-answered, read-whole}
-use Rattle.job.specs.Plan.{settingsFor, rangeFor, rowsRead, columnsRead, jobSettings, jobRows, jobColumns, planJob, planEven, Told, Filled, rowsFrom, columnsFrom, ReadPlanned, EvenPlanned}
+use Rattle.job_settings.specs.Meaning.{settingsFor, rangeFor}
+use Rattle.job.specs.Plan.{rowsRead, columnsRead, jobSettings, jobRows, jobColumns, planJob, planEven, Told, Filled, rowsFrom, columnsFrom, ReadPlanned, EvenPlanned}
 
 -- ---- the four clauses
 

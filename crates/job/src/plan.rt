@@ -1,21 +1,13 @@
 // The plan of a job's bytes: document 01, sections "Jobs" and "Questions in order".
-use defaults::FlagSetting;
-use defaults::fit_on;
-use defaults::margin_setting;
-use defaults::over_then_down;
-use defaults::page_limit;
 use job_questions::Checked;
 use job_questions::check_job_lent;
+use job_settings::range_for;
+use job_settings::settings_for;
 use planner::plan_pages;
 use questions::lists_even;
-use reader::JobSettings;
 use reader::Reading;
 use reader::read_job;
-use records::Range;
-use rules::PageOrder;
 use rules::Planning;
-use rules::PrintRange;
-use rules::Settings;
 ghost use mathlib.Core.Path.{_≡_};
 ghost use mathlib.Core.Bool.{false};
 ghost use Prim.Native.Nat.{_≤_};
@@ -51,52 +43,6 @@ const SMALL_MERGES: usize = 150;
 const SMALL_ROW_BREAKS: usize = 350;
 
 const SMALL_COLUMN_BREAKS: usize = 525;
-
-fn order_for(order: FlagSetting) -> PageOrder
-    ensures { λ r. ⌜ r ≡ section.orderFor order ⌝ }
-{
-    if over_then_down(order) {
-        PageOrder::OverThenDown
-    } else {
-        PageOrder::DownThenOver
-    }
-}
-
-fn settings_for(read: JobSettings) -> Settings
-    ensures { λ r. ⌜ r ≡ section.settingsFor read ⌝ }
-{
-    let paper = read.paper;
-    let margins = read.margins;
-    let percent = read.percent;
-    let fit = read.fit;
-    let fit_width = read.fit_width;
-    let fit_height = read.fit_height;
-    let order = read.order;
-    let limit = read.page_limit;
-    Settings {
-        paper,
-        landscape: read.landscape,
-        margins: margin_setting(margins),
-        percent,
-        fit: fit_on(fit, fit_width, fit_height),
-        fit_width,
-        fit_height,
-        order: order_for(order),
-        headings: read.headings,
-        page_limit: page_limit(limit),
-    }
-}
-
-fn range_for(cells: Range) -> PrintRange
-    ensures { λ r. ⌜ r ≡ section.rangeFor cells ⌝ }
-{
-    PrintRange {
-        first_row: cells.first_row,
-        first_column: cells.first_column as u32,
-        last_row: cells.last_row,
-        last_column: cells.last_column as u32,
-    }
-}
 
 // Plans what was read to ten lists, with run lists that are equally long.
 fn plan_read(

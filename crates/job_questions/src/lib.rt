@@ -90,28 +90,16 @@ fn asked_of(found: Record) -> Asked
     ensures { λ r. ⌜ r ≡ asked found ⌝ }
 {
     match found {
-        Record::Paper(_) => Asked::Other,
-        Record::Landscape => Asked::Other,
-        Record::Margin(_) => Asked::Other,
-        Record::Scale(_) => Asked::Other,
-        Record::Wide(_) => Asked::Other,
-        Record::High(_) => Asked::Other,
         Record::Fit(x) => Asked::Flag(x),
         Record::Order(x) => Asked::Flag(x),
-        Record::Headings => Asked::Other,
-        Record::Limit(_) => Asked::Other,
         Record::Area(a) => Asked::Cells(a),
-        Record::TitleRows(_, _) => Asked::Other,
-        Record::TitleColumns(_, _) => Asked::Other,
         Record::Row(s) => Asked::InRows(s),
         Record::Column(s) => Asked::InColumns(s),
         Record::Merged(m) => {
             let a = m.cells;
             Asked::Cells(a)
         }
-        Record::RowBreak(_) => Asked::Other,
-        Record::ColumnBreak(_) => Asked::Other,
-        Record::End => Asked::Other,
+        _ => Asked::Other,
     }
 }
 
@@ -196,11 +184,8 @@ fn rows_after(next: u64, what: Asked) -> u64
     ensures { λ r. ⌜ r ≡ rowsAfter next what ⌝ }
 {
     match what {
-        Asked::Flag(_) => next,
-        Asked::Cells(_) => next,
         Asked::InRows(s) => place(LAST_ROW, next, s.index),
-        Asked::InColumns(_) => next,
-        Asked::Other => next,
+        _ => next,
     }
 }
 
@@ -208,11 +193,8 @@ fn columns_after(next: u64, what: Asked) -> u64
     ensures { λ r. ⌜ r ≡ columnsAfter next what ⌝ }
 {
     match what {
-        Asked::Flag(_) => next,
-        Asked::Cells(_) => next,
-        Asked::InRows(_) => next,
         Asked::InColumns(s) => place(16_383, next, s.index as u32),
-        Asked::Other => next,
+        _ => next,
     }
 }
 

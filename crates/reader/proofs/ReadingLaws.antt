@@ -14,7 +14,7 @@ use Rattle.records.specs.declared.records.Record.{Record}
 use Rattle.job_questions.specs.declared.Items.{Items}
 use Rattle.job_questions.specs.declared.Checked.{Checked}
 use Rattle.job_questions.specs.declared.Checked.the-variants as checked
-use Rattle.reader.specs.declared.settings.JobSettings.{JobSettings}
+use Rattle.job_settings.specs.declared.JobSettings.{JobSettings}
 use Rattle.reader.specs.declared.lists.Job.{Job}
 use Rattle.reader.specs.declared.lists.Reading.the-variants.{Value, Refused}
 use Rattle.records.specs.Records.{RW, CL, MR, BR, BC, field, records, marked, values}

@@ -8,13 +8,13 @@ use Rattle.rules.specs.declared.titles.Title.the-variants as title
 use Rattle.records.specs.Records.{PC, LA, MG, SC, FW, FH, FT, OD, HD, LP, AR, TR, TC, field, marked}
 use Rattle.records.specs.declared.records.Range.{Range}
 use Rattle.records.specs.declared.records.Record.{Record}
-use Rattle.defaults.specs.declared.MarginsRead.{MarginsRead}
-use Rattle.defaults.specs.declared.MarginsRead.the-variants as margins
-use Rattle.defaults.specs.declared.FlagSetting.{FlagSetting}
-use Rattle.defaults.specs.declared.FlagSetting.the-variants as flag
-use Rattle.defaults.specs.declared.LimitSetting.{LimitSetting}
-use Rattle.defaults.specs.declared.LimitSetting.the-variants as limit
-use Rattle.reader.specs.declared.settings.JobSettings.{JobSettings}
+use Rattle.job_settings.specs.declared.MarginsRead.{MarginsRead}
+use Rattle.job_settings.specs.declared.MarginsRead.the-variants as margins
+use Rattle.job_settings.specs.declared.FlagSetting.{FlagSetting}
+use Rattle.job_settings.specs.declared.FlagSetting.the-variants as flag
+use Rattle.job_settings.specs.declared.LimitSetting.{LimitSetting}
+use Rattle.job_settings.specs.declared.LimitSetting.the-variants as limit
+use Rattle.job_settings.specs.declared.JobSettings.{JobSettings}
 
 -- ---- a setting, from the records with its mark: "Only RW, CL, MR, BR and BC repeat", so there is one at most
 

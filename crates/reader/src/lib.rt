@@ -5,4 +5,3 @@ mod settings;
 pub use lists::Job;
 pub use lists::Reading;
 pub use lists::read_job;
-pub use settings::JobSettings;

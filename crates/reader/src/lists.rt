@@ -1,11 +1,11 @@
 // The items of a job, read into lent lists: document 01, sections "Jobs" and "Questions in order".
-use crate::settings::JobSettings;
 use crate::settings::Next;
 use crate::settings::next_record;
 use crate::settings::settings_of;
 use job_questions::Checked;
 use job_questions::Items;
 use job_questions::check_job_lent;
+use job_settings::JobSettings;
 use records::ColumnSlot;
 use records::Range;
 use records::Record;

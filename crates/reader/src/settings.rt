@@ -1,8 +1,9 @@
 // The settings of a job, each with whether its record is there: document 01, section "Jobs".
-use defaults::FlagSetting;
-use defaults::LimitSetting;
-use defaults::MarginsRead;
 use geometry::Setting;
+use job_settings::FlagSetting;
+use job_settings::JobSettings;
+use job_settings::LimitSetting;
+use job_settings::MarginsRead;
 use records::Range;
 use records::Record;
 use records::Step;
@@ -14,23 +15,6 @@ ghost use mathlib.Core.Bool.{true};
 ghost use Rattle.records.specs.Records.{step, records, marked};
 ghost use Rattle.reader.specs.Settings as section;
 ghost use Rattle.reader.specs.Walk.{before, firstOf, Sorted, isNumber, isFlag};
-
-// The settings of a job, in the order of their records.
-pub struct JobSettings {
-    pub paper: Setting,
-    pub landscape: bool,
-    pub margins: MarginsRead,
-    pub percent: Setting,
-    pub fit_width: Setting,
-    pub fit_height: Setting,
-    pub fit: FlagSetting,
-    pub order: FlagSetting,
-    pub headings: bool,
-    pub page_limit: LimitSetting,
-    pub range: Range,
-    pub row_title: Title,
-    pub column_title: Title,
-}
 
 // The next record before the EN and how many bytes it has, or none.
 pub(crate) enum Next {

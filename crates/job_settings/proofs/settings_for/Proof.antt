@@ -1,7 +1,7 @@
--- `job::plan::settings_for` meets its contract. Assumes nothing.
+-- `job_settings::settings_for` meets its contract. Assumes nothing.
 use borrow.Author.Needs.{needs}
-use Rattle.job.proofs.plan.settings_for.Statement.{statement}
-use Rattle.job.proofs.plan.settings_for.Tie as tie
+use Rattle.job_settings.proofs.settings_for.Statement.{statement}
+use Rattle.job_settings.proofs.settings_for.Tie as tie
 
 margin-setting-requires : tie.Need-margin-setting-requires
 margin-setting-requires c κs = search needs

@@ -1,8 +1,8 @@
 use mathlib.Core.Path.{_≡_, refl, sym, ap, _∙_}
-use Rattle.defaults.specs.Defaults.{marginSetting}
+use Rattle.job_settings.specs.Meaning.{marginSetting}
 use borrow.Author.Needs.{needs}
-use Rattle.defaults.proofs.margin_setting.Statement.{statement}
-use Rattle.defaults.proofs.margin_setting.Tie as tie
+use Rattle.job_settings.proofs.margin_setting.Statement.{statement}
+use Rattle.job_settings.proofs.margin_setting.Tie as tie
 
 enum-known-margins : tie.Need-enum-known-margins
 enum-known-margins c = search needs

@@ -1,9 +1,9 @@
 use mathlib.Core.Path.{_≡_, refl, sym, ap, _∙_}
-use Rattle.defaults.specs.declared.FlagSetting.{FlagSetting}
-use Rattle.defaults.specs.Defaults.{fitOn}
+use Rattle.job_settings.specs.declared.FlagSetting.{FlagSetting}
+use Rattle.job_settings.specs.Meaning.{fitOn}
 use borrow.Author.Needs.{needs}
-use Rattle.defaults.proofs.fit_on.Statement.{statement}
-use Rattle.defaults.proofs.fit_on.Tie as tie
+use Rattle.job_settings.proofs.fit_on.Statement.{statement}
+use Rattle.job_settings.proofs.fit_on.Tie as tie
 
 enum-told : tie.Need-enum-told
 enum-told c = search needs

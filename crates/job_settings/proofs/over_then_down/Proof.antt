@@ -1,8 +1,8 @@
 use mathlib.Core.Path.{_≡_, refl, sym, ap, _∙_}
-use Rattle.defaults.specs.Defaults.{overThenDown}
+use Rattle.job_settings.specs.Meaning.{overThenDown}
 use borrow.Author.Needs.{needs}
-use Rattle.defaults.proofs.over_then_down.Statement.{statement}
-use Rattle.defaults.proofs.over_then_down.Tie as tie
+use Rattle.job_settings.proofs.over_then_down.Statement.{statement}
+use Rattle.job_settings.proofs.over_then_down.Tie as tie
 
 enum-told : tie.Need-enum-told
 enum-told c = search needs

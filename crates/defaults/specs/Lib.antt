@@ -1,2 +1,0 @@
--- What the contracts of `defaults` cite.
-pub mod Defaults
