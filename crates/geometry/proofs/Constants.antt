@@ -1,17 +1,8 @@
--- The float constants of the code, by their bit patterns, are the definitions' numbers. Assumes nothing.
+-- The margins that the code has as bit patterns are the definition's. Assumes nothing.
 use mathlib.Core.Path.{_≡_, refl}
-use lib.IntN.{pos}
-use lib.Ieee.{ofBits, ofInt, round, binary64}
+use lib.Ieee.{ofBits, round, binary64}
 use Rattle.geometry.specs.declared.paper.Margins.{Margins}
 use Rattle.geometry.specs.Paper.{defaultMargins}
-
-pub ninety-six : ofBits binary64 4636455816377925632 ≡ ofInt binary64 (pos 96)
-unfolding ofBits ofInt
-ninety-six = refl
-
-pub thousand : ofBits binary64 4652218415073722368 ≡ ofInt binary64 (pos 1024)
-unfolding ofBits ofInt
-thousand = refl
 
 abbrev pub code-margins : Margins
 code-margins =

@@ -15,10 +15,10 @@ use Rattle.geometry.specs.declared.paper.Setting.{Setting}
 use Rattle.geometry.specs.declared.paper.Margins.{Margins}
 use Rattle.geometry.specs.declared.paper.MarginSetting.{MarginSetting}
 use Rattle.geometry.specs.declared.paper.MarginSetting.the-variants as margin
-use Rattle.geometry.specs.Outcome.{Outcome, given, refused, andThen}
-use Rattle.geometry.specs.Units.{lessOf, inchesToFixed}
+use Rattle.units.specs.Outcome.{Outcome, given, refused, andThen}
+use Rattle.units.specs.Units.{lessOf, inchesToFixed}
 use Rattle.geometry.specs.Paper.{Sheet, PaperFound, Placed, letter, sheets, requested, resolved, upright, turned, paperGeometry, usable, allUsable, sideInPixels, shorter, marginsHold, defaultMargins, between, footerAt, placed, contentBetween, contentGeometry}
-use Rattle.geometry.proofs.Signs.{inside}
+use Rattle.units.proofs.Signs.{inside}
 use Rattle.geometry.proofs.Floats.{Reaches, Within, SmallUnits, units-given, not-reaching, near-reaches, far-reaches}
 
 -- ---- papers: one test, computed over the whole list

@@ -17,8 +17,8 @@ use lib.Ieee.Order.{round-mono}
 use lib.Ieee.Scale.{finite, grid, round-val, round-under}
 use lib.Ieee.Positive.{positive, above-of-le, values-of-le, own-value, positive-of-value}
 use borrow.Author.Tests.{le-ltb, ne-eqb}
-use Rattle.geometry.specs.Outcome.{given}
-use Rattle.geometry.specs.Units.{halfUp, wholeUnits, nearestUnits, inPixels, inchesToFixed}
+use Rattle.units.specs.Outcome.{given}
+use Rattle.units.specs.Units.{halfUp, wholeUnits, nearestUnits, inPixels, inchesToFixed}
 use Rattle.geometry.specs.Paper.{usable}
 
 -- ---- the two bounds

@@ -11,8 +11,8 @@ use lib.ListN.{length, getD}
 use lib.Ieee.{mul, div, round, ofInt}
 use lib.Ieee.Fits.{and-l, and-r}
 use borrow.Author.Tests.{lt-ltb, le-ltb, ne-eqb}
-use Rattle.geometry.specs.Outcome.{Outcome, given, refused}
-use Rattle.geometry.specs.Units.{inchesToFixed}
+use Rattle.units.specs.Outcome.{Outcome, given, refused}
+use Rattle.units.specs.Units.{inchesToFixed}
 use Rattle.geometry.specs.Paper.{Sheet, PaperFound, letter, sheets, resolved, upright}
 use Rattle.geometry.proofs.Table.{at}
 

@@ -1,5 +1,3 @@
--- What the contracts of `geometry` cite: one file for each section of document 01, over `Outcome`.
-pub mod Outcome
-pub mod Units
+-- What the contracts of `geometry` cite: document 01's section "Paper and content".
 pub mod Paper
 mod Figures

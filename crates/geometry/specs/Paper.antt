@@ -5,7 +5,7 @@ use mathlib.Core.List.{List, [], _∷_}
 use lib.Dec.{eqb}
 use lib.IntN.{ℤ, pos}
 use lib.Ieee.{Float, nan, inf, fin, add, div, lt, le, ofInt, round, binary64}
-use Rattle.geometry.specs.declared.units.Fixed.{Fixed}
+use Rattle.units.specs.declared.Fixed.{Fixed}
 use Rattle.geometry.specs.declared.paper.Setting.{Setting}
 use Rattle.geometry.specs.declared.paper.Setting.the-variants as code
 use Rattle.geometry.specs.declared.paper.PaperGeometry.{PaperGeometry}
@@ -16,8 +16,8 @@ use Rattle.geometry.specs.declared.paper.MarginSetting.the-variants as m
 use Rattle.geometry.specs.declared.paper.ContentGeometry.{ContentGeometry}
 use Rattle.geometry.specs.declared.paper.Content.{Content}
 use Rattle.geometry.specs.declared.paper.Content.the-variants.{Value, CoordinateOverflow}
-use Rattle.geometry.specs.Outcome.{Outcome, given, refused, andThen}
-use Rattle.geometry.specs.Units.{inPixels, inchesToFixed, lessOf}
+use Rattle.units.specs.Outcome.{Outcome, given, refused, andThen}
+use Rattle.units.specs.Units.{inPixels, inchesToFixed, lessOf}
 
 -- ---- the list of papers: "Sizes per code are the Rust's list"
 

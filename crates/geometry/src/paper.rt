@@ -1,14 +1,14 @@
 // Paper sizes, and what margins leave of a page: document 01, section "Paper and content".
-use crate::units::Fixed;
-use crate::units::Length;
-use crate::units::Rect;
-use crate::units::inches_to_fixed;
-use crate::units::less;
+use units::Fixed;
+use units::Length;
+use units::Rect;
+use units::inches_to_fixed;
+use units::less;
 ghost use mathlib.Core.Path.{_≡_};
 ghost use mathlib.Core.Bool.{_&&_};
 ghost use lib.IntN.{pos};
-ghost use Rattle.geometry.specs.Outcome.{given};
-ghost use Rattle.geometry.specs.Units.{lengthOutcome};
+ghost use Rattle.units.specs.Outcome.{given};
+ghost use Rattle.units.specs.Units.{lengthOutcome};
 ghost use Rattle.geometry.specs.Paper as Section;
 
 // A setting that may be absent.

@@ -1,16 +1,16 @@
 // Answers the worked figures of document 01, sections "Units" and "Paper and content", by a line each, `ok` or `bad`; and
 // then a list of inputs on standard input, by a line each. The file `stdout` has the Rust's answers to the list in `stdin`.
 mod figures;
+mod lengths;
 mod numbers;
 mod paper;
 mod replay;
 mod text;
-mod units;
 
 use text::word;
 
 fn main() {
-    units::all_figures();
+    lengths::all_figures();
     paper::all_figures();
     word(b"list\n");
     replay::answer_all();

@@ -12,8 +12,6 @@ use crate::text::count;
 use crate::text::number;
 use crate::text::word;
 use geometry::Content;
-use geometry::Fixed;
-use geometry::Length;
 use geometry::MarginSetting;
 use geometry::Margins;
 use geometry::PaperGeometry;
@@ -22,6 +20,8 @@ use libc::STDIN_FILENO;
 use lines::bits;
 use lines::digit;
 use lines::float;
+use units::Fixed;
+use units::Length;
 ghost use Prim.Native.Nat.{_<_};
 
 // The bytes of a line with its line end.
@@ -140,7 +140,7 @@ fn content(line: &[u8; LINE], margins: MarginSetting) {
 }
 
 fn capacity(line: &[u8; LINE]) -> Length {
-    geometry::unscaled_capacity(
+    units::unscaled_capacity(
         fixed(line, 0),
         small(line, 1),
         fixed(line, 2),
@@ -151,9 +151,9 @@ fn capacity(line: &[u8; LINE]) -> Length {
 fn answer(line: &[u8; LINE]) {
     let letter = line[0];
     match letter {
-        b'i' => length(geometry::inches_to_fixed(inches(line, 0))),
+        b'i' => length(units::inches_to_fixed(inches(line, 0))),
         b'c' => length(capacity(line)),
-        b's' => length(geometry::scale_fixed(fixed(line, 0), small(line, 1))),
+        b's' => length(units::scale_fixed(fixed(line, 0), small(line, 1))),
         b'p' => paper(line),
         b'm' => content(line, MarginSetting::Given(margins(line))),
         b'a' => content(line, MarginSetting::Absent),

@@ -1,6 +1,6 @@
 // Words and numbers on standard output.
-use geometry::Fixed;
 use libc::STDOUT_FILENO;
+use units::Fixed;
 
 pub fn word(bytes: &[u8]) {
     io::write_all(STDOUT_FILENO, bytes);

@@ -4,23 +4,24 @@ use mathlib.Core.Bool.{Bool, true, false, true≢false, _&&_}
 use mathlib.Core.List.{List}
 use Prim.Native.Nat.{ℕ}
 use lib.ListN.{take}
-use Rattle.geometry.specs.Outcome.{Outcome, given, refused, andThen}
+use Rattle.units.specs.Outcome.{Outcome, given, refused, andThen}
 use Rattle.rules.specs.declared.plan.Settings.{Settings}
 use Rattle.rules.specs.Questions.{ask, equallyLong}
 use Rattle.rules.specs.Pages.{RunLists, evenLists}
 use Rattle.rules.specs.Plan.{AxisInput, Layout, formed, planned}
 use Rattle.rules.proofs.QuestionLaws.{both}
 use Rattle.rules.proofs.PlanLaws.{formed-of}
-use Rattle.records.specs.declared.questions.Items.{Items}
+use Rattle.job_questions.specs.declared.Items.{Items}
 use Rattle.reader.specs.declared.lists.Job.{Job}
 use Rattle.reader.specs.declared.lists.Reading.the-variants.{Value}
 use Rattle.records.specs.Records.{RW, CL, MR, BR, BC, records}
-use Rattle.records.specs.Verdict.{questions, question6, inOrder, itemsOf, verdictLent}
+use Rattle.job_questions.specs.Verdict.{questions, question6, inOrder, itemsOf, verdictLent}
 use Rattle.reader.specs.Reading.{Lists, evenLists as itemsEven, roomIn, asked, jobOf, readJob, JobRead}
-use Rattle.records.proofs.PassLaws.{All}
+use Rattle.job_questions.proofs.PassLaws.{All}
 use Rattle.reader.proofs.ReadingLaws.{in-order-given, all-given}
 use Rattle.reader.proofs.ItemRoom.{all-in-order}
-use Rattle.job.specs.Plan.{settingsFor, rowsRead, columnsRead, jobSettings, jobRows, jobColumns, planJob}
+use Rattle.job_settings.specs.Meaning.{settingsFor}
+use Rattle.job.specs.Plan.{rowsRead, columnsRead, jobSettings, jobRows, jobColumns, planJob}
 use Rattle.job.proofs.JobLaws.{Front, front, settings-for, rows-for, columns-for}
 
 -- run lists that are not equally long are refused with 6, by the questions of a job

@@ -7,7 +7,7 @@ use native.Mathlib.Omega.{arith}
 use lib.ListN.{length, take, length-map, length-append}
 use lib.Seq.{length-take-le}
 use borrow.Author.Tests.{eq-eqb}
-use Rattle.geometry.specs.Outcome.{Outcome, given, refused, andThen}
+use Rattle.units.specs.Outcome.{Outcome, given, refused, andThen}
 use Rattle.rules.specs.declared.pages.Plan.{Plan}
 use Rattle.rules.specs.declared.plan.Settings.{Settings}
 use Rattle.rules.specs.declared.plan.PrintRange.{PrintRange}
@@ -21,19 +21,20 @@ use Rattle.rules.specs.Demand.{CoversPairs, FewestPlan, LargestPlan}
 use Rattle.rules.proofs.Lent.{front-written}
 use Rattle.rules.proofs.PlanLaws.{refuses-plan}
 use Rattle.records.specs.declared.records.Record.{Record}
-use Rattle.records.specs.declared.questions.Items.{Items}
-use Rattle.records.specs.declared.questions.Checked.the-variants as checked
-use Rattle.reader.specs.declared.settings.JobSettings.{JobSettings}
+use Rattle.job_questions.specs.declared.Items.{Items}
+use Rattle.job_questions.specs.declared.Checked.the-variants as checked
+use Rattle.job_settings.specs.declared.JobSettings.{JobSettings}
 use Rattle.reader.specs.declared.lists.Job.{Job}
 use Rattle.reader.specs.declared.lists.Reading.{Reading}
 use Rattle.reader.specs.declared.lists.Reading.the-variants as reading
 use Rattle.records.specs.Records.{RW, CL, MR, BR, BC, records, marked, values, field}
-use Rattle.records.specs.Verdict.{verdictLent, question1, questions, itemsOf}
+use Rattle.job_questions.specs.Verdict.{verdictLent, question1, questions, itemsOf}
 use Rattle.reader.specs.Settings.{settingsOf}
 use Rattle.reader.specs.Reading.{Lists, lists, evenLists as itemsEven, roomIn, fitIn, readJob, jobOf, readingOutcome, JobRead}
 use Rattle.reader.proofs.ReadingLaws.{all-given, admit-no, job-refused as not-read}
 use Rattle.reader.proofs.ItemRoom.{Brings, items-fit, all-answered, read-whole}
-use Rattle.job.specs.Plan.{settingsFor, rangeFor, rowsRead, columnsRead, jobSettings, jobRows, jobColumns, planJob, planEven, Told, Filled, rowsFrom, columnsFrom, ReadPlanned, EvenPlanned}
+use Rattle.job_settings.specs.Meaning.{settingsFor, rangeFor}
+use Rattle.job.specs.Plan.{rowsRead, columnsRead, jobSettings, jobRows, jobColumns, planJob, planEven, Told, Filled, rowsFrom, columnsFrom, ReadPlanned, EvenPlanned}
 
 -- ---- the four clauses
 

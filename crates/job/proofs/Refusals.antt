@@ -6,15 +6,15 @@ use Prim.Native.Nat.{ℕ, _≤_, _<_}
 use native.Mathlib.Omega.{arith}
 use lib.Dec.{leb}
 use lib.ListN.{length, length-map}
-use Rattle.geometry.specs.Outcome.{Outcome, given, refused, andThen}
+use Rattle.units.specs.Outcome.{Outcome, given, refused, andThen}
 use Rattle.rules.specs.Questions.{ask}
 use Rattle.rules.specs.Pages.{RunLists, evenLists}
 use Rattle.rules.specs.Plan.{Layout, planned, roomFor, layout}
 use Rattle.rules.proofs.NoTen.{never-ten, past-nine, asked, not-given}
 use Rattle.rules.proofs.RunCount.{never-eleven}
-use Rattle.records.specs.declared.questions.Items.{Items}
+use Rattle.job_questions.specs.declared.Items.{Items}
 use Rattle.records.specs.Records.{RW, CL, field, records, marked}
-use Rattle.records.specs.Verdict.{verdictLent, questions, itemsOf}
+use Rattle.job_questions.specs.Verdict.{verdictLent, questions, itemsOf}
 use Rattle.reader.proofs.ItemRoom.{verdict-even, few-rows, few-columns, verdict-low}
 use Rattle.job.specs.Plan.{jobSettings, jobRows, jobColumns, planJob}
 

@@ -1,53 +1,28 @@
 -- The plan of a job's bytes: document 01, sections "Jobs" and "Questions in order". Assumes nothing.
 use mathlib.Core.Path.{_≡_}
-use mathlib.Core.Bool.{true, cond, _&&_}
+use mathlib.Core.Bool.{true, _&&_}
 use mathlib.Core.List.{List}
 use Prim.Native.Nat.{ℕ, _≤_}
 use lib.ListN.{length, take}
-use Rattle.geometry.specs.Outcome.{Outcome, andThen}
-use Rattle.rules.specs.declared.pages.PageOrder.{PageOrder}
-use Rattle.rules.specs.declared.pages.PageOrder.the-variants.{DownThenOver, OverThenDown}
+use Rattle.units.specs.Outcome.{Outcome, andThen}
 use Rattle.rules.specs.declared.plan.Settings.{Settings}
-use Rattle.rules.specs.declared.plan.PrintRange.{PrintRange}
 use Rattle.rules.specs.Pages.{RunLists, evenLists}
 use Rattle.rules.specs.Plan.{AxisInput, Layout, Planned, rowsOf, columnsOf, planned}
 use Rattle.rules.specs.Demand.{CoversPairs, FewestPlan, LargestPlan}
 use Rattle.rules.specs.declared.plan.Planning.{Planning}
 use Rattle.rules.specs.declared.plan.Planning.the-variants.{Refused}
 use Rattle.records.specs.Records.{RW, CL, MR, BR, BC, records, values}
-use Rattle.records.specs.Verdict.{verdictLent}
+use Rattle.job_questions.specs.Verdict.{verdictLent}
 use Rattle.reader.specs.Reading.{Lists}
 use Rattle.reader.specs.declared.lists.Job.{Job}
 use Rattle.reader.specs.declared.lists.Reading.{Reading}
 use Rattle.reader.specs.declared.lists.Reading.the-variants.{Value, Refused as NotRead}
-use Rattle.reader.specs.Settings.{settingsOf, fitOn, overThenDown, limitOf, marginSetting}
-use Rattle.records.specs.declared.records.Range.{Range}
-use Rattle.records.specs.declared.questions.Items.{Items}
-use Rattle.reader.specs.declared.settings.FlagSetting.{FlagSetting}
-use Rattle.reader.specs.declared.settings.JobSettings.{JobSettings}
+use Rattle.job_settings.specs.Meaning.{settingsFor, rangeFor}
+use Rattle.reader.specs.Settings.{settingsOf}
+use Rattle.job_questions.specs.declared.Items.{Items}
+use Rattle.job_settings.specs.declared.JobSettings.{JobSettings}
 
 -- ---- what was read, as the planner takes it
-
--- "OD u8, 1 for over then down"
-abbrev pub orderFor : FlagSetting → PageOrder
-orderFor f = cond (overThenDown f) OverThenDown DownThenOver
-
-abbrev pub settingsFor : JobSettings → Settings
-settingsFor j = record {
-  paper = j .paper;
-  landscape = j .landscape;
-  margins = marginSetting (j .margins);
-  percent = j .percent;
-  fit = fitOn (j .fit) (j .«fit_width») (j .«fit_height»);
-  «fit_width» = j .«fit_width»;
-  «fit_height» = j .«fit_height»;
-  order = orderFor (j .order);
-  headings = j .headings;
-  «page_limit» = limitOf (j .«page_limit»);
-}
-
-abbrev pub rangeFor : Range → PrintRange
-rangeFor a = record { «first_row» = a .«first_row»; «first_column» = a .«first_column»; «last_row» = a .«last_row»; «last_column» = a .«last_column» }
 
 -- an axis, by the settings and lists that were read
 abbrev pub rowsRead : JobSettings → List ℕ → List ℕ → List ℕ → List ℕ → List ℕ → AxisInput

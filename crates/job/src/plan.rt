@@ -1,30 +1,22 @@
 // The plan of a job's bytes: document 01, sections "Jobs" and "Questions in order".
+use job_questions::Checked;
+use job_questions::check_job_lent;
+use job_settings::range_for;
+use job_settings::settings_for;
 use planner::plan_pages;
 use questions::lists_even;
-use reader::FlagSetting;
-use reader::JobSettings;
 use reader::Reading;
-use reader::fit_on;
-use reader::margin_setting;
-use reader::over_then_down;
-use reader::page_limit;
 use reader::read_job;
-use records::Checked;
-use records::Range;
-use records::check_job_lent;
-use rules::PageOrder;
 use rules::Planning;
-use rules::PrintRange;
-use rules::Settings;
 ghost use mathlib.Core.Path.{_≡_};
 ghost use mathlib.Core.Bool.{false};
 ghost use Prim.Native.Nat.{_≤_};
 ghost use lib.ListN.{length};
-ghost use Rattle.geometry.specs.Outcome.{refused};
+ghost use Rattle.units.specs.Outcome.{refused};
 ghost use Rattle.rules.specs.Pages as pages;
 ghost use Rattle.rules.specs.Plan as call;
 ghost use Rattle.rules.specs.Demand.{CoversPairs, FewestPlan, LargestPlan};
-ghost use Rattle.records.specs.Verdict.{verdictLent};
+ghost use Rattle.job_questions.specs.Verdict.{verdictLent};
 ghost use Rattle.reader.specs.Reading.{lists};
 ghost use Rattle.job.specs.Plan as section;
 
@@ -51,52 +43,6 @@ const SMALL_MERGES: usize = 150;
 const SMALL_ROW_BREAKS: usize = 350;
 
 const SMALL_COLUMN_BREAKS: usize = 525;
-
-fn order_for(order: FlagSetting) -> PageOrder
-    ensures { λ r. ⌜ r ≡ section.orderFor order ⌝ }
-{
-    if over_then_down(order) {
-        PageOrder::OverThenDown
-    } else {
-        PageOrder::DownThenOver
-    }
-}
-
-fn settings_for(read: JobSettings) -> Settings
-    ensures { λ r. ⌜ r ≡ section.settingsFor read ⌝ }
-{
-    let paper = read.paper;
-    let margins = read.margins;
-    let percent = read.percent;
-    let fit = read.fit;
-    let fit_width = read.fit_width;
-    let fit_height = read.fit_height;
-    let order = read.order;
-    let limit = read.page_limit;
-    Settings {
-        paper,
-        landscape: read.landscape,
-        margins: margin_setting(margins),
-        percent,
-        fit: fit_on(fit, fit_width, fit_height),
-        fit_width,
-        fit_height,
-        order: order_for(order),
-        headings: read.headings,
-        page_limit: page_limit(limit),
-    }
-}
-
-fn range_for(cells: Range) -> PrintRange
-    ensures { λ r. ⌜ r ≡ section.rangeFor cells ⌝ }
-{
-    PrintRange {
-        first_row: cells.first_row,
-        first_column: cells.first_column as u32,
-        last_row: cells.last_row,
-        last_column: cells.last_column as u32,
-    }
-}
 
 // Plans what was read to ten lists, with run lists that are equally long.
 fn plan_read(
@@ -313,8 +259,18 @@ pub fn plan_job(
     ensures fewest { λ r. ⌜ FewestPlan r (section.jobSettings (now (bytes .entry))) (section.jobRows (now (bytes .entry))) (section.jobColumns (now (bytes .entry))) (pages.runLists (now («row_run_firsts» .exit)) (now («row_run_lasts» .exit)) (now («row_run_sizes» .exit)) (now («row_run_marks» .exit))) (pages.runLists (now («column_run_firsts» .exit)) (now («column_run_lasts» .exit)) (now («column_run_sizes» .exit)) (now («column_run_marks» .exit))) ⌝ }
     ensures largest { λ r. ⌜ LargestPlan r (section.jobSettings (now (bytes .entry))) (section.jobRows (now (bytes .entry))) (section.jobColumns (now (bytes .entry))) ⌝ }
 {
-    let rows_even = lists_even(row_run_firsts.len(), row_run_lasts.len(), row_run_sizes.len(), row_run_marks.len());
-    let columns_even = lists_even(column_run_firsts.len(), column_run_lasts.len(), column_run_sizes.len(), column_run_marks.len());
+    let rows_even = lists_even(
+        row_run_firsts.len(),
+        row_run_lasts.len(),
+        row_run_sizes.len(),
+        row_run_marks.len(),
+    );
+    let columns_even = lists_even(
+        column_run_firsts.len(),
+        column_run_lasts.len(),
+        column_run_sizes.len(),
+        column_run_marks.len(),
+    );
     if rows_even & columns_even {
         if bytes.len() <= SMALL {
             return plan_small(

@@ -152,8 +152,18 @@ pub fn page_numbered(
 ) -> PageAnswer
     ensures { λ r. ⌜ section.pageOutcome r ≡ section.pageNumbered plan (section.runLists (now («row_firsts» .entry)) (now («row_lasts» .entry)) (now («row_sizes» .entry)) (now («row_marks» .entry))) (section.runLists (now («column_firsts» .entry)) (now («column_lasts» .entry)) (now («column_sizes» .entry)) (now («column_marks» .entry))) number ⌝ }
 {
-    let even = lists_even(row_firsts.len(), row_lasts.len(), row_sizes.len(), row_marks.len())
-        & lists_even(column_firsts.len(), column_lasts.len(), column_sizes.len(), column_marks.len());
+    let even = lists_even(
+        row_firsts.len(),
+        row_lasts.len(),
+        row_sizes.len(),
+        row_marks.len(),
+    )
+        & lists_even(
+            column_firsts.len(),
+            column_lasts.len(),
+            column_sizes.len(),
+            column_marks.len(),
+        );
     let refusal = first_no(plan, number, even, row_firsts.len(), column_firsts.len());
     if refusal > 0 {
         return PageAnswer::Refused(refusal);
@@ -200,8 +210,18 @@ fn listing(
 ) -> Listing
     ensures { λ r. ⌜ section.listOutcome r ≡ section.listPages plan (section.runLists (now («row_firsts» .entry)) (now («row_lasts» .entry)) (now («row_sizes» .entry)) (now («row_marks» .entry))) (section.runLists (now («column_firsts» .entry)) (now («column_lasts» .entry)) (now («column_sizes» .entry)) (now («column_marks» .entry))) room ⌝ }
 {
-    let even = lists_even(row_firsts.len(), row_lasts.len(), row_sizes.len(), row_marks.len())
-        & lists_even(column_firsts.len(), column_lasts.len(), column_sizes.len(), column_marks.len());
+    let even = lists_even(
+        row_firsts.len(),
+        row_lasts.len(),
+        row_sizes.len(),
+        row_marks.len(),
+    )
+        & lists_even(
+            column_firsts.len(),
+            column_lasts.len(),
+            column_sizes.len(),
+            column_marks.len(),
+        );
     let refusal = lists_no(plan, even, row_firsts.len(), column_firsts.len());
     if refusal > 0 {
         return Listing::Refused(refusal);

@@ -2,11 +2,11 @@
 // differ. Where they do, the size here is the Rust's.
 mod standard;
 
-use geometry::Length;
 use geometry::Setting;
 use libc::STDOUT_FILENO;
 use standard::SIZES;
 use standard::Size;
+use units::Length;
 
 // A paper's sides in units; both are 0 where a list lacks the code.
 struct Sides {
@@ -34,7 +34,7 @@ fn count(n: u64) {
 }
 
 fn units(inches: f64) -> u64 {
-    match geometry::inches_to_fixed(inches) {
+    match units::inches_to_fixed(inches) {
         Length::Value(value) => value.magnitude(),
         Length::CoordinateOverflow => 0,
     }

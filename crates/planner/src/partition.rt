@@ -122,7 +122,12 @@ pub fn partition_axis_with_breaks(
 ) -> Partition
     ensures { λ r. ⌜ call.Answered (call.partition (limitOf axis) setup (now (indexes .entry)) (now (sizes .entry)) (now («merge_firsts» .entry)) (now («merge_lasts» .entry)) (now (breaks .entry)) (now («run_firsts» .entry)) (now («run_lasts» .entry)) (now («run_sizes» .entry)) (now («run_marks» .entry))) (call.bodyRuns setup (now (indexes .entry)) (now (sizes .entry)) (now («merge_firsts» .entry)) (now («merge_lasts» .entry)) (now (breaks .entry))) r (now («run_firsts» .entry)) (now («run_lasts» .entry)) (now («run_sizes» .entry)) (now («run_marks» .entry)) (now («run_firsts» .exit)) (now («run_lasts» .exit)) (now («run_sizes» .exit)) (now («run_marks» .exit)) ⌝ }
 {
-    let lent_even = lists_even(run_firsts.len(), run_lasts.len(), run_sizes.len(), run_marks.len());
+    let lent_even = lists_even(
+        run_firsts.len(),
+        run_lasts.len(),
+        run_sizes.len(),
+        run_marks.len(),
+    );
     let limit = axis.limit();
     let refusal = partition_refusal(
         limit,

@@ -7,7 +7,6 @@ use crate::scale::fit_scale;
 use crate::scale::frame_at;
 use crate::title::title_total;
 use cuts::final_cut;
-use geometry::Fixed;
 use questions::lists_even;
 use questions::plan_refusal;
 use questions::room_refusal;
@@ -35,6 +34,7 @@ use setup::looked_at;
 use setup::row_range;
 use titles::body_start;
 use titles::widened_title;
+use units::Fixed;
 ghost use mathlib.Core.Path.{_≡_};
 ghost use mathlib.Core.Bool.{cond, _&&_};
 ghost use mathlib.Core.List.{[]};
@@ -542,8 +542,18 @@ pub fn plan_pages(
     ensures fewest { λ r. ⌜ FewestPlan r settings (call.rowsOf settings range «row_title» (now («row_indexes» .entry)) (now («row_sizes» .entry)) (now («merge_first_rows» .entry)) (now («merge_last_rows» .entry)) (now («row_breaks» .entry))) (call.columnsOf settings range «column_title» (now («column_indexes» .entry)) (now («column_sizes» .entry)) (now («merge_first_columns» .entry)) (now («merge_last_columns» .entry)) (now («column_breaks» .entry))) (pages.runLists (now («row_run_firsts» .exit)) (now («row_run_lasts» .exit)) (now («row_run_sizes» .exit)) (now («row_run_marks» .exit))) (pages.runLists (now («column_run_firsts» .exit)) (now («column_run_lasts» .exit)) (now («column_run_sizes» .exit)) (now («column_run_marks» .exit))) ⌝ }
     ensures largest { λ r. ⌜ LargestPlan r settings (call.rowsOf settings range «row_title» (now («row_indexes» .entry)) (now («row_sizes» .entry)) (now («merge_first_rows» .entry)) (now («merge_last_rows» .entry)) (now («row_breaks» .entry))) (call.columnsOf settings range «column_title» (now («column_indexes» .entry)) (now («column_sizes» .entry)) (now («merge_first_columns» .entry)) (now («merge_last_columns» .entry)) (now («column_breaks» .entry))) ⌝ }
 {
-    let lent_rows_even = lists_even(row_run_firsts.len(), row_run_lasts.len(), row_run_sizes.len(), row_run_marks.len());
-    let lent_columns_even = lists_even(column_run_firsts.len(), column_run_lasts.len(), column_run_sizes.len(), column_run_marks.len());
+    let lent_rows_even = lists_even(
+        row_run_firsts.len(),
+        row_run_lasts.len(),
+        row_run_sizes.len(),
+        row_run_marks.len(),
+    );
+    let lent_columns_even = lists_even(
+        column_run_firsts.len(),
+        column_run_lasts.len(),
+        column_run_sizes.len(),
+        column_run_marks.len(),
+    );
     let rows = row_range(settings, range, row_title);
     let columns = column_range(settings, range, column_title);
     let refusal = plan_refusal(

@@ -1,8 +1,6 @@
 // How large a worksheet is printed: document 01, section "Scale".
 use crate::filling::total;
 use crate::runs::run_end;
-use geometry::Fixed;
-use geometry::Length;
 use rules::ChosenScale;
 use rules::Fit;
 use rules::Frame;
@@ -10,6 +8,8 @@ use rules::PageSide;
 use rules::Title;
 use setup::meets_target;
 use setup::middle_of;
+use units::Fixed;
+use units::Length;
 ghost use mathlib.Core.Path.{_≡_};
 ghost use mathlib.Core.Bool.{_&&_};
 ghost use Prim.Native.Nat.{_+_, _≤_, _^_};
@@ -27,7 +27,7 @@ fn capacity_at(page: PageSide, permille: u16, titles: u64) -> u64
     ensures { λ r. ⌜ r ≡ capacityOf (spaceOf page) permille titles ⌝ }
 {
     let side = page.side;
-    let answer = geometry::unscaled_capacity(
+    let answer = units::unscaled_capacity(
         side,
         permille,
         Fixed::from_raw(titles as i64),
@@ -44,7 +44,7 @@ pub(crate) fn fits_side(page: PageSide, permille: u16, size: u64) -> bool
     requires { ⌜ size ≤ 2 ^ 53 ⌝ }
     ensures { λ r. ⌜ r ≡ fitsSide (spaceOf page) permille size ⌝ }
 {
-    let answer = geometry::scale_fixed(Fixed::from_raw(size as i64), permille);
+    let answer = units::scale_fixed(Fixed::from_raw(size as i64), permille);
     match answer {
         Length::Value(scaled) => scaled.raw() <= page.side.raw(),
         Length::CoordinateOverflow => false,

@@ -8,16 +8,16 @@ use native.Mathlib.Omega.{arith}
 use lib.Dec.{T, leb, eqb, leb→le}
 use lib.ListN.{length}
 use borrow.Author.Tests.{le-leb, leb-true}
-use Rattle.geometry.specs.Outcome.{given, refused}
+use Rattle.units.specs.Outcome.{given, refused}
 use Rattle.records.specs.declared.records.Record.{Record}
 use Rattle.records.specs.declared.records.Step.{Step}
 use Rattle.records.specs.declared.records.Step.the-variants.{Read, Nothing}
-use Rattle.records.specs.declared.questions.Items.{Items}
+use Rattle.job_questions.specs.declared.Items.{Items}
 use Rattle.records.specs.Records.{Format, RW, CL, MR, BR, BC, find, formats, known, step, rank, isEnd, used, onto, recordsFrom, records, marked}
-use Rattle.records.specs.Verdict.{question1, question6, questions, inOrder, verdictLent, itemsOf}
+use Rattle.job_questions.specs.Verdict.{question1, question6, questions, inOrder, verdictLent, itemsOf}
 use Rattle.reader.specs.Reading.{Lists, evenLists, roomIn, fitIn, asked, jobOf, readJob}
 use Rattle.records.proofs.RecordLaws.{in-whole, step-used}
-use Rattle.records.proofs.PassLaws.{All}
+use Rattle.job_questions.proofs.PassLaws.{All}
 use Rattle.reader.proofs.ReadingLaws.{all-given}
 
 -- ---- the bytes of a mark

@@ -7,24 +7,24 @@ use native.Mathlib.Omega.{arith}
 use lib.Dec.{leb, eqb}
 use lib.ListN.{length, take, drop}
 use borrow.Author.Tests.{eqb-true, leb-true}
-use Rattle.geometry.specs.Outcome.{Outcome, given, refused}
+use Rattle.units.specs.Outcome.{Outcome, given, refused}
 use Rattle.rules.specs.Slots.{written}
 use Rattle.rules.specs.Partition.{lent}
 use Rattle.records.specs.declared.records.Record.{Record}
-use Rattle.records.specs.declared.questions.Items.{Items}
-use Rattle.records.specs.declared.questions.Checked.{Checked}
-use Rattle.records.specs.declared.questions.Checked.the-variants as checked
-use Rattle.reader.specs.declared.settings.JobSettings.{JobSettings}
+use Rattle.job_questions.specs.declared.Items.{Items}
+use Rattle.job_questions.specs.declared.Checked.{Checked}
+use Rattle.job_questions.specs.declared.Checked.the-variants as checked
+use Rattle.job_settings.specs.declared.JobSettings.{JobSettings}
 use Rattle.reader.specs.declared.lists.Job.{Job}
 use Rattle.reader.specs.declared.lists.Reading.the-variants.{Value, Refused}
 use Rattle.records.specs.Records.{RW, CL, MR, BR, BC, field, records, marked, values}
-use Rattle.records.specs.Verdict.{ordered, hasArea, questions, inOrder, itemsOf, verdictLent, checkedOutcome}
+use Rattle.job_questions.specs.Verdict.{ordered, hasArea, questions, inOrder, itemsOf, verdictLent, checkedOutcome}
 use Rattle.reader.specs.Settings.{settingsOf}
 use Rattle.reader.specs.Walk.{Sorted, From, Past}
 use Rattle.reader.specs.Reading.{Lists, evenLists, roomIn, fitIn, asked, admitted, admittedTo, jobOf, readJob, JobRead, Room, AllWritten}
 use Rattle.rules.proofs.QuestionLaws.{both}
 use Rattle.records.proofs.RecordLaws.{part}
-use Rattle.records.proofs.PassLaws.{All}
+use Rattle.job_questions.proofs.PassLaws.{All}
 use Rattle.reader.proofs.WalkLaws.{sorted-of}
 
 -- ---- questions in order, whatever is given at the end

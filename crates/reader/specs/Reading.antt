@@ -5,14 +5,14 @@ use mathlib.Core.Bool.{Bool, true, _&&_}
 use mathlib.Core.List.{List, [], _∷_}
 use lib.ListN.{length}
 use lib.Dec.{leb, eqb}
-use Rattle.geometry.specs.Outcome.{Outcome, given, refused}
+use Rattle.units.specs.Outcome.{Outcome, given, refused}
 use Rattle.rules.specs.Slots.{written}
 use Rattle.rules.specs.Partition.{lent}
 use Rattle.records.specs.Records.{RW, CL, MR, BR, BC, records, values}
-use Rattle.records.specs.Verdict.{question1, question2, question3, question4, question5, question6, question7, question8, question9, inOrder, itemsOf}
+use Rattle.job_questions.specs.Verdict.{question1, question2, question3, question4, question5, question6, question7, question8, question9, inOrder, itemsOf}
 use Rattle.reader.specs.Settings.{settingsOf}
 use Rattle.records.specs.declared.records.Record.{Record}
-use Rattle.records.specs.declared.questions.Items.{Items}
+use Rattle.job_questions.specs.declared.Items.{Items}
 use Rattle.reader.specs.declared.lists.Job.{Job}
 use Rattle.reader.specs.declared.lists.Reading.{Reading}
 use Rattle.reader.specs.declared.lists.Reading.the-variants.{Value, Refused}

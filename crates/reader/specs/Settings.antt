@@ -1,28 +1,20 @@
--- Document 01, section "Jobs": the settings of a job, each with whether its record is there, and what is meant where it is not.
--- Assumes nothing.
-use Prim.Native.Nat.{ℕ}
-use mathlib.Core.Bool.{Bool, true, false, _||_}
+-- Document 01, section "Jobs": the settings of a job, each with whether its record is there. Assumes nothing.
+use mathlib.Core.Bool.{Bool, true, false}
 use mathlib.Core.List.{List, [], _∷_}
-use lib.Dec.{eqb}
 use Rattle.geometry.specs.declared.paper.Setting.{Setting}
 use Rattle.geometry.specs.declared.paper.Setting.the-variants as number
-use Rattle.geometry.specs.declared.paper.Margins.{Margins}
-use Rattle.geometry.specs.declared.paper.MarginSetting.{MarginSetting}
-use Rattle.geometry.specs.declared.paper.MarginSetting.the-variants as inches
 use Rattle.rules.specs.declared.titles.Title.{Title}
 use Rattle.rules.specs.declared.titles.Title.the-variants as title
-use Rattle.records.specs.Numbers.{f64Of}
 use Rattle.records.specs.Records.{PC, LA, MG, SC, FW, FH, FT, OD, HD, LP, AR, TR, TC, field, marked}
 use Rattle.records.specs.declared.records.Range.{Range}
-use Rattle.records.specs.declared.records.MarginBits.{MarginBits}
 use Rattle.records.specs.declared.records.Record.{Record}
-use Rattle.reader.specs.declared.settings.MarginsRead.{MarginsRead}
-use Rattle.reader.specs.declared.settings.MarginsRead.the-variants as margins
-use Rattle.reader.specs.declared.settings.FlagSetting.{FlagSetting}
-use Rattle.reader.specs.declared.settings.FlagSetting.the-variants as flag
-use Rattle.reader.specs.declared.settings.LimitSetting.{LimitSetting}
-use Rattle.reader.specs.declared.settings.LimitSetting.the-variants as limit
-use Rattle.reader.specs.declared.settings.JobSettings.{JobSettings}
+use Rattle.job_settings.specs.declared.MarginsRead.{MarginsRead}
+use Rattle.job_settings.specs.declared.MarginsRead.the-variants as margins
+use Rattle.job_settings.specs.declared.FlagSetting.{FlagSetting}
+use Rattle.job_settings.specs.declared.FlagSetting.the-variants as flag
+use Rattle.job_settings.specs.declared.LimitSetting.{LimitSetting}
+use Rattle.job_settings.specs.declared.LimitSetting.the-variants as limit
+use Rattle.job_settings.specs.declared.JobSettings.{JobSettings}
 
 -- ---- a setting, from the records with its mark: "Only RW, CL, MR, BR and BC repeat", so there is one at most
 
@@ -82,39 +74,3 @@ settingsOf rs = record {
   «row_title» = titleFrom (marked TR rs);
   «column_title» = titleFrom (marked TC rs);
 }
-
--- ---- what is meant
-
-abbrev pub isGiven : Setting → Bool
-isGiven number.Absent = false
-isGiven (number.Given x) = true
-
--- "FT fit u8 (absent: on if FW or FH is present)"
-abbrev pub fitOn : FlagSetting → Setting → Setting → Bool
-fitOn flag.Absent width height = isGiven width || isGiven height
-fitOn (flag.Given x) width height = eqb x 1
-
--- "OD u8, 1 for over then down"
-abbrev pub overThenDown : FlagSetting → Bool
-overThenDown flag.Absent = false
-overThenDown (flag.Given x) = eqb x 1
-
--- "LP page limit u64 (absent 10,000)"
-abbrev pub limitOf : LimitSetting → ℕ
-limitOf limit.Absent = 10000
-limitOf (limit.Given x) = x
-
--- "Six margins travel together: left, right, top, bottom, header, footer, in inches."
-abbrev pub inchesOf : MarginBits → Margins
-inchesOf m = record {
-  left = f64Of (m .left);
-  right = f64Of (m .right);
-  top = f64Of (m .top);
-  bottom = f64Of (m .bottom);
-  header = f64Of (m .header);
-  footer = f64Of (m .footer);
-}
-
-abbrev pub marginSetting : MarginsRead → MarginSetting
-marginSetting margins.Absent = inches.Absent
-marginSetting (margins.Given m) = inches.Given (inchesOf m)

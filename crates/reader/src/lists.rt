@@ -1,15 +1,15 @@
 // The items of a job, read into lent lists: document 01, sections "Jobs" and "Questions in order".
-use crate::settings::JobSettings;
 use crate::settings::Next;
 use crate::settings::next_record;
 use crate::settings::settings_of;
-use records::Checked;
+use job_questions::Checked;
+use job_questions::Items;
+use job_questions::check_job_lent;
+use job_settings::JobSettings;
 use records::ColumnSlot;
-use records::Items;
 use records::Range;
 use records::Record;
 use records::RowSlot;
-use records::check_job_lent;
 use records::rank_of;
 ghost use mathlib.Core.Path.{_≡_};
 ghost use mathlib.Core.Bool.{true};
@@ -19,7 +19,7 @@ ghost use lib.IntN.{natAbs};
 ghost use lib.ListN.{length};
 ghost use Rattle.rules.specs.Slots.{written};
 ghost use Rattle.records.specs.Records.{rank, step, records, marked, values, field};
-ghost use Rattle.records.specs.Verdict.{checkedOutcome};
+ghost use Rattle.job_questions.specs.Verdict.{checkedOutcome};
 ghost use Rattle.reader.specs.Walk.{before, ofKind, Sorted, Past, isSlot, isBreak, measured};
 ghost use Rattle.reader.specs.Walk as walk;
 ghost use Rattle.reader.specs.Reading.{lists, evenLists, fitIn, admitted, admittedTo, Room, AllWritten, JobRead};

@@ -1,12 +1,12 @@
 // The settings of a job, each with whether its record is there: document 01, section "Jobs".
-use geometry::MarginSetting;
-use geometry::Margins;
 use geometry::Setting;
-use records::MarginBits;
+use job_settings::FlagSetting;
+use job_settings::JobSettings;
+use job_settings::LimitSetting;
+use job_settings::MarginsRead;
 use records::Range;
 use records::Record;
 use records::Step;
-use records::float;
 use records::rank_of;
 use records::read_record;
 use rules::Title;
@@ -15,39 +15,6 @@ ghost use mathlib.Core.Bool.{true};
 ghost use Rattle.records.specs.Records.{step, records, marked};
 ghost use Rattle.reader.specs.Settings as section;
 ghost use Rattle.reader.specs.Walk.{before, firstOf, Sorted, isNumber, isFlag};
-
-// The six margins as they stand in the record.
-pub enum MarginsRead {
-    Absent,
-    Given(MarginBits),
-}
-
-pub enum FlagSetting {
-    Absent,
-    Given(u8),
-}
-
-pub enum LimitSetting {
-    Absent,
-    Given(u64),
-}
-
-// The settings of a job, in the order of their records.
-pub struct JobSettings {
-    pub paper: Setting,
-    pub landscape: bool,
-    pub margins: MarginsRead,
-    pub percent: Setting,
-    pub fit_width: Setting,
-    pub fit_height: Setting,
-    pub fit: FlagSetting,
-    pub order: FlagSetting,
-    pub headings: bool,
-    pub page_limit: LimitSetting,
-    pub range: Range,
-    pub row_title: Title,
-    pub column_title: Title,
-}
 
 // The next record before the EN and how many bytes it has, or none.
 pub(crate) enum Next {
@@ -260,60 +227,4 @@ pub(crate) fn settings_of(bytes: &[u8]) -> JobSettings
         row_title: row_title_of(bytes),
         column_title: column_title_of(bytes),
     }
-}
-
-fn is_given(setting: Setting) -> bool
-    ensures { λ r. ⌜ r ≡ section.isGiven setting ⌝ }
-{
-    match setting {
-        Setting::Absent => false,
-        Setting::Given(_) => true,
-    }
-}
-
-// Whether the pages are fitted: by FT, or, where it is absent, by whether a target is there.
-pub fn fit_on(fit: FlagSetting, fit_width: Setting, fit_height: Setting) -> bool
-    ensures { λ r. ⌜ r ≡ section.fitOn fit «fit_width» «fit_height» ⌝ }
-{
-    match fit {
-        FlagSetting::Absent => is_given(fit_width) | is_given(fit_height),
-        FlagSetting::Given(x) => x == 1,
-    }
-}
-
-// Whether pages go over, then down.
-pub fn over_then_down(order: FlagSetting) -> bool
-    ensures { λ r. ⌜ r ≡ section.overThenDown order ⌝ }
-{
-    match order {
-        FlagSetting::Absent => false,
-        FlagSetting::Given(x) => x == 1,
-    }
-}
-
-// The most pages that a plan may have.
-pub fn page_limit(limit: LimitSetting) -> u64
-    ensures { λ r. ⌜ r ≡ section.limitOf limit ⌝ }
-{
-    match limit {
-        LimitSetting::Absent => 10_000,
-        LimitSetting::Given(x) => x,
-    }
-}
-
-// The six margins as floats, for content geometry.
-pub fn margin_setting(margins: MarginsRead) -> MarginSetting
-    ensures { λ r. ⌜ r ≡ section.marginSetting margins ⌝ }
-{
-    let MarginsRead::Given(bits) = margins else {
-        return MarginSetting::Absent;
-    };
-    MarginSetting::Given(Margins {
-        left: float(bits.left),
-        right: float(bits.right),
-        top: float(bits.top),
-        bottom: float(bits.bottom),
-        header: float(bits.header),
-        footer: float(bits.footer),
-    })
 }

@@ -1,4 +1,3 @@
 -- Laws that belong to no one function.
 pub mod NumberLaws
 pub mod RecordLaws
-pub mod PassLaws

@@ -1,5 +1,3 @@
--- What the contracts of `records` cite: the records, the questions, and what one pass over the records carries.
+-- What the contracts of `records` cite: numbers and records in bytes.
 pub mod Numbers
 pub mod Records
-pub mod Verdict
-pub mod Pass

@@ -1,13 +1,8 @@
-// Jobs as bytes: document 01, sections "Jobs" and "Questions in order". Records are read one by one, and a job is questioned whole.
+// The records of a job, read one by one from its bytes: document 01, section "Jobs".
 mod numbers;
-mod questions;
 mod records;
 
 pub use numbers::float;
-pub use questions::Checked;
-pub use questions::Items;
-pub use questions::check_job;
-pub use questions::check_job_lent;
 pub use records::ColumnSlot;
 pub use records::MarginBits;
 pub use records::Merge;

@@ -7,7 +7,7 @@ use native.Mathlib.Omega.{arith}
 use lib.Dec.{leb, ltb}
 use lib.ListN.{length, take}
 use borrow.Author.Tests.{le-leb, lt-ltb, leb-true, ltb-true}
-use Rattle.geometry.specs.Outcome.{given}
+use Rattle.units.specs.Outcome.{given}
 use Rattle.rules.specs.declared.pages.Page.{Page}
 use Rattle.rules.specs.declared.pages.Plan.{Plan}
 use Rattle.rules.specs.declared.pages.PageAnswer.{PageAnswer}

@@ -4,7 +4,7 @@ use mathlib.Core.Bool.{Bool, true, false}
 use mathlib.Core.List.{List, [], _∷_, _++_}
 use Prim.Native.Nat.{ℕ, zero, suc, _+_, _-_, _^_, _≤_, _<_}
 use lib.ListN.{take}
-use Rattle.geometry.specs.Outcome.{Outcome, given, refused}
+use Rattle.units.specs.Outcome.{Outcome, given, refused}
 use Rattle.io.specs.Counts.{Counts}
 use Rattle.rules.specs.declared.pages.Page.{Page}
 use Rattle.rules.specs.declared.pages.Plan.{Plan}

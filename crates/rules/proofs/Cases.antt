@@ -8,8 +8,8 @@ use Prim.Native.Nat.{ℕ, _≤_}
 use mathlib.Core.Bool.{_&&_}
 use native.Mathlib.Omega.{arith}
 use lib.IntN.{pos}
-use Rattle.geometry.specs.Outcome.{Outcome, given}
-use Rattle.geometry.specs.Units.{scaleFixed, unscaledCapacity, inI64}
+use Rattle.units.specs.Outcome.{Outcome, given}
+use Rattle.units.specs.Units.{scaleFixed, unscaledCapacity, inI64}
 use Rattle.rules.specs.declared.titles.Title.{Title}
 use Rattle.rules.specs.declared.titles.Title.the-variants.{Absent, Pair}
 use Rattle.rules.specs.declared.titles.Axis.the-variants.{Rows}

@@ -10,7 +10,7 @@ use lib.Signed.{mag}
 use lib.ListN.{length, getD, take}
 use lib.Seq.{getD-take, length-take-le}
 use borrow.Author.Tests.{le-leb, leb-true, eq-eqb}
-use Rattle.geometry.specs.Outcome.{Outcome, given, refused, andThen}
+use Rattle.units.specs.Outcome.{Outcome, given, refused, andThen}
 use Rattle.rules.specs.declared.pages.Page.{Page}
 use Rattle.rules.specs.declared.pages.Plan.{Plan}
 use Rattle.rules.specs.declared.plan.Settings.{Settings}

@@ -12,8 +12,8 @@ use lib.Seq.{take-all}
 use lib.Dec.{leb, ltb}
 use lib.IntN.{ℤ, pos, negsuc, natAbs}
 use borrow.Author.Tests.{lt-ltb, le-ltb, le-leb, lt-leb, leb-true, ne-eqb}
-use Rattle.geometry.specs.Outcome.{Outcome, given}
-use Rattle.geometry.specs.Units.{inI64, halfUp, lessOf, atLeastOne, scaleFixed, unscaledCapacity}
+use Rattle.units.specs.Outcome.{Outcome, given}
+use Rattle.units.specs.Units.{inI64, halfUp, lessOf, atLeastOne, scaleFixed, unscaledCapacity}
 use Rattle.rules.specs.declared.titles.Title.the-variants.{Absent}
 use Rattle.rules.specs.declared.runs.Frame.{Frame}
 use Rattle.rules.specs.Slots.{sum}

@@ -11,7 +11,7 @@ use lib.Dec.{leb}
 use lib.ListN.{length, take, drop, set, length-take}
 use lib.Seq.{length-take-le, length-front, take-length}
 use borrow.Author.Tests.{le-leb, lt-leb, leb-true}
-use Rattle.geometry.specs.Outcome.{Outcome, given, refused}
+use Rattle.units.specs.Outcome.{Outcome, given, refused}
 use Rattle.rules.specs.declared.pages.Page.{Page}
 use Rattle.rules.specs.declared.pages.Plan.{Plan}
 use Rattle.rules.specs.Questions.{ask, noOr}

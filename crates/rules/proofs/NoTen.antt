@@ -10,10 +10,10 @@ use lib.IntN.{ℤ, pos, negsuc, negℤ, natAbs, _*ℤ_}
 use lib.Signed.{mag, quotZ}
 use lib.ListN.{length}
 use borrow.Author.Tests.{ne-eqb}
-use Rattle.geometry.specs.Outcome.{Outcome, given, refused, andThen}
-use Rattle.geometry.specs.Units.{inI64, scaleFixed, lessOf, atLeastOne, unscaledCapacity}
-use Rattle.geometry.proofs.Signs.{inside}
-use Rattle.geometry.proofs.Scaling.{scaled}
+use Rattle.units.specs.Outcome.{Outcome, given, refused, andThen}
+use Rattle.units.specs.Units.{inI64, scaleFixed, lessOf, atLeastOne, unscaledCapacity}
+use Rattle.units.proofs.Signs.{inside}
+use Rattle.units.proofs.Scaling.{scaled}
 use Rattle.geometry.proofs.Content.{paper-given, content-given}
 use Rattle.rules.specs.declared.plan.Settings.{Settings}
 use Rattle.rules.specs.Questions.{ask, equallyLong, risingWithin, allSmall}

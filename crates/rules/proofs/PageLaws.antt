@@ -6,7 +6,7 @@ use native.Mathlib.Nat.{mod-lt, mod-eq-of-lt, mod-eq-sub-mod, div-eq-of-lt, div-
 use lib.Arith.{digits-lt, digits-div, digits-mod}
 use native.Mathlib.Omega.{arith}
 use lib.ListN.{length, take, length-take, length-append}
-use Rattle.geometry.specs.Outcome.{given, refused}
+use Rattle.units.specs.Outcome.{given, refused}
 use Rattle.rules.specs.declared.pages.PageOrder.{PageOrder}
 use Rattle.rules.specs.declared.pages.PageOrder.the-variants.{DownThenOver, OverThenDown}
 use Rattle.rules.specs.Pages.{upFrom, joined, inOrder, numbered, placeOf}

@@ -9,7 +9,7 @@ use native.Mathlib.Decide.{decLe}
 use lib.Dec.{leb, ltb}
 use lib.ListN.{length}
 use borrow.Author.Tests.{le-leb, lt-leb, lt-ltb, eqb-true}
-use Rattle.geometry.specs.Outcome.{Outcome, given, refused}
+use Rattle.units.specs.Outcome.{Outcome, given, refused}
 use Rattle.rules.specs.declared.partition.AxisSetup.{AxisSetup}
 use Rattle.rules.specs.declared.partition.Partition.{Partition}
 use Rattle.rules.specs.declared.partition.Partition.the-variants.{Value, Refused}

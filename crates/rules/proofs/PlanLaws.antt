@@ -10,7 +10,7 @@ use lib.IntN.{ℤ}
 use lib.ListN.{length, getD, take, drop, length-map}
 use lib.Seq.{take-all}
 use borrow.Author.Tests.{leb-true, eqb-true, ne-eqb}
-use Rattle.geometry.specs.Outcome.{Outcome, given, refused, andThen}
+use Rattle.units.specs.Outcome.{Outcome, given, refused, andThen}
 use Rattle.rules.specs.declared.titles.Title.{Title}
 use Rattle.rules.specs.declared.runs.Frame.{Frame}
 use Rattle.rules.specs.declared.pages.Plan.{Plan}

@@ -13,7 +13,7 @@ use lib.ListN.{length, getD, drop, drop-of-length-le}
 use lib.Seq.{drop-cons}
 use borrow.Author.Tests.{le-leb, lt-leb, leb-true, ltb-true}
 use Rattle.rules.specs.Slots.{Slots}
-use Rattle.geometry.specs.Outcome.{Outcome, refused}
+use Rattle.units.specs.Outcome.{Outcome, refused}
 use Rattle.rules.specs.Questions.{ask, noOr, allOrdered, allWithin, rising, risingWithin, allSmall}
 use Rattle.rules.proofs.Laws.{drop-back, run-out}
 

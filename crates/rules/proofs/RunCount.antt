@@ -9,7 +9,7 @@ use lib.Dec.{leb}
 use lib.IntN.{ℤ}
 use lib.ListN.{length, length-map}
 use borrow.Author.Tests.{le-leb}
-use Rattle.geometry.specs.Outcome.{given, refused}
+use Rattle.units.specs.Outcome.{given, refused}
 use Rattle.rules.specs.declared.plan.Settings.{Settings}
 use Rattle.rules.specs.Slots.{sum}
 use Rattle.rules.specs.Questions.{equallyLong}

@@ -6,8 +6,8 @@ use mathlib.Core.List.{List, []}
 use Prim.Native.Nat.{ℕ, _≤_, _<_}
 use lib.IntN.{ℤ, pos}
 use lib.ListN.{length, take}
-use Rattle.geometry.specs.Outcome.{given}
-use Rattle.geometry.specs.Units.{unscaledCapacity}
+use Rattle.units.specs.Outcome.{given}
+use Rattle.units.specs.Units.{unscaledCapacity}
 use Rattle.rules.specs.declared.titles.Title.the-variants.{Absent}
 use Rattle.rules.specs.declared.pages.Page.{Page}
 use Rattle.rules.specs.declared.pages.Plan.{Plan}

@@ -4,7 +4,7 @@ use mathlib.Core.List.{List, [], _∷_, _++_, map}
 use Prim.Native.Nat.{ℕ, zero, suc, _+_, _*_, _/_, _%_, _^_, _≤_, min}
 use lib.Dec.{leb, ltb}
 use lib.ListN.{length, getD, take, drop}
-use Rattle.geometry.specs.Outcome.{Outcome, given, refused}
+use Rattle.units.specs.Outcome.{Outcome, given, refused}
 use Rattle.rules.specs.declared.titles.Title.{Title}
 use Rattle.rules.specs.declared.pages.PageOrder.{PageOrder}
 use Rattle.rules.specs.declared.pages.PageOrder.the-variants.{DownThenOver, OverThenDown}

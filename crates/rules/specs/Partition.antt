@@ -6,7 +6,7 @@ use mathlib.Core.List.{List}
 use Prim.Native.Nat.{ℕ, _+_}
 use lib.Dec.{leb, eqb}
 use lib.ListN.{length}
-use Rattle.geometry.specs.Outcome.{Outcome, given, refused}
+use Rattle.units.specs.Outcome.{Outcome, given, refused}
 use Rattle.rules.specs.declared.runs.Frame.{Frame}
 use Rattle.rules.specs.declared.runs.Tally.{Tally}
 use Rattle.rules.specs.declared.partition.AxisSetup.{AxisSetup}

@@ -7,7 +7,7 @@ use Prim.Native.Nat.{ℕ, _+_, _*_, _^_, _≤_, _<_, max}
 use lib.Dec.{leb, eqb}
 use lib.IntN.{ℤ}
 use lib.ListN.{length}
-use Rattle.geometry.specs.Outcome.{Outcome, given, refused, andThen}
+use Rattle.units.specs.Outcome.{Outcome, given, refused, andThen}
 use Rattle.geometry.specs.Paper.{PaperFound, Placed, paperGeometry, contentGeometry}
 use Rattle.rules.specs.declared.titles.Axis.the-variants.{Rows, Columns}
 use Rattle.rules.specs.declared.titles.Title.{Title}

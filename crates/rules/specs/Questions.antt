@@ -4,7 +4,7 @@ use mathlib.Core.List.{List, [], _∷_}
 use Prim.Native.Nat.{ℕ}
 use lib.Dec.{leb, ltb, eqb}
 use lib.ListN.{length}
-use Rattle.geometry.specs.Outcome.{Outcome, refused}
+use Rattle.units.specs.Outcome.{Outcome, refused}
 
 -- "A "no" returns the number": a question by its number and its answer, before what comes after it
 abbrev pub ask : {A : Type 0} → ℕ → Bool → Outcome A → Outcome A

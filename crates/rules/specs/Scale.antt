@@ -6,8 +6,8 @@ use lib.Dec.{leb, ltb, eqb}
 use lib.IntN.{ℤ, pos, natAbs}
 use lib.Signed.{leZ}
 use lib.ListN.{length}
-use Rattle.geometry.specs.Outcome.{Outcome, given, refused}
-use Rattle.geometry.specs.Units.{scaleFixed, unscaledCapacity}
+use Rattle.units.specs.Outcome.{Outcome, given, refused}
+use Rattle.units.specs.Units.{scaleFixed, unscaledCapacity}
 use Rattle.geometry.specs.declared.paper.Setting.{Setting}
 use Rattle.geometry.specs.declared.paper.Setting.the-variants.{Absent, Given}
 use Rattle.rules.specs.declared.titles.Title.{Title}

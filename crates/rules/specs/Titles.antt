@@ -4,7 +4,7 @@ use mathlib.Core.List.{List, [], _∷_}
 use Prim.Native.Nat.{ℕ, zero, suc, _+_, min, max}
 use lib.Dec.{leb, ltb, eqb}
 use lib.ListN.{length}
-use Rattle.geometry.specs.Outcome.{Outcome, given, refused}
+use Rattle.units.specs.Outcome.{Outcome, given, refused}
 use Rattle.rules.specs.declared.titles.Axis.{Axis}
 use Rattle.rules.specs.declared.titles.Axis.the-variants.{Rows, Columns}
 use Rattle.rules.specs.declared.titles.Title.{Title}

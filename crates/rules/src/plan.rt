@@ -3,9 +3,9 @@ use crate::pages::PageOrder;
 use crate::pages::Plan;
 use crate::scale::Fit;
 use crate::titles::Title;
-use geometry::Fixed;
 use geometry::MarginSetting;
 use geometry::Setting;
+use units::Fixed;
 
 // How a range is printed. A target is the most pages in a direction, 0 for any number.
 pub struct Settings {

@@ -1,6 +1,6 @@
 // Scale: document 01, section "Scale".
 use crate::titles::Title;
-use geometry::Fixed;
+use units::Fixed;
 
 // A scale in thousandths, and its two notes.
 pub struct ChosenScale {

@@ -1,4 +1,4 @@
--- The answer and the numbers of a plan call stand for what was planned. Assumes nothing.
+-- The answer and the numbers of a plan call stand for what was planned, and the page and block calls speak of that plan. Assumes nothing.
 use mathlib.Core.Path.{_≡_, refl, sym, ap, ap₂, _∙_}
 use mathlib.Core.Bool.{Bool, true, false, _&&_}
 use mathlib.Core.List.{List, [], _∷_}
@@ -6,22 +6,27 @@ use Prim.Native.Nat.{ℕ, zero, suc, _≤_, _<_}
 use native.Mathlib.Omega.{arith}
 use lib.Dec.{leb}
 use lib.ListN.{length}
-use Rattle.geometry.specs.Outcome.{Outcome, given, refused, andThen}
+use Rattle.units.specs.Outcome.{Outcome, given, refused, andThen}
+use Rattle.rules.specs.declared.pages.PageAnswer.{PageAnswer}
+use Rattle.rules.specs.declared.pages.Plan.{Plan}
 use Rattle.rules.specs.declared.plan.Settings.{Settings}
 use Rattle.rules.specs.declared.plan.Planning.{Planning}
 use Rattle.rules.specs.declared.plan.Planning.the-variants.{Value, Refused}
 use Rattle.rules.specs.Questions.{ask, equallyLong, risingWithin, allSmall}
-use Rattle.rules.specs.Pages.{RunLists, evenLists}
+use Rattle.rules.specs.Pages.{RunLists, evenLists, pageNumbered, pageOutcome}
 use Rattle.rules.specs.Plan.{AxisInput, Sides, Layout, Planned, rowsOf, columnsOf, contentSides, layout, formed, inGrid, roomFor, planned, planOutcome}
 use Rattle.rules.specs.Demand.{CoversPairs, FewestPlan, LargestPlan}
 use Rattle.rules.proofs.NoTen.{sides-given, asked, not-given}
-use Rattle.records.specs.declared.questions.Items.{Items}
+use Rattle.job_questions.specs.declared.Items.{Items}
 use Rattle.records.specs.Records.{records}
-use Rattle.records.specs.Verdict.{inOrder, questions, itemsOf, verdictLent}
+use Rattle.job_questions.specs.Verdict.{inOrder, questions, itemsOf, verdictLent}
 use Rattle.job.specs.Plan.{jobSettings, jobRows, jobColumns, planJob}
-use Rattle.yuzhbani.specs.declared.asked.Asked.{Asked}
-use Rattle.yuzhbani.specs.Numbers.{planNumbers, told}
-use Rattle.yuzhbani.specs.Calls.{answerTo, planIn, answerOf, numbersOf, HadBack, PlanHanded}
+use Rattle.report.specs.declared.blocks.Block.{Block}
+use Rattle.report.specs.Blocks.{BlockOf}
+use Rattle.numbers.specs.Numbers.{planNumbers, told}
+use Rattle.numbers.specs.Answers.{answerTo, answerOf, numbersOf, HadBack, PageHanded}
+use Rattle.asked.specs.declared.Asked.{Asked}
+use Rattle.yuzhbani.specs.Calls.{planIn, PlanHanded}
 
 -- ---- no refusal has the number 0, so that 0 says that a plan was given
 
@@ -129,3 +134,13 @@ pub asked-same : {a b : Asked} → a ≡ b → (ri rz rf rl rb ci cz cf cl cb : 
     → Planned (planned (b .settings) (rowsFor b ri rz rf rl rb) (columnsFor b ci cz cf cl cb) rows₀ columns₀) p rows₀ columns₀ rows columns
     × Demands p (b .settings) (rowsFor b ri rz rf rl rb) (columnsFor b ci cz cf cl cb) rows columns
 asked-same e ri rz rf rl rb ci cz cf cl cb rows₀ columns₀ rows columns p w = rw (← e) w
+
+-- ---- the page and the block of the plan that numbers stand for
+
+pub page-handed : {p q : Plan} → p ≡ q → (rows columns : RunLists) (n : ℕ) (a : PageAnswer) → pageOutcome a ≡ pageNumbered p rows columns n
+    → (r : ℕ) (old ns : List ℕ) → PageHanded (pageOutcome a) r old ns → PageHanded (pageNumbered q rows columns n) r old ns
+page-handed e rows columns n a i r old ns w = rw (← e, ← i) w
+
+pub block-handed : {p q : Plan} → p ≡ q → (rows columns : RunLists) (from : ℕ) (r : Block) (out : List ℕ)
+    → BlockOf p rows columns from r out → BlockOf q rows columns from r out
+block-handed e rows columns from r out w = rw (← e) w

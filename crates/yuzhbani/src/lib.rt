@@ -1,15 +1,12 @@
 // Plans, pages and their text for a program in another language. `rt staticlib yuzhbani` makes an archive of these calls, which C or Rust
-// can link. A plan is handed over as sixteen numbers and a page as twelve, in the order that `specs/Numbers.antt` says;
-// what is asked of a plan as thirty, in the order that `specs/Asked.antt` says.
-mod asked;
-mod numbers;
-
-use crate::asked::asked_from;
-use crate::numbers::plan_from;
-use crate::numbers::put_page;
-use crate::numbers::put_planning;
-use crate::numbers::told;
+// can link. A plan is handed over as sixteen numbers and a page as twelve, in the order that `specs/Numbers.antt` of `numbers` says;
+// what is asked of a plan as thirty, in the order that `specs/Asked.antt` of `asked` says.
+use asked::asked_from;
 use job::plan_job;
+use numbers::plan_from;
+use numbers::put_page;
+use numbers::put_planning;
+use numbers::told;
 use pages::page_numbered;
 use planner::plan_pages;
 use report::head_lines;
@@ -23,9 +20,10 @@ ghost use Rattle.rules.specs.Demand.{CoversPairs, FewestPlan, LargestPlan};
 ghost use Rattle.job.specs.Plan as job;
 ghost use Rattle.report.specs.Lines.{headLines};
 ghost use Rattle.report.specs.Blocks.{BlockOf};
-ghost use Rattle.yuzhbani.specs.Numbers as section;
-ghost use Rattle.yuzhbani.specs.Asked.{settingsFrom, rowsAsked, columnsAsked};
-ghost use Rattle.yuzhbani.specs.Calls.{PlanHanded, PageHanded, blockTo};
+ghost use Rattle.numbers.specs.Numbers as section;
+ghost use Rattle.numbers.specs.Answers.{PageHanded};
+ghost use Rattle.asked.specs.Asked.{settingsFrom, rowsAsked, columnsAsked};
+ghost use Rattle.yuzhbani.specs.Calls.{PlanHanded, blockTo};
 
 // Plans the pages of a job: 0, with the plan's numbers in `numbers` and its runs at the fronts of eight lent lists; or the number of a
 // refusal, and nothing is written.

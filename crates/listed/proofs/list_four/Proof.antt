@@ -47,7 +47,7 @@ use denote.Triple.Table.{entered, cited}
 use denote.Triple.Clauses.{Lasts, ensured, lasts}
 use denote.Triple.Walked.{says, Stays, stay-dropped, walkOf, goes-dropped, Walks, ends-at, walked, walk-meets}
 use denote.Exit.{yes}
-use Rattle.geometry.specs.Outcome.{Outcome}
+use Rattle.units.specs.Outcome.{Outcome}
 use Rattle.rules.specs.Pages.{RunLists, runLists, pagesOf, listPages, listOutcome, pagesLent}
 use Rattle.rules.specs.declared.pages.Page.{Page}
 use Rattle.rules.specs.declared.pages.Plan.{Plan}

@@ -52,7 +52,7 @@ use denote.Triple.Table.{entered, cited}
 use denote.Triple.Clauses.{ensured, lasts}
 use denote.Triple.Walked.{says, Stays, stay-dropped, stay-slice, walkOf, goes-dropped, goes-slice, Walks, ends-at, walked, walk-meets}
 use denote.Exit.{yes}
-use Rattle.geometry.specs.Outcome.{Outcome}
+use Rattle.units.specs.Outcome.{Outcome}
 use Rattle.rules.specs.Partition.{Even}
 use Rattle.rules.specs.Pages.{RunLists, runLists, pagesOf, pageAfter, listPages, listOutcome, countIn}
 use Rattle.rules.specs.declared.pages.Page.{Page}

@@ -2,7 +2,7 @@
 use mathlib.Core.Path.{_≡_, ap, _∙_}
 use Prim.Native.Nat.{_≤_, _<_}
 use native.Mathlib.Omega.{arith}
-use Rattle.geometry.specs.Outcome.{given, refused}
+use Rattle.units.specs.Outcome.{given, refused}
 use Rattle.rules.specs.Pages.{RunLists, runLists, pageNumbered}
 use Rattle.rules.proofs.PagesCode.{Answers, is-refused, is-answered}
 use borrow.Author.Needs.{needs}

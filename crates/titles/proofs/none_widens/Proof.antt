@@ -55,7 +55,7 @@ loop-again c =
       omega arith,
       omega arith,
       ap (λ (x : Bool). not (free (getD (a .firsts .now) (l .i - 1) 0) (getD (a .lasts .now) (l .i - 1) 0)) && x) (l .inv .2)
-      ∙ sym (no-merge-back free (l .i) (a .firsts .now) (a .lasts .now) (omega arith) (omega arith) (omega arith)),
+          ∙ sym (no-merge-back free (l .i) (a .firsts .now) (a .lasts .now) (omega arith) (omega arith) (omega arith)),
     )
 
 returns : tie.Need-returns Inv-loop μ-loop

@@ -1,5 +1,5 @@
 -- `yuzhbani::yuzhbani_block` meets its contract: a block of the plan that the numbers stand for. Assumes nothing.
-use Rattle.yuzhbani.proofs.NumberLaws.{block-handed}
+use Rattle.yuzhbani.proofs.Handed.{block-handed}
 use borrow.Author.Needs.{needs}
 use Rattle.yuzhbani.proofs.yuzhbani_block.Statement.{statement}
 use Rattle.yuzhbani.proofs.yuzhbani_block.Tie as tie

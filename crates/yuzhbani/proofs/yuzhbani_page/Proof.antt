@@ -1,5 +1,5 @@
 -- `yuzhbani::yuzhbani_page` meets its contract: the page of the plan that the numbers stand for, and its numbers. Assumes nothing.
-use Rattle.yuzhbani.proofs.NumberLaws.{page-handed}
+use Rattle.yuzhbani.proofs.Handed.{page-handed}
 use borrow.Author.Needs.{needs}
 use Rattle.yuzhbani.proofs.yuzhbani_page.Statement.{statement}
 use Rattle.yuzhbani.proofs.yuzhbani_page.Tie as tie

@@ -1,6 +1,6 @@
 -- `yuzhbani::yuzhbani_plan_lists` meets its contract: the clauses of `plan_pages`, by what the numbers ask, and by the answer and the numbers
 -- that are handed over. Assumes nothing.
-use Rattle.yuzhbani.specs.Asked.{settingsFrom, rowsAsked, columnsAsked}
+use Rattle.asked.specs.Asked.{settingsFrom, rowsAsked, columnsAsked}
 use Rattle.yuzhbani.proofs.Handed.{handed, plan-not-zero, asked-same}
 use borrow.Author.Needs.{needs}
 use Rattle.yuzhbani.proofs.yuzhbani_plan_lists.Statement.{statement}

@@ -2,7 +2,7 @@
 use mathlib.Core.Path.{sym, ap, _∙_}
 use mathlib.Core.Logic.{⊎-elim}
 use native.Mathlib.Nat.{lt-irrefl, lt-of-lt-of-le}
-use Rattle.geometry.specs.Outcome.{given}
+use Rattle.units.specs.Outcome.{given}
 use Rattle.geometry.proofs.Sheets.{listed, unlisted}
 use borrow.Author.Needs.{needs}
 use Rattle.geometry.proofs.paper.resolved.Statement.{statement}

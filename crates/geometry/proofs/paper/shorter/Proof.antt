@@ -4,7 +4,7 @@ use lib.Ieee.{ofInt, binary64}
 use mir.Syntax.{w64}
 use mir.Val.{SFits}
 use mir.ValLaws.{toZ-ofZ}
-use Rattle.geometry.proofs.Constants.{ninety-six, thousand}
+use Rattle.units.proofs.Constants.{ninety-six, thousand}
 use borrow.Author.Needs.{needs}
 use Rattle.geometry.proofs.paper.shorter.Statement.{statement}
 use Rattle.geometry.proofs.paper.shorter.Tie as tie

@@ -1,5 +1,5 @@
 use mathlib.Core.Path.{sym, ap, _∙_}
-use Rattle.records.specs.Verdict.{checkedOutcome}
+use Rattle.job_questions.specs.Verdict.{checkedOutcome}
 use Rattle.job.proofs.JobLaws.{never-uneven}
 use borrow.Author.Needs.{needs}
 use Rattle.job.proofs.plan.uneven_refusal.Statement.{statement}

@@ -2,7 +2,7 @@
 use mathlib.Core.Path.{_≡_, sym, ap, _∙_}
 use native.Mathlib.Omega.{arith}
 use lib.ListN.{length}
-use Rattle.geometry.specs.Outcome.{given}
+use Rattle.units.specs.Outcome.{given}
 use Rattle.rules.specs.declared.runs.Tally.{Tally}
 use Rattle.rules.specs.Runs.{axisRuns, axisTally}
 use Rattle.rules.specs.Partition.{roomFor}

@@ -4,7 +4,7 @@ use mathlib.Core.List.{List, []}
 use Prim.Native.Nat.{ℕ}
 use lib.ListN.{length}
 use lib.Seq.{length-take-le}
-use Rattle.geometry.specs.Outcome.{given, refused}
+use Rattle.units.specs.Outcome.{given, refused}
 use Rattle.rules.specs.Pages.{RunLists, runLists, evenLists}
 use Rattle.rules.specs.Plan.{AxisInput, rowsOf, columnsOf, lookedAt, axisFor, sidesOutcome, contentSides, firstNo}
 use Rattle.rules.proofs.Demand.{clauses}

@@ -93,15 +93,15 @@ write-runs-requires c κs =
     let l = length-part (a .at) (a .lasts .now) in
     let t = length-part (a .at) (a .totals .now) in
     let m = length-part (a .at) (a .marks .now) in (
-        slots-mid (a .a) (a .e) (a .indexes .now) (a .sizes .now) (s .pre .1 .0 .1) (s .pre .0),
-        subst (λ (mark : ℕ). Room (firstMarked mark (runs (a .k) (a .mfirsts .now) (a .mlasts .now) (mid (a .a) (a .e) (a .indexes .now)) (mid (a .a) (a .e) (a .sizes .now)))) (part (a .at) (a .firsts .now)) (part (a .at) (a .lasts .now)) (part (a .at) (a .totals .now)) (part (a .at) (a .marks .now)))
-            (sym (c .before .before .before .before .mark-of .ensures))
-            (record {
-              room = omega (arith, r .room, f);
-              lasts-even = omega (arith, r .lasts-even, f, l);
-              sizes-even = omega (arith, r .sizes-even, f, t);
-              marks-even = omega (arith, r .marks-even, f, m);
-            }),
+      slots-mid (a .a) (a .e) (a .indexes .now) (a .sizes .now) (s .pre .1 .0 .1) (s .pre .0),
+      subst (λ (mark : ℕ). Room (firstMarked mark (runs (a .k) (a .mfirsts .now) (a .mlasts .now) (mid (a .a) (a .e) (a .indexes .now)) (mid (a .a) (a .e) (a .sizes .now)))) (part (a .at) (a .firsts .now)) (part (a .at) (a .lasts .now)) (part (a .at) (a .totals .now)) (part (a .at) (a .marks .now)))
+          (sym (c .before .before .before .before .mark-of .ensures))
+          (record {
+            room = omega (arith, r .room, f);
+            lasts-even = omega (arith, r .lasts-even, f, l);
+            sizes-even = omega (arith, r .sizes-even, f, t);
+            marks-even = omega (arith, r .marks-even, f, m);
+          }),
     )
 
 same-length : tie.Need-same-length

@@ -5,8 +5,8 @@ use native.Mathlib.Omega.{arith}
 use lib.IntN.{ℤ, pos}
 use mir.Syntax.{w64}
 use mir.ValLaws.{toZ-pos}
-use Rattle.geometry.specs.declared.units.Length.{Length}
-use Rattle.geometry.specs.Units.{lengthOutcome, unscaledCapacity}
+use Rattle.units.specs.declared.Length.{Length}
+use Rattle.units.specs.Units.{lengthOutcome, unscaledCapacity}
 use Rattle.rules.specs.Scale.{units}
 use borrow.Author.Needs.{needs}
 use Rattle.planner.proofs.scale.capacity_at.Statement.{statement}

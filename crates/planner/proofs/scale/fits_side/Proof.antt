@@ -7,8 +7,8 @@ use lib.Signed.{leZ}
 use mir.Syntax.{w64}
 use mir.Val.{SFits, toZ, ofZ}
 use mir.ValLaws.{toZ-pos, toZ-ofZ}
-use Rattle.geometry.specs.declared.units.Length.{Length}
-use Rattle.geometry.specs.Units.{lengthOutcome, scaleFixed}
+use Rattle.units.specs.declared.Length.{Length}
+use Rattle.units.specs.Units.{lengthOutcome, scaleFixed}
 use Rattle.rules.specs.Scale.{atMost, fitsSide}
 use borrow.Author.Needs.{needs}
 use Rattle.planner.proofs.scale.fits_side.Statement.{statement}

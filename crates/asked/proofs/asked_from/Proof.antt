@@ -1,0 +1,29 @@
+-- `asked::asked_from` meets its contract. Assumes nothing.
+use borrow.Author.Needs.{needs}
+use Rattle.asked.proofs.asked_from.Statement.{statement}
+use Rattle.asked.proofs.asked_from.Tie as tie
+
+settings-from-requires : tie.Need-settings-from-requires
+settings-from-requires c κs = search needs
+
+range-from-requires : tie.Need-range-from-requires
+range-from-requires c κs = search needs
+
+title-from-requires : tie.Need-title-from-requires
+title-from-requires c κs = search needs
+
+title-from-requires-2 : tie.Need-title-from-requires-2
+title-from-requires-2 c κs = search needs
+
+returns : tie.Need-returns
+returns c = rw (c .title-from2 .ensures, c .before .title-from .ensures, c .before .before .range-from .ensures, c .before .before .before .settings-from .ensures)
+
+pub asked-from-spec : {M : Type 1} → statement M
+asked-from-spec =
+    tie.close
+    (tie.spec
+    settings-from-requires
+    range-from-requires
+    title-from-requires
+    title-from-requires-2
+    returns)

@@ -1,0 +1,2 @@
+-- What the contracts of `asked` cite.
+pub mod Asked

@@ -1,0 +1,53 @@
+-- `job_questions::check_job_lent` meets its contract: the pass over the records tells the first no. Assumes nothing.
+use mathlib.Core.Path.{ap, _∙_}
+use mathlib.Core.List.{[]}
+use Rattle.units.specs.Outcome.{given}
+use Rattle.records.specs.Records.{records}
+use Rattle.job_questions.specs.Verdict.{verdictLent, itemsOf}
+use Rattle.job_questions.proofs.PassLaws.{job-stopped, job-no, job-yes, job-items}
+use borrow.Author.Needs.{needs}
+use Rattle.job_questions.proofs.check_job_lent.Statement.{statement}
+use Rattle.job_questions.proofs.check_job_lent.Tie as tie
+
+survey-job-requires : tie.Need-survey-job-requires
+survey-job-requires c κs = search needs
+
+enum-known-found : tie.Need-enum-known-found
+enum-known-found c = search needs
+
+enum-known-found-2 : tie.Need-enum-known-found-2
+enum-known-found-2 c = search needs
+
+first-no-requires : tie.Need-first-no-requires
+first-no-requires c κs = search needs
+
+returns : tie.Need-returns
+unfolding verdictLent
+returns c =
+    let a = c .before .before .before .before .before .before .before .args in
+    job-no (itemsOf (records (a .bytes .now))) (a .equally-long) [] (a .bytes .now) (c .before .before .before .before .before .survey-job .result) (c .before .before .before .before .before .survey-job .ensures) _ (c .before .before .before .found2 .given .1) (c .before .first-no .result) (c .before .first-no .ensures) (c .if1 .taken)
+
+returns-2 : tie.Need-returns-2
+unfolding verdictLent
+returns-2 c =
+    let a = c .before .before .before .before .before .args in
+    job-stopped (itemsOf (records (a .bytes .now))) (a .equally-long) [] (a .bytes .now) (c .before .before .before .survey-job .result) _ (c .before .before .before .survey-job .ensures) (c .before .found .given .1)
+
+returns-3 : tie.Need-returns-3
+unfolding verdictLent
+returns-3 c =
+    let v = itemsOf (records (c .before .before .before .before .before .before .before .before .args .bytes .now)) in
+    ap given (job-items v (c .before .before .before .before .before .before .before .before .args .equally-long) [] (c .before .before .before .before .before .before .before .before .args .bytes .now) (c .before .before .before .before .before .before .survey-job .result) (c .before .before .before .before .before .before .survey-job .ensures) _ (c .before .before .before .before .found2 .given .1) (c .before .before .first-no .result) (c .before .before .first-no .ensures))
+    ∙ job-yes v (c .before .before .before .before .before .before .before .before .args .equally-long) [] (c .before .before .before .before .before .before .before .before .args .bytes .now) (c .before .before .before .before .before .before .survey-job .result) (c .before .before .before .before .before .before .survey-job .ensures) _ (c .before .before .before .before .found2 .given .1) (c .before .before .first-no .result) (c .before .before .first-no .ensures) (c .before .if1 .left)
+
+pub check-job-lent-spec : {M : Type 1} → statement M
+check-job-lent-spec =
+    tie.close
+    (tie.spec
+    survey-job-requires
+    enum-known-found
+    enum-known-found-2
+    first-no-requires
+    returns
+    returns-2
+    returns-3)

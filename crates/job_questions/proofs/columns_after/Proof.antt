@@ -1,0 +1,24 @@
+use mathlib.Core.Path.{sym, ap, _∙_}
+use Rattle.job_questions.specs.Pass.{columnsAfter}
+use Rattle.job_questions.proofs.Arms.{no-column}
+use borrow.Author.Needs.{needs}
+use Rattle.job_questions.proofs.columns_after.Statement.{statement}
+use Rattle.job_questions.proofs.columns_after.Tie as tie
+
+enum-known-what : tie.Need-enum-known-what
+enum-known-what c = c .match .keys1
+
+cast-place : tie.Need-cast-place
+cast-place c = search needs
+
+place-requires : tie.Need-place-requires
+place-requires c κs = search needs
+
+returns : tie.Need-returns
+returns c = c .place .ensures ∙ sym (ap (columnsAfter (c .before .before .before .before .before .args .next)) (c .before .before .before .what .given .1))
+
+returns-2 : tie.Need-returns-2
+returns-2 c = no-column (c .before .args .next) (c .before .args .what) (c .match .keys2)
+
+pub columns-after-spec : {M : Type 1} → statement M
+columns-after-spec = tie.close (tie.spec enum-known-what cast-place place-requires returns returns-2)

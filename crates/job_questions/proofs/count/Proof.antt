@@ -1,0 +1,32 @@
+use borrow.Author.Needs.{needs}
+use Rattle.job_questions.proofs.count.Statement.{statement}
+use Rattle.job_questions.proofs.count.Tie as tie
+
+one-more-requires : tie.Need-one-more-requires
+one-more-requires c κs = search needs
+
+one-more-requires-2 : tie.Need-one-more-requires-2
+one-more-requires-2 c κs = search needs
+
+one-more-requires-3 : tie.Need-one-more-requires-3
+one-more-requires-3 c κs = search needs
+
+one-more-requires-4 : tie.Need-one-more-requires-4
+one-more-requires-4 c κs = search needs
+
+one-more-requires-5 : tie.Need-one-more-requires-5
+one-more-requires-5 c κs = search needs
+
+returns : tie.Need-returns
+returns c = rw (c .one-more5 .ensures, c .before .one-more4 .ensures, c .before .before .one-more3 .ensures, c .before .before .before .one-more2 .ensures, c .before .before .before .before .one-more .ensures)
+
+pub count-spec : {M : Type 1} → statement M
+count-spec =
+    tie.close
+    (tie.spec
+    one-more-requires
+    one-more-requires-2
+    one-more-requires-3
+    one-more-requires-4
+    one-more-requires-5
+    returns)

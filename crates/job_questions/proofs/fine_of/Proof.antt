@@ -1,0 +1,66 @@
+use mathlib.Core.Path.{sym, ap}
+use Rattle.job_questions.specs.Pass.{fine}
+use borrow.Author.Needs.{needs}
+use Rattle.job_questions.proofs.fine_of.Statement.{statement}
+use Rattle.job_questions.proofs.fine_of.Tie as tie
+
+enum-known-what : tie.Need-enum-known-what
+enum-known-what c = search needs
+
+enum-known-what-2 : tie.Need-enum-known-what-2
+enum-known-what-2 c = search needs
+
+firsts-ok-requires : tie.Need-firsts-ok-requires
+firsts-ok-requires c κs = search needs
+
+grid-ok-requires : tie.Need-grid-ok-requires
+grid-ok-requires c κs = search needs
+
+enum-known-what-3 : tie.Need-enum-known-what-3
+enum-known-what-3 c = search needs
+
+row-ok-requires : tie.Need-row-ok-requires
+row-ok-requires c κs = search needs
+
+enum-known-what-4 : tie.Need-enum-known-what-4
+enum-known-what-4 c = search needs
+
+column-ok-requires : tie.Need-column-ok-requires
+column-ok-requires c κs = search needs
+
+enum-told : tie.Need-enum-told
+enum-told c = search needs
+
+returns : tie.Need-returns
+returns c = sym (ap fine (c .before .what .given .1))
+
+returns-2 : tie.Need-returns-2
+returns-2 c = rw (c .before .firsts-ok .ensures, c .grid-ok .ensures) (sym (ap fine (c .before .before .before .what2 .given .1)))
+
+returns-3 : tie.Need-returns-3
+returns-3 c = rw (c .row-ok .ensures) (sym (ap fine (c .before .before .what3 .given .1)))
+
+returns-4 : tie.Need-returns-4
+returns-4 c = rw (c .column-ok .ensures) (sym (ap fine (c .before .before .what4 .given .1)))
+
+returns-5 : tie.Need-returns-5
+returns-5 c = sym (ap fine (c .enum-told .given .1))
+
+pub fine-of-spec : {M : Type 1} → statement M
+fine-of-spec =
+    tie.close
+    (tie.spec
+    enum-known-what
+    enum-known-what-2
+    firsts-ok-requires
+    grid-ok-requires
+    enum-known-what-3
+    row-ok-requires
+    enum-known-what-4
+    column-ok-requires
+    enum-told
+    returns
+    returns-2
+    returns-3
+    returns-4
+    returns-5)

@@ -1,0 +1,38 @@
+use Rattle.job_questions.specs.Pass.{answer}
+use Rattle.job_questions.proofs.PassLaws.{no-here, yes-here, none-no}
+use borrow.Author.Tests.{not-true, not-false}
+use borrow.Author.Needs.{needs}
+use Rattle.job_questions.proofs.first_no.Statement.{statement}
+use Rattle.job_questions.proofs.first_no.Tie as tie
+
+returns : tie.Need-returns
+unfolding answer
+returns c = no-here _ _ _ (not-true _ (c .if1 .taken))
+
+returns-2 : tie.Need-returns-2
+unfolding answer
+returns-2 c = yes-here _ _ _ _ (not-false _ (c .before .before .if1 .left)) (no-here _ _ _ (not-true _ (c .if2 .taken)))
+
+returns-3 : tie.Need-returns-3
+unfolding answer
+returns-3 c = yes-here _ _ _ _ (not-false _ (c .before .before .before .before .if1 .left)) (yes-here _ _ _ _ (not-false _ (c .before .before .if2 .left)) (no-here _ _ _ (not-true _ (c .if3 .taken))))
+
+returns-4 : tie.Need-returns-4
+unfolding answer
+returns-4 c = yes-here _ _ _ _ (not-false _ (c .before .before .before .before .before .before .if1 .left)) (yes-here _ _ _ _ (not-false _ (c .before .before .before .before .if2 .left)) (yes-here _ _ _ _ (not-false _ (c .before .before .if3 .left)) (no-here _ _ _ (not-true _ (c .if4 .taken)))))
+
+returns-5 : tie.Need-returns-5
+unfolding answer
+returns-5 c = yes-here _ _ _ _ (not-false _ (c .before .before .before .before .before .before .before .before .before .if1 .left)) (yes-here _ _ _ _ (not-false _ (c .before .before .before .before .before .before .before .if2 .left)) (yes-here _ _ _ _ (not-false _ (c .before .before .before .before .before .if3 .left)) (yes-here _ _ _ _ (not-false _ (c .before .before .before .if4 .left)) (no-here _ _ _ (not-true _ (c .if5 .taken))))))
+
+returns-6 : tie.Need-returns-6
+unfolding answer
+returns-6 c = yes-here _ _ _ _ (not-false _ (c .before .before .before .before .before .before .before .before .before .before .before .if1 .left)) (yes-here _ _ _ _ (not-false _ (c .before .before .before .before .before .before .before .before .before .if2 .left)) (yes-here _ _ _ _ (not-false _ (c .before .before .before .before .before .before .before .if3 .left)) (yes-here _ _ _ _ (not-false _ (c .before .before .before .before .before .if4 .left)) (yes-here _ _ _ _ (not-false _ (c .before .before .if5 .left)) (no-here _ _ _ (not-true _ (c .if6 .taken)))))))
+
+returns-7 : tie.Need-returns-7
+unfolding answer
+returns-7 c = yes-here _ _ _ _ (not-false _ (c .before .before .before .before .before .before .before .before .before .before .before .if1 .left)) (yes-here _ _ _ _ (not-false _ (c .before .before .before .before .before .before .before .before .before .if2 .left)) (yes-here _ _ _ _ (not-false _ (c .before .before .before .before .before .before .before .if3 .left)) (yes-here _ _ _ _ (not-false _ (c .before .before .before .before .before .if4 .left)) (yes-here _ _ _ _ (not-false _ (c .before .before .if5 .left)) (yes-here _ _ _ _ (not-false _ (c .if6 .left)) (none-no _))))))
+
+pub first-no-spec : {M : Type 1} → statement M
+first-no-spec =
+    tie.close (tie.spec returns returns-2 returns-3 returns-4 returns-5 returns-6 returns-7)

@@ -1,0 +1,2 @@
+-- What the contracts of `job_settings` cite.
+pub mod Meaning

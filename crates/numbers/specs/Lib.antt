@@ -1,0 +1,3 @@
+-- What the contracts of `numbers` cite.
+pub mod Numbers
+pub mod Answers

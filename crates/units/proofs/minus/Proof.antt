@@ -1,0 +1,142 @@
+-- `units::minus` meets its contract: the difference by the two signs and the two magnitudes. Assumes nothing.
+use borrow.Author.Needs.{needs}
+use mathlib.Core.Path.{_≡_, ap, _∙_, sym}
+use mathlib.Core.Bool.{Bool, true, false}
+use Prim.Native.Nat.{ℕ, _+_, _-_, _≤_, _<_, _^_}
+use native.Mathlib.Omega.{arith}
+use lib.IntN.{ℤ, pos, negℤ, natAbs, _-ℤ_}
+use lib.Signed.{leZ, natAbs-le}
+use mir.Syntax.{w64}
+use mir.Val.{toZ, ofZ}
+use mir.ValLaws.{toZ-ofZ}
+use Rattle.units.specs.Units.{inI64}
+use Rattle.units.proofs.Signs.{tested, abs-pos, pos-pos-ge, pos-pos-lt, pos-neg, neg-pos, neg-neg-ge, neg-neg-lt}
+use Rattle.units.proofs.minus.Statement.{statement}
+use Rattle.units.proofs.minus.Tie as tie
+
+magnitude-requires : tie.Need-magnitude-requires
+magnitude-requires c κs = search needs
+
+magnitude-requires-2 : tie.Need-magnitude-requires-2
+magnitude-requires-2 c κs = search needs
+
+positive-requires : tie.Need-positive-requires
+positive-requires c κs = search needs
+
+sub-negative : tie.Need-sub-negative
+sub-negative c = search needs
+
+negative-requires : tie.Need-negative-requires
+negative-requires c κs = search needs
+
+-- ---- what is known after the two calls, of a and b themselves
+module _ (c : tie.After-magnitude2) where
+  abbrev a : ℤ
+  a = c .before .before .args .a
+
+  abbrev b : ℤ
+  b = c .before .before .args .b
+
+  m-is : c .before .magnitude .result ≡ natAbs a
+  m-is = c .before .magnitude .ensures ∙ ap natAbs (toZ-ofZ w64 a (c .before .before .fits .a))
+
+  n-is : c .magnitude2 .result ≡ natAbs b
+  n-is = c .magnitude2 .ensures ∙ ap natAbs (toZ-ofZ w64 b (c .before .before .fits .b))
+
+  a-test : {t : Bool} → leZ (pos 0) (toZ w64 (ofZ w64 a)) ≡ t → leZ (pos 0) a ≡ t
+  a-test e = tested a (c .before .before .fits .a) e
+
+  b-test : {t : Bool} → leZ (pos 0) (toZ w64 (ofZ w64 b)) ≡ t → leZ (pos 0) b ≡ t
+  b-test e = tested b (c .before .before .fits .b) e
+
+add-positive : tie.Need-add-positive
+add-positive c =
+    let s = c .before .before in
+    let p = abs-pos (a s) (s .before .before .fits .a) (a-test s (c .before .if1 .taken)) in
+    let q = natAbs-le (b s) (s .before .before .fits .b .sfits) in
+    record { fits = omega (arith, p, q, m-is s, n-is s) }
+
+positive-requires-2 : tie.Need-positive-requires-2
+positive-requires-2 c κs = search needs
+
+add-negative : tie.Need-add-negative
+add-negative c =
+    let s = c .before .before in
+    let p = natAbs-le (a s) (s .before .before .fits .a .sfits) in
+    let q = abs-pos (b s) (s .before .before .fits .b) (b-test s (c .if4 .taken)) in
+    record { fits = omega (arith, p, q, m-is s, n-is s) }
+
+negative-requires-2 : tie.Need-negative-requires-2
+negative-requires-2 c κs = search needs
+
+negative-requires-3 : tie.Need-negative-requires-3
+negative-requires-3 c κs = search needs
+
+sub-positive : tie.Need-sub-positive
+sub-positive c = search needs
+
+positive-requires-3 : tie.Need-positive-requires-3
+positive-requires-3 c κs = search needs
+
+returns : tie.Need-returns
+returns c =
+    let s = c .before .before .before .before in
+    let h : natAbs (b s) ≤ natAbs (a s) = omega (arith, m-is s, n-is s, c .before .if3 .taken) in
+    let e : s .before .magnitude .result - s .magnitude2 .result ≡ natAbs (a s) - natAbs (b s) = omega (arith, m-is s, n-is s) in
+    c .positive .ensures ∙ ap (λ (x : ℕ). inI64 (pos x)) e ∙ ap inI64 (pos-pos-ge (a s) (b s) (a-test s (c .before .before .before .if1 .taken)) (b-test s (c .before .before .if2 .taken)) h)
+
+returns-2 : tie.Need-returns-2
+returns-2 c =
+    let s = c .before .before .before .before in
+    let h : natAbs (a s) < natAbs (b s) = omega (arith, m-is s, n-is s, c .before .if3 .left) in
+    let e : s .magnitude2 .result - s .before .magnitude .result ≡ natAbs (b s) - natAbs (a s) = omega (arith, m-is s, n-is s) in
+    c .negative .ensures ∙ ap (λ (x : ℕ). inI64 (negℤ (pos x))) e ∙ ap inI64 (pos-pos-lt (a s) (b s) (a-test s (c .before .before .before .if1 .taken)) (b-test s (c .before .before .if2 .taken)) h)
+
+returns-3 : tie.Need-returns-3
+returns-3 c =
+    let s = c .before .before .before in
+    let e : s .before .magnitude .result + s .magnitude2 .result ≡ natAbs (a s) + natAbs (b s) = omega (arith, m-is s, n-is s) in
+    c .positive2 .ensures ∙ ap (λ (x : ℕ). inI64 (pos x)) e ∙ ap inI64 (pos-neg (a s) (b s) (a-test s (c .before .before .if1 .taken)) (b-test s (c .before .if2 .left)))
+
+returns-4 : tie.Need-returns-4
+returns-4 c =
+    let s = c .before .before .before in
+    let e : s .before .magnitude .result + s .magnitude2 .result ≡ natAbs (a s) + natAbs (b s) = omega (arith, m-is s, n-is s) in
+    c .negative2 .ensures ∙ ap (λ (x : ℕ). inI64 (negℤ (pos x))) e ∙ ap inI64 (neg-pos (a s) (b s) (a-test s (c .before .before .if1 .left)) (b-test s (c .before .if4 .taken)))
+
+returns-5 : tie.Need-returns-5
+returns-5 c =
+    let s = c .before .before .before .before in
+    let h : natAbs (b s) ≤ natAbs (a s) = omega (arith, m-is s, n-is s, c .before .if5 .taken) in
+    let e : s .before .magnitude .result - s .magnitude2 .result ≡ natAbs (a s) - natAbs (b s) = omega (arith, m-is s, n-is s) in
+    c .negative3 .ensures ∙ ap (λ (x : ℕ). inI64 (negℤ (pos x))) e ∙ ap inI64 (neg-neg-ge (a s) (b s) (a-test s (c .before .before .before .if1 .left)) (b-test s (c .before .before .if4 .left)) h)
+
+returns-6 : tie.Need-returns-6
+returns-6 c =
+    let s = c .before .before .before .before in
+    let h : natAbs (a s) < natAbs (b s) = omega (arith, m-is s, n-is s, c .before .if5 .left) in
+    let e : s .magnitude2 .result - s .before .magnitude .result ≡ natAbs (b s) - natAbs (a s) = omega (arith, m-is s, n-is s) in
+    c .positive3 .ensures ∙ ap (λ (x : ℕ). inI64 (pos x)) e ∙ ap inI64 (neg-neg-lt (a s) (b s) (a-test s (c .before .before .before .if1 .left)) (b-test s (c .before .before .if4 .left)) h)
+
+pub minus-spec : {M : Type 1} → statement M
+minus-spec =
+    tie.close
+    (tie.spec
+    magnitude-requires
+    magnitude-requires-2
+    positive-requires
+    sub-negative
+    negative-requires
+    add-positive
+    positive-requires-2
+    add-negative
+    negative-requires-2
+    negative-requires-3
+    sub-positive
+    positive-requires-3
+    returns
+    returns-2
+    returns-3
+    returns-4
+    returns-5
+    returns-6)
