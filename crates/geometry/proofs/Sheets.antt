@@ -1,5 +1,5 @@
 -- The code's tables of paper sizes are the definition's list of sheets, in units: one test, computed over the whole table. Assumes nothing.
-use mathlib.Core.Path.{_≡_, refl, ap, _∙_, subst}
+use mathlib.Core.Path.{_≡_, refl, ap, subst}
 use mathlib.Core.Bool.{Bool, true, false, cond, _&&_}
 use mathlib.Core.List.{List, [], _∷_}
 use Prim.Native.Nat.{ℕ, _≤_, _<_}
@@ -7,7 +7,7 @@ use native.Mathlib.Omega.{arith}
 use native.Mathlib.Decide.{decLe}
 use lib.Dec.{T, eqb, ltb, eqb→eq, ltb→lt}
 use lib.IntN.{ℤ, pos, negsuc}
-use lib.ListN.{length, getD}
+use lib.ListN.{getD}
 use lib.Ieee.{mul, div, round, ofInt}
 use lib.Ieee.Fits.{and-l, and-r}
 use borrow.Author.Tests.{lt-ltb, le-ltb, ne-eqb}

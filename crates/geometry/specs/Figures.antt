@@ -7,7 +7,7 @@ use Rattle.units.specs.Outcome.{given}
 use Rattle.units.specs.Units.{inchesToFixed, inI64}
 use Rattle.geometry.specs.declared.paper.Setting.the-variants as code
 use Rattle.geometry.specs.declared.paper.MarginSetting.the-variants as margin
-use Rattle.geometry.specs.Paper.{PaperFound, Placed, decimal, paperGeometry, contentGeometry, contentBetween, marginsHold, defaultMargins, resolved, sheets, letter}
+use Rattle.geometry.specs.Paper.{decimal, paperGeometry, contentGeometry, contentBetween, marginsHold, defaultMargins, resolved, sheets, letter}
 
 -- "Letter is 835,584 by 1,081,344"
 letter-size : paperGeometry code.Absent false ≡ given (record { code = 1; width = pos 835584; height = pos 1081344; unknown = 0 })

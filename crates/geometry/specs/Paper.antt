@@ -5,15 +5,12 @@ use mathlib.Core.List.{List, [], _∷_}
 use lib.Dec.{eqb}
 use lib.IntN.{ℤ, pos}
 use lib.Ieee.{Float, nan, inf, fin, add, div, lt, le, ofInt, round, binary64}
-use Rattle.units.specs.declared.Fixed.{Fixed}
 use Rattle.geometry.specs.declared.paper.Setting.{Setting}
 use Rattle.geometry.specs.declared.paper.Setting.the-variants as code
-use Rattle.geometry.specs.declared.paper.PaperGeometry.{PaperGeometry}
 use Rattle.geometry.specs.declared.paper.Paper.{Paper}
 use Rattle.geometry.specs.declared.paper.Margins.{Margins}
 use Rattle.geometry.specs.declared.paper.MarginSetting.{MarginSetting}
 use Rattle.geometry.specs.declared.paper.MarginSetting.the-variants as margin
-use Rattle.geometry.specs.declared.paper.ContentGeometry.{ContentGeometry}
 use Rattle.geometry.specs.declared.paper.Content.{Content}
 use Rattle.geometry.specs.declared.paper.Content.the-variants.{Value, CoordinateOverflow}
 use Rattle.units.specs.Outcome.{Outcome, given, refused, andThen}

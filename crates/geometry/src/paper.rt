@@ -5,7 +5,6 @@ use units::Rect;
 use units::inches_to_fixed;
 use units::less;
 ghost use mathlib.Core.Path.{_≡_};
-ghost use mathlib.Core.Bool.{_&&_};
 ghost use lib.IntN.{pos};
 ghost use Rattle.units.specs.Outcome.{given};
 ghost use Rattle.units.specs.Units.{lengthOutcome};

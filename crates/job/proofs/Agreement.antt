@@ -22,7 +22,7 @@ use Rattle.reader.proofs.ReadingLaws.{in-order-given, all-given}
 use Rattle.reader.proofs.ItemRoom.{all-in-order}
 use Rattle.job_settings.specs.Meaning.{settingsFor}
 use Rattle.job.specs.Plan.{rowsRead, columnsRead, jobSettings, jobRows, jobColumns, planJob}
-use Rattle.job.proofs.JobLaws.{Front, front, settings-for, rows-for, columns-for}
+use Rattle.job.proofs.JobLaws.{front, settings-for, rows-for, columns-for}
 
 -- run lists that are not equally long are refused with 6, by the questions of a job
 uneven-job : (s : List ℕ) → All (questions true s) → verdictLent false s ≡ refused 6

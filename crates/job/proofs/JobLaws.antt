@@ -16,11 +16,9 @@ use Rattle.rules.specs.declared.plan.Planning.the-variants.{Refused}
 use Rattle.rules.specs.Slots.{written}
 use Rattle.rules.specs.Partition.{lent}
 use Rattle.rules.specs.Pages.{RunLists, evenLists}
-use Rattle.rules.specs.Plan.{AxisInput, Layout, Planned, rowsOf, columnsOf, planned}
-use Rattle.rules.specs.Demand.{CoversPairs, FewestPlan, LargestPlan}
+use Rattle.rules.specs.Plan.{AxisInput, Layout, rowsOf, columnsOf, planned}
 use Rattle.rules.proofs.Lent.{front-written}
 use Rattle.rules.proofs.PlanLaws.{refuses-plan}
-use Rattle.records.specs.declared.records.Record.{Record}
 use Rattle.job_questions.specs.declared.Items.{Items}
 use Rattle.job_questions.specs.declared.Checked.the-variants as checked
 use Rattle.job_settings.specs.declared.JobSettings.{JobSettings}

@@ -1,6 +1,6 @@
 -- What the plan of a job never meets: 10, and, with run lists of 5,000 entries an axis, 11 and 13. Assumes nothing.
-use mathlib.Core.Path.{_≡_, refl, sym, ap, _∙_}
-use mathlib.Core.Bool.{Bool, true, false, _&&_}
+use mathlib.Core.Path.{_≡_, refl}
+use mathlib.Core.Bool.{true, _&&_}
 use mathlib.Core.List.{List}
 use Prim.Native.Nat.{ℕ, _≤_, _<_}
 use native.Mathlib.Omega.{arith}
@@ -9,12 +9,12 @@ use lib.ListN.{length, length-map}
 use Rattle.units.specs.Outcome.{Outcome, given, refused, andThen}
 use Rattle.rules.specs.Questions.{ask}
 use Rattle.rules.specs.Pages.{RunLists, evenLists}
-use Rattle.rules.specs.Plan.{Layout, planned, roomFor, layout}
+use Rattle.rules.specs.Plan.{planned, roomFor, layout}
 use Rattle.rules.proofs.NoTen.{never-ten, past-nine, asked, not-given}
 use Rattle.rules.proofs.RunCount.{never-eleven}
 use Rattle.job_questions.specs.declared.Items.{Items}
 use Rattle.records.specs.Records.{RW, CL, field, records, marked}
-use Rattle.job_questions.specs.Verdict.{verdictLent, questions, itemsOf}
+use Rattle.job_questions.specs.Verdict.{verdictLent}
 use Rattle.reader.proofs.ItemRoom.{verdict-even, few-rows, few-columns, verdict-low}
 use Rattle.job.specs.Plan.{jobSettings, jobRows, jobColumns, planJob}
 

@@ -2,14 +2,14 @@
 use mathlib.Core.Path.{_≡_, refl, sym, ap, _∙_}
 use mathlib.Core.Bool.{Bool, true, false, cond, not, _&&_, _||_}
 use mathlib.Core.List.{List, [], _∷_, _++_}
-use Prim.Native.Nat.{ℕ, suc, _+_, _-_, _≤_, _<_, _^_}
+use Prim.Native.Nat.{ℕ, suc, _+_, _-_, _≤_, _<_}
 use native.Mathlib.Decide.{decLe}
 use native.Mathlib.Nat.{zero-add, lt-of-not-le}
 use native.Mathlib.Omega.{arith}
-use lib.Dec.{leb, ltb, eqb}
+use lib.Dec.{ltb, eqb}
 use lib.ListN.{length, take, drop}
 use borrow.Author.Tests.{le-leb, lt-leb, lt-ltb, eq-eqb, ne-eqb}
-use Rattle.units.specs.Outcome.{Outcome, given, refused}
+use Rattle.units.specs.Outcome.{refused}
 use Rattle.records.specs.declared.records.Record.{Record}
 use Rattle.records.specs.declared.records.Record.the-variants.{Paper, Landscape, Margin, Scale, Wide, High, Fit, Order, Headings, Limit, Area, TitleRows, TitleColumns, Row, Column, Merged, RowBreak, ColumnBreak, End}
 use Rattle.records.specs.declared.records.Step.{Step}
@@ -67,12 +67,6 @@ none-no n = refl
 abbrev pub All : List Bool → Type 0
 All [] = Unit {0}
 All (q ∷ qs) = (q ≡ true) × All qs
-
-pub all-yes : (n : ℕ) (qs : List Bool) → firstNo (suc n) qs ≡ 0 → All qs
-unfolding firstNo
-all-yes n [] e = tt
-all-yes n (true ∷ qs) e = (refl, all-yes (suc n) qs e)
-all-yes n (false ∷ qs) e = absurd (omega arith)
 
 module _ {A : Type 0} (v : A) (more : List Bool) where
   -- a no among the first questions is the answer

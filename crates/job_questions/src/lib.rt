@@ -7,7 +7,6 @@ use records::Step;
 use records::rank_of;
 use records::read_record;
 ghost use mathlib.Core.Path.{_≡_};
-ghost use mathlib.Core.Bool.{cond};
 ghost use Prim.Native.Nat.{_+_, _<_, _^_};
 ghost use Rattle.records.specs.Records.{rank};
 ghost use Rattle.job_questions.specs.Verdict.{asked, follows, firstsOk, gridOk, sizeOk, verdictLent, verdict, checkedOutcome};

@@ -11,7 +11,6 @@ use rules::Frame;
 use rules::Partition;
 use rules::Tally;
 use titles::body_start;
-ghost use mathlib.Core.Path.{_≡_};
 ghost use lib.ListN.{length};
 ghost use Rattle.rules.specs.Slots.{Slots};
 ghost use Rattle.rules.specs.Titles.{limitOf};

@@ -1,7 +1,7 @@
 -- How many items a number of bytes can bring: a record has the bytes of its mark. A job whose questions 1 to 9 are answered yes is read
 -- whole where the lists hold its items. Assumes nothing.
 use mathlib.Core.Path.{_≡_, refl, sym, ap, _∙_}
-use mathlib.Core.Bool.{Bool, true, false, true≢false, cond, _&&_}
+use mathlib.Core.Bool.{Bool, true, false, true≢false, cond}
 use mathlib.Core.List.{List, [], _∷_}
 use Prim.Native.Nat.{ℕ, zero, suc, pred, _+_, _*_, _≤_, _<_}
 use native.Mathlib.Omega.{arith}
@@ -14,7 +14,7 @@ use Rattle.records.specs.declared.records.Step.{Step}
 use Rattle.records.specs.declared.records.Step.the-variants.{Read, Nothing}
 use Rattle.job_questions.specs.declared.Items.{Items}
 use Rattle.records.specs.Records.{Format, RW, CL, MR, BR, BC, find, formats, known, step, rank, isEnd, used, onto, recordsFrom, records, marked}
-use Rattle.job_questions.specs.Verdict.{question1, question6, questions, inOrder, verdictLent, itemsOf}
+use Rattle.job_questions.specs.Verdict.{question6, questions, inOrder, verdictLent, itemsOf}
 use Rattle.reader.specs.Reading.{Lists, evenLists, roomIn, fitIn, asked, jobOf, readJob}
 use Rattle.records.proofs.RecordLaws.{in-whole, step-used}
 use Rattle.job_questions.proofs.PassLaws.{All}

@@ -1,34 +1,11 @@
 -- A loop that writes a number of each item to a lent list, from its front. Assumes nothing.
-use mathlib.Core.Path.{_≡_, refl, sym, ap, _∙_}
-use mathlib.Core.List.{List, [], _∷_, _++_, map, append-nil}
-use Prim.Native.Nat.{ℕ, zero, suc, _+_, _≤_, _<_}
-use native.Mathlib.Numerals.{add-one}
+use mathlib.Core.Path.{_≡_, sym, ap, _∙_}
+use mathlib.Core.List.{List, [], _∷_, map}
+use Prim.Native.Nat.{ℕ, _+_, _≤_, _<_}
 use native.Mathlib.Omega.{arith}
-use lib.ListN.{length, take, drop, set, length-set, take-append-drop, length-map}
-use lib.Seq.{take-suc-set, drop-set-lt, append-snoc, drop-drop}
+use lib.ListN.{length, set, length-map}
 use Rattle.rules.specs.Slots.{written}
-
--- `new` is `old` with the first k values of `whole` written to its front; `left` are the values to come
-pub record Wrote (whole old : List ℕ) (k : ℕ) (left new : List ℕ) : Type 0 where
-  pub so-far : take k new ++ left ≡ whole
-  pub after : drop k new ≡ drop k old
-  pub long : length new ≡ length old
-
-store : (whole old : List ℕ) (k v : ℕ) (left new : List ℕ) → k < length new → Wrote whole old k (v ∷ left) new
-    → Wrote whole old (k + 1) left (set new k v)
-store whole old k v left new h w = record {
-  so-far = rw (add-one, take-suc-set new k v) (append-snoc (take k new) v left ∙ w .so-far);
-  after =
-      rw (add-one, drop-set-lt (suc k) new k v (omega arith))
-      (rw (← (add-one k)) (sym (drop-drop 1 k new) ∙ ap (drop 1) (w .after) ∙ drop-drop 1 k old));
-  long = length-set new k v ∙ w .long;
-}
-
-done : (whole old : List ℕ) (k : ℕ) (new : List ℕ) → k ≡ length whole → Wrote whole old k [] new → new ≡ written whole old
-done whole old k new e w =
-    sym (take-append-drop k new)
-    ∙ ap (λ (l : List ℕ). l ++ drop k new) (sym (append-nil (take k new)) ∙ w .so-far)
-    ∙ ap (λ (l : List ℕ). whole ++ l) (w .after ∙ ap (λ (n : ℕ). drop n old) e)
+use Rattle.rules.proofs.Lent.{Wrote, start, store, done}
 
 -- ---- one list, of a number of each item
 
@@ -37,7 +14,7 @@ pub record One {A : Type 0} (g : A → ℕ) (whole : List A) (old : List ℕ) (k
   pub wrote : Wrote (map g whole) old k (map g left) new
 
 pub one-start : {A : Type 0} (g : A → ℕ) (whole : List A) (old : List ℕ) → One g whole old 0 whole old
-one-start g whole old = record { counted = omega arith; wrote = record { so-far = refl; after = refl; long = refl } }
+one-start g whole old = record { counted = omega arith; wrote = start (map g whole) old }
 
 module _ {A : Type 0} (g : A → ℕ) (whole : List A) (old : List ℕ) (k : ℕ) (left : List A) (new : List ℕ) (w : One g whole old k left new) where
   pub one-room : (x : A) (rest : List A) → left ≡ x ∷ rest → length whole ≤ length old → k < length new

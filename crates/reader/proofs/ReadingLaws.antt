@@ -1,21 +1,18 @@
 -- Laws for the call that reads a job into lent lists. Assumes nothing.
 use mathlib.Core.Path.{_≡_, refl, sym, ap, ap₂, _∙_}
-use mathlib.Core.Bool.{Bool, true, false, cond, _&&_}
+use mathlib.Core.Bool.{Bool, true, false, cond}
 use mathlib.Core.List.{List, [], _∷_, _++_, map}
-use Prim.Native.Nat.{ℕ, suc, _+_, _-_, _≤_, _<_}
+use Prim.Native.Nat.{ℕ, suc, _+_, _-_, _≤_}
 use native.Mathlib.Omega.{arith}
-use lib.Dec.{leb, eqb}
 use lib.ListN.{length, take, drop}
 use borrow.Author.Tests.{eqb-true, leb-true}
-use Rattle.units.specs.Outcome.{Outcome, given, refused}
+use Rattle.units.specs.Outcome.{given, refused}
 use Rattle.rules.specs.Slots.{written}
-use Rattle.rules.specs.Partition.{lent}
 use Rattle.records.specs.declared.records.Record.{Record}
 use Rattle.job_questions.specs.declared.Items.{Items}
 use Rattle.job_questions.specs.declared.Checked.{Checked}
 use Rattle.job_questions.specs.declared.Checked.the-variants as checked
 use Rattle.job_settings.specs.declared.JobSettings.{JobSettings}
-use Rattle.reader.specs.declared.lists.Job.{Job}
 use Rattle.reader.specs.declared.lists.Reading.the-variants.{Value, Refused}
 use Rattle.records.specs.Records.{RW, CL, MR, BR, BC, field, records, marked, values}
 use Rattle.job_questions.specs.Verdict.{ordered, hasArea, questions, inOrder, itemsOf, verdictLent, checkedOutcome}

@@ -23,8 +23,8 @@ use Rattle.reader.specs.declared.settings.Lookup.{Lookup}
 use Rattle.reader.specs.declared.settings.Lookup.the-variants.{Found, Missing}
 use Rattle.records.specs.Records.{step, rank, isEnd, goesOn, records, marked}
 use Rattle.job_questions.specs.Verdict.{follows, ordered}
-use Rattle.reader.specs.Walk.{before, ofKind, firstOf, Sorted, From, Past, isNumber, isFlag, isSlot, isBreak}
-use Rattle.records.proofs.RecordLaws.{records-more, records-stop, step-used, part, length-part}
+use Rattle.reader.specs.Walk.{before, ofKind, firstOf, Sorted, Past, isNumber, isFlag, isSlot, isBreak}
+use Rattle.records.proofs.RecordLaws.{records-more, records-stop, step-used, part}
 use Rattle.records.proofs.records.Record as R
 
 -- ---- marks that never fall

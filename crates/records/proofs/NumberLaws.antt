@@ -1,15 +1,15 @@
 -- Laws of `specs/Numbers.antt`, for `signed` and `float`, and one of bounds. Assumes nothing.
-use mathlib.Core.Path.{_≡_, refl, sym, ap, _∙_, subst}
-use mathlib.Core.Bool.{Bool, true, false, true≢false, not}
-use Prim.Native.Nat.{ℕ, zero, suc, _+_, _-_, _*_, _%_, _^_, _≤_, _<_}
+use mathlib.Core.Path.{_≡_, refl, sym, ap, _∙_}
+use mathlib.Core.Bool.{true, false, true≢false, not}
+use Prim.Native.Nat.{ℕ, zero, suc, _-_, _%_, _^_, _≤_, _<_}
 use native.Mathlib.Nat.{zero-add, le-trans}
 use native.Mathlib.Omega.{arith}
-use lib.Dec.{T, leb, ltb, leb→le}
-use lib.IntN.{ℤ, pos, negsuc, _-ℤ_}
+use lib.Dec.{T, leb, leb→le}
+use lib.IntN.{pos, negsuc, _-ℤ_}
 use lib.Ieee.{Float, nan, inf, fin, binary64, ofBits, isNan, nanBits}
 use lib.Ieee.Bits.{nanBits-is, nanBits-above}
 use mir.Syntax.{w64}
-use mir.Val.{Fits, SFits, toZ, ofZ}
+use mir.Val.{SFits, toZ, ofZ}
 use mir.Facts.{toZ-ofZ, toZ-pos}
 use borrow.Author.Tests.{lt-ltb, le-ltb}
 use Rattle.records.specs.Numbers.{i64Of, f64Of}

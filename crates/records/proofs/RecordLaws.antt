@@ -1,11 +1,11 @@
 -- Laws of `specs/Records.antt`. Assumes nothing.
-use mathlib.Core.Path.{_≡_, refl, sym, ap, _∙_, subst}
-use mathlib.Core.Bool.{Bool, true, false, not, cond, _||_}
+use mathlib.Core.Path.{_≡_, refl, sym, ap, _∙_}
+use mathlib.Core.Bool.{Bool, true, false, cond, _||_}
 use mathlib.Core.List.{List, [], _∷_}
 use mathlib.Core.Logic.{inl, inr}
 use Prim.Native.Nat.{ℕ, zero, suc, pred, _-_, _≤_, _<_}
 use native.Mathlib.Decide.{decLe}
-use native.Mathlib.Nat.{lt-of-not-le, not-suc-le-zero}
+use native.Mathlib.Nat.{lt-of-not-le}
 use native.Mathlib.Omega.{arith}
 use lib.Dec.{T, eqb, leb, leb→le}
 use lib.ListN.{length, take, drop, length-drop}
@@ -13,12 +13,12 @@ use lib.Seq.{take-all}
 use mir.Facts.{or-yes}
 use mir.Val.{hasKey}
 use types.Run.{OneOf, hit}
-use borrow.Author.Tests.{eq-eqb, ne-eqb, le-leb, lt-leb}
+use borrow.Author.Tests.{ne-eqb, le-leb, lt-leb}
 use Rattle.records.specs.Numbers.{u16At}
 use Rattle.records.specs.declared.records.Record.{Record}
 use Rattle.records.specs.declared.records.Step.{Step}
 use Rattle.records.specs.declared.records.Step.the-variants.{Read, Nothing}
-use Rattle.records.specs.Records.{Format, find, formats, sizeIn, known, whole, step, rank, isEnd, goesOn, ended, used, onto, recordsFrom, records, restFrom, rest}
+use Rattle.records.specs.Records.{Format, find, formats, sizeIn, known, whole, step, isEnd, goesOn, used, onto, recordsFrom, records, restFrom, rest}
 
 -- ---- the record of a mark
 

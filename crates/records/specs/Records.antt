@@ -1,7 +1,7 @@
 -- Document 01, section "Jobs": the records of a job. A record is said of the bytes from its mark on, so that no definition speaks of a
 -- position. Assumes nothing.
 use Prim.Native.Nat.{ℕ, zero, suc, pred, _+_, _*_}
-use mathlib.Core.Bool.{Bool, true, false, not, cond}
+use mathlib.Core.Bool.{Bool, false, not, cond}
 use mathlib.Core.List.{List, [], _∷_, map}
 use lib.ListN.{length, getD, take}
 use lib.Dec.{leb, eqb}
@@ -10,7 +10,6 @@ use Rattle.records.specs.Numbers.{u16At, u32At, u64At, i64Of}
 use Rattle.records.specs.declared.records.Range.{Range}
 use Rattle.records.specs.declared.records.RowSlot.{RowSlot}
 use Rattle.records.specs.declared.records.ColumnSlot.{ColumnSlot}
-use Rattle.records.specs.declared.records.Merge.{Merge}
 use Rattle.records.specs.declared.records.MarginBits.{MarginBits}
 use Rattle.records.specs.declared.records.Record.{Record}
 use Rattle.records.specs.declared.records.Record.the-variants.{Paper, Landscape, Margin, Scale, Wide, High, Fit, Order, Headings, Limit, Area, TitleRows, TitleColumns, Row, Column, Merged, RowBreak, ColumnBreak, End}

@@ -1,13 +1,13 @@
 -- `nearestUnits` of a float, by the tests that the code makes: above -1/2, below 2^63, equal to 2^63. Assumes nothing.
 use mathlib.Core.Path.{_≡_, refl, sym, ap, _∙_, subst}
-use mathlib.Core.Bool.{Bool, true, false, true≢false, not, cond, _&&_, _||_}
-use Prim.Native.Nat.{ℕ, zero, suc, _+_, _-_, _*_, _/_, _%_, _^_, _≤_, _<_, min}
+use mathlib.Core.Bool.{Bool, true, false, true≢false, _&&_}
+use Prim.Native.Nat.{ℕ, suc, _+_, _-_, _*_, _/_, _%_, _^_, _≤_, _<_, min}
 use native.Mathlib.Omega.{arith}
-use native.Mathlib.Nat.{mul-one, one-mul, mul-comm, mul-assoc, mul-right-comm, le-div-iff-mul-le, div-lt-iff-lt-mul, div-eq-of-lt, div-div-eq-div-mul, mul-add-div-right, lt-of-mul-lt-mul-right, mul-lt-mul-of-pos-right, mul-div-cancel, mul-le-mul-right, lt-of-le-of-lt, lt-of-lt-of-le, le-of-eq}
+use native.Mathlib.Nat.{one-mul, mul-comm, mul-right-comm, le-div-iff-mul-le, div-lt-iff-lt-mul, div-eq-of-lt, div-div-eq-div-mul, mul-add-div-right, lt-of-mul-lt-mul-right, mul-lt-mul-of-pos-right, mul-div-cancel, mul-le-mul-right, lt-of-le-of-lt, lt-of-lt-of-le, le-of-eq}
 use lib.Dec.{T, eqb, ltb, lt→ltb, lit≤}
 use lib.IntN.{ℤ, pos, negsuc}
 use lib.Ieee.{Float, nan, inf, fin, binary64, emax, up, down, mul, lt, eq, fits, toUnsigned}
-use lib.Ieee.Fits.{down-pos, and-l, and-r}
+use lib.Ieee.Fits.{down-pos}
 use lib.Ieee.Exact.{HasValue}
 use lib.Ieee.Nearest.{div-same}
 use borrow.Author.Tests.{lt-ltb, le-ltb, ltb-true, ltb-false, eqb-true, eqb-false, ne-eqb}

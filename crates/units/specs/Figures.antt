@@ -3,7 +3,7 @@ use mathlib.Core.Path.{_≡_, refl}
 use Prim.Native.Nat.{_-_, _^_}
 use lib.IntN.{pos, negsuc}
 use Rattle.units.specs.Outcome.{given, refused}
-use Rattle.units.specs.Units.{scaleFixed, unscaledCapacity, inchesToFixed, inI64}
+use Rattle.units.specs.Units.{scaleFixed, unscaledCapacity, inI64}
 
 -- "3 at 500 gives 2; -3 gives -2"
 scale-3 : scaleFixed (pos 3) 500 ≡ given (pos 2)

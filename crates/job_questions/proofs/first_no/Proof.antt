@@ -1,7 +1,6 @@
 use Rattle.job_questions.specs.Pass.{answer}
 use Rattle.job_questions.proofs.PassLaws.{no-here, yes-here, none-no}
 use borrow.Author.Tests.{not-true, not-false}
-use borrow.Author.Needs.{needs}
 use Rattle.job_questions.proofs.first_no.Statement.{statement}
 use Rattle.job_questions.proofs.first_no.Tie as tie
 

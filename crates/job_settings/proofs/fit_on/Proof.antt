@@ -1,4 +1,4 @@
-use mathlib.Core.Path.{_≡_, refl, sym, ap, _∙_}
+use mathlib.Core.Path.{sym, ap}
 use Rattle.job_settings.specs.declared.FlagSetting.{FlagSetting}
 use Rattle.job_settings.specs.Meaning.{fitOn}
 use borrow.Author.Needs.{needs}

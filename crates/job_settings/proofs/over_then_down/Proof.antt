@@ -1,4 +1,4 @@
-use mathlib.Core.Path.{_≡_, refl, sym, ap, _∙_}
+use mathlib.Core.Path.{sym, ap}
 use Rattle.job_settings.specs.Meaning.{overThenDown}
 use borrow.Author.Needs.{needs}
 use Rattle.job_settings.proofs.over_then_down.Statement.{statement}

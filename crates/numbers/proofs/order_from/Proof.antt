@@ -1,6 +1,5 @@
 -- `numbers::order_from` meets its contract. Assumes nothing.
 use Rattle.numbers.proofs.NumberLaws.{when-set, when-not}
-use borrow.Author.Needs.{needs}
 use Rattle.numbers.proofs.order_from.Statement.{statement}
 use Rattle.numbers.proofs.order_from.Tie as tie
 

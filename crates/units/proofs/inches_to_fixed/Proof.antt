@@ -1,12 +1,12 @@
 -- `units::inches_to_fixed` meets its contract. Each float constant of the code is the contract's number once `ofBits` and `ofInt` compute;
 -- what each test says of the product is a law of `Nearest`. Assumes nothing.
 use borrow.Author.Needs.{needs}
-use mathlib.Core.Path.{_≡_, refl, sym, ap, _∙_}
+use mathlib.Core.Path.{_≡_, sym, ap, _∙_}
 use mathlib.Core.Bool.{true, false}
 use Prim.Native.Nat.{ℕ, _+_, _-_, _/_, _%_, _^_, _<_, _≤_, min}
 use native.Mathlib.Omega.{arith}
 use lib.Dec.{T}
-use lib.IntN.{ℤ, pos}
+use lib.IntN.{pos}
 use lib.Ieee.{Float, fin, binary64, mul, lt, fits, neg, ofBits, ofInt, toUnsigned}
 use lib.Ieee.Fits.{mul-fits}
 use mir.Syntax.{w64}
@@ -14,7 +14,7 @@ use mir.ValLaws.{toZ-pos}
 use Rattle.units.specs.Outcome.{given}
 use Rattle.units.specs.Units.{inchesToFixed, nearestUnits}
 use Rattle.units.proofs.Constants.{ninety-six, thousand}
-use Rattle.units.proofs.Nearest.{minus-half, top, two, fromHalves, halved, given-top, refused-high, refused-low}
+use Rattle.units.proofs.Nearest.{two, fromHalves, halved, given-top, refused-high, refused-low}
 use Rattle.units.proofs.inches_to_fixed.Statement.{statement}
 use Rattle.units.proofs.inches_to_fixed.Tie as tie
 

@@ -1,5 +1,5 @@
 -- `units::less` meets its contract: both are values where `minus` is called, and the machine's reading of their bits is themselves. Assumes nothing.
-use mathlib.Core.Path.{_≡_, sym, ap, _∙_}
+use mathlib.Core.Path.{sym, ap, _∙_}
 use lib.IntN.{ℤ, _-ℤ_}
 use mir.Syntax.{w64}
 use mir.Val.{SFits, toZ, ofZ}

@@ -1,14 +1,13 @@
 -- `units::magnitude` meets its contract. Each need is one of z's laws in `Signs`, once the machine's reading of z's bits is z. Assumes nothing.
 use borrow.Author.Needs.{needs}
-use mathlib.Core.Path.{_≡_, sym, ap, _∙_, subst}
-use mathlib.Core.Bool.{true, false}
-use Prim.Native.Nat.{ℕ, _+_}
+use mathlib.Core.Path.{sym, ap, _∙_, subst}
+use Prim.Native.Nat.{_+_}
 use native.Mathlib.Omega.{arith}
 use lib.Dec.{T}
-use lib.IntN.{ℤ, pos, negsuc, natAbs, _-ℤ_}
-use lib.Signed.{nonNeg, mag, leZ}
+use lib.IntN.{ℤ, negsuc, natAbs, _-ℤ_}
+use lib.Signed.{nonNeg}
 use mir.Syntax.{w64}
-use mir.Val.{Fits, SFits, toZ, ofZ}
+use mir.Val.{Fits, SFits}
 use mir.ValLaws.{toZ-ofZ}
 use Rattle.units.proofs.Signs.{tested, fits-pos, flip, flipped, abs-neg}
 use Rattle.units.proofs.magnitude.Statement.{statement}

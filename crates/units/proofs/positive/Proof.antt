@@ -1,7 +1,7 @@
 -- `units::positive` meets its contract: n is an i64 where it is below 2^63. Assumes nothing.
 use borrow.Author.Needs.{needs}
-use mathlib.Core.Path.{_≡_, sym, ap, _∙_}
-use lib.IntN.{ℤ, pos}
+use mathlib.Core.Path.{sym, ap, _∙_}
+use lib.IntN.{pos}
 use mir.Syntax.{w64}
 use mir.ValLaws.{toZ-pos}
 use Rattle.units.specs.Outcome.{given}

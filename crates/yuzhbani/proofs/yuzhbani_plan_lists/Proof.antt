@@ -2,7 +2,6 @@
 -- that are handed over. Assumes nothing.
 use Rattle.asked.specs.Asked.{settingsFrom, rowsAsked, columnsAsked}
 use Rattle.yuzhbani.proofs.Handed.{handed, plan-not-zero, asked-same}
-use borrow.Author.Needs.{needs}
 use Rattle.yuzhbani.proofs.yuzhbani_plan_lists.Statement.{statement}
 use Rattle.yuzhbani.proofs.yuzhbani_plan_lists.Tie as tie
 

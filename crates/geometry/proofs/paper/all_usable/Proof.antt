@@ -1,5 +1,4 @@
 -- `geometry::paper::all_usable` meets its contract. Assumes nothing.
-use mathlib.Core.Path.{refl}
 use borrow.Author.Needs.{needs}
 use Rattle.geometry.proofs.paper.all_usable.Statement.{statement}
 use Rattle.geometry.proofs.paper.all_usable.Tie as tie

@@ -1,5 +1,4 @@
 -- `geometry::paper::between` meets its contract. Assumes nothing.
-use mathlib.Core.Path.{refl}
 use borrow.Author.Needs.{needs}
 use Rattle.geometry.proofs.paper.between.Statement.{statement}
 use Rattle.geometry.proofs.paper.between.Tie as tie

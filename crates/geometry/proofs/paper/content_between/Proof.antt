@@ -1,5 +1,4 @@
 -- `geometry::paper::content_between` meets its contract. Assumes nothing.
-use mathlib.Core.Path.{refl}
 use Rattle.geometry.specs.Paper.{contentBetween}
 use borrow.Author.Needs.{needs}
 use Rattle.geometry.proofs.paper.content_between.Statement.{statement}

@@ -1,5 +1,5 @@
 -- `geometry::paper::content_geometry` meets its contract: the margins are absent, hold, or do not. Assumes nothing.
-use mathlib.Core.Path.{refl, sym, ap, _∙_}
+use mathlib.Core.Path.{sym, ap, _∙_}
 use Rattle.geometry.specs.declared.paper.Margins.{Margins}
 use Rattle.geometry.specs.Paper.{contentBetween, contentGeometry}
 use Rattle.geometry.proofs.Constants.{defaults}

@@ -1,5 +1,4 @@
 -- `geometry::paper::footer_at` meets its contract. Assumes nothing.
-use mathlib.Core.Path.{refl}
 use borrow.Author.Needs.{needs}
 use Rattle.geometry.proofs.paper.footer_at.Statement.{statement}
 use Rattle.geometry.proofs.paper.footer_at.Tie as tie

@@ -1,5 +1,4 @@
 -- `geometry::paper::margins_hold` meets its contract. Assumes nothing.
-use mathlib.Core.Path.{refl}
 use Rattle.geometry.specs.Paper.{marginsHold}
 use borrow.Author.Needs.{needs}
 use Rattle.geometry.proofs.paper.margins_hold.Statement.{statement}

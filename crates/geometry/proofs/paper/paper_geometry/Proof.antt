@@ -1,5 +1,4 @@
 -- `geometry::paper::paper_geometry` meets its contract. Assumes nothing.
-use mathlib.Core.Path.{refl}
 use Rattle.geometry.specs.Paper.{paperGeometry}
 use borrow.Author.Needs.{needs}
 use Rattle.geometry.proofs.paper.paper_geometry.Statement.{statement}

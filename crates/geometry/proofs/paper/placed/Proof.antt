@@ -1,5 +1,4 @@
 -- `geometry::paper::placed` meets its contract: each way out knows which lengths are values. Assumes nothing.
-use mathlib.Core.Path.{refl}
 use borrow.Author.Needs.{needs}
 use Rattle.geometry.proofs.paper.placed.Statement.{statement}
 use Rattle.geometry.proofs.paper.placed.Tie as tie

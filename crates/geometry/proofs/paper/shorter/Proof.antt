@@ -1,5 +1,5 @@
 -- `geometry::paper::shorter` meets its contract: the machine's reading of the side's bits is the side. Assumes nothing.
-use mathlib.Core.Path.{_≡_, refl, ap, _∙_}
+use mathlib.Core.Path.{_≡_, ap, _∙_}
 use lib.Ieee.{ofInt, binary64}
 use mir.Syntax.{w64}
 use mir.Val.{SFits}

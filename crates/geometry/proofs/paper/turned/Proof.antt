@@ -1,5 +1,4 @@
 -- `geometry::paper::turned` meets its contract. Assumes nothing.
-use mathlib.Core.Path.{refl}
 use Rattle.geometry.proofs.paper.turned.Statement.{statement}
 use Rattle.geometry.proofs.paper.turned.Tie as tie
 

@@ -1,5 +1,4 @@
 -- `geometry::paper::upright` meets its contract: a number of 32 bits is itself as an i64. Assumes nothing.
-use mathlib.Core.Path.{refl}
 use Prim.Native.Nat.{_^_, _<_}
 use mir.Syntax.{w64}
 use mir.ValLaws.{toZ-pos}

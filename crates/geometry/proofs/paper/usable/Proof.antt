@@ -2,7 +2,7 @@
 use mathlib.Core.Path.{_≡_, refl}
 use mathlib.Core.Bool.{true, false, _&&_, and-true}
 use lib.IntN.{pos}
-use lib.Ieee.{Float, nan, inf, fin, le, lt, eq, div, ofBits, binary64}
+use lib.Ieee.{Float, nan, inf, fin, le, lt, eq, div, ofBits}
 use Rattle.geometry.specs.Paper.{usable}
 use Rattle.geometry.proofs.paper.usable.Statement.{statement}
 use Rattle.geometry.proofs.paper.usable.Tie as tie

@@ -1,5 +1,5 @@
 -- `job::plan::plan_job` meets its contract: a job is planned with run lists that are equally long, and refused with others. Assumes nothing.
-use mathlib.Core.Path.{refl, ap₂}
+use mathlib.Core.Path.{ap₂}
 use mathlib.Core.Bool.{_&&_}
 use Rattle.rules.specs.Pages.{runLists}
 use Rattle.job.proofs.JobLaws.{refused-told, outcome-told, told-even, job-even, job-uneven}

@@ -4,7 +4,6 @@ use lib.ListN.{length}
 use Rattle.rules.specs.Pages.{runLists}
 use Rattle.rules.specs.Plan.{axisFor, sidesOf}
 use Rattle.rules.proofs.PlanLaws.{cuttable, scale-of, relay-scale}
-use borrow.Author.Needs.{needs}
 use Rattle.planner.proofs.plan.plan_axes.Statement.{statement}
 use Rattle.planner.proofs.plan.plan_axes.Tie as tie
 

@@ -1,4 +1,3 @@
-use mathlib.Core.Path.{_≡_, refl, sym, ap, _∙_}
 use borrow.Author.Needs.{needs}
 use Rattle.reader.proofs.lists.admit_to.Statement.{statement}
 use Rattle.reader.proofs.lists.admit_to.Tie as tie

@@ -1,4 +1,4 @@
-use mathlib.Core.Path.{_≡_, refl, sym, ap, _∙_}
+use mathlib.Core.Path.{sym, ap}
 use Rattle.records.specs.Records.{field}
 use Rattle.reader.proofs.WalkLaws.{no-break}
 use borrow.Author.Needs.{needs}

@@ -1,4 +1,4 @@
-use mathlib.Core.Path.{_≡_, refl, sym, ap, _∙_}
+use mathlib.Core.Path.{sym, ap, _∙_}
 use Rattle.reader.specs.Walk.{measured}
 use Rattle.reader.proofs.WalkLaws.{no-slot}
 use borrow.Author.Needs.{needs}

@@ -1,4 +1,4 @@
-use mathlib.Core.Path.{_≡_, refl, sym, ap, _∙_}
+use mathlib.Core.Path.{refl}
 use Rattle.records.specs.Records.{records}
 use Rattle.reader.specs.Settings.{isThere}
 use Rattle.reader.proofs.WalkLaws.{from-none, from-one}

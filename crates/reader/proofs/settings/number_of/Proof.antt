@@ -1,4 +1,4 @@
-use mathlib.Core.Path.{_≡_, refl, sym, ap, _∙_}
+use mathlib.Core.Path.{refl}
 use Rattle.records.specs.Records.{records}
 use Rattle.reader.specs.Settings.{numberFrom}
 use Rattle.reader.proofs.WalkLaws.{no-number, found-rank, from-none, from-one}

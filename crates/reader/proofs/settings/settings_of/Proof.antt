@@ -1,5 +1,4 @@
-use mathlib.Core.Path.{_≡_, refl, sym, ap, _∙_}
-use borrow.Author.Needs.{needs}
+use mathlib.Core.Path.{refl}
 use Rattle.reader.proofs.settings.settings_of.Statement.{statement}
 use Rattle.reader.proofs.settings.settings_of.Tie as tie
 
