@@ -1,10 +1,57 @@
+-- `reader::lists::write_items` meets its contract: each kind of items is read from where the one before it ends. Assumes nothing.
 use mathlib.Core.Path.{refl}
+use mathlib.Core.List.{List}
+use Prim.Native.Nat.{ℕ, _-_}
 use native.Mathlib.Nat.{le-refl}
-use Rattle.reader.specs.Reading.{lists}
-use Rattle.reader.proofs.ReadingLaws.{rooms, part-from, from-on, room-from, values-from}
 use native.Mathlib.Omega.{arith}
+use lib.ListN.{length, take, drop}
+use Rattle.reader.specs.Reading.{lists}
+use Rattle.reader.specs.Walk.{From}
+use Rattle.reader.proofs.ReadingLaws.{Rooms, rooms, part-from, from-on, room-from, values-from}
 use Rattle.reader.proofs.lists.write_items.Statement.{statement}
 use Rattle.reader.proofs.lists.write_items.Tie as tie
+
+-- what is left of bytes after so many
+abbrev left : List ℕ → ℕ → List ℕ
+left s n = take (length s - n) (drop n s)
+
+-- where each kind starts, and what is left from there on
+abbrev job : tie.After-settings-end → List ℕ
+job d = d .before .before .before .before .before .before .before .before .before .before .before .before .args .bytes .now
+
+abbrev rows : tie.After-settings-end → List ℕ
+rows d = left (job d) (d .settings-end .result)
+
+rows-from : (d : tie.After-settings-end) → From 14 (job d) (rows d)
+rows-from d = part-from 14 _ _ (d .settings-end .ensures)
+
+abbrev columns : tie.After-write-slots → List ℕ
+columns d = left (rows (d .before .before .before .before)) (d .write-slots .result)
+
+columns-from : (d : tie.After-write-slots) → From 15 (job (d .before .before .before .before)) (columns d)
+columns-from d = from-on 14 15 _ _ _ (rows-from (d .before .before .before .before)) (d .write-slots .ensures .0) (omega arith)
+
+abbrev merges : tie.After-write-slots2 → List ℕ
+merges d = left (columns (d .before .before .before .before .before .before .before .before)) (d .write-slots2 .result)
+
+merges-from : (d : tie.After-write-slots2) → From 16 (job (d .before .before .before .before .before .before .before .before .before .before .before .before)) (merges d)
+merges-from d = from-on 15 16 _ _ _ (columns-from (d .before .before .before .before .before .before .before .before)) (d .write-slots2 .ensures .0) (omega arith)
+
+abbrev row-breaks : tie.After-write-merges → List ℕ
+row-breaks d = left (merges (d .before .before .before .before .before .before .before .before .before .before)) (d .write-merges .result)
+
+row-breaks-from : (d : tie.After-write-merges) → From 17 (job (d .before .before .before .before .before .before .before .before .before .before .before .before .before .before .before .before .before .before .before .before .before .before)) (row-breaks d)
+row-breaks-from d = from-on 16 17 _ _ _ (merges-from (d .before .before .before .before .before .before .before .before .before .before)) (d .write-merges .ensures .0) (omega arith)
+
+abbrev column-breaks : tie.After-write-breaks → List ℕ
+column-breaks d = left (row-breaks (d .before .before .before .before .before .before .before .before .before .before .before)) (d .write-breaks .result)
+
+column-breaks-from : (d : tie.After-write-breaks) → From 18 (job (d .before .before .before .before .before .before .before .before .before .before .before .before .before .before .before .before .before .before .before .before .before .before .before .before .before .before .before .before .before .before .before .before .before)) (column-breaks d)
+column-breaks-from d = from-on 17 18 _ _ _ (row-breaks-from (d .before .before .before .before .before .before .before .before .before .before .before)) (d .write-breaks .ensures .0) (omega arith)
+
+-- the lists hold every kind
+room : (d : tie.After-settings-end) → let a = d .before .before .before .before .before .before .before .before .before .before .before .before .args in Rooms (job d) (lists (a .row-indexes .now) (a .row-sizes .now) (a .column-indexes .now) (a .column-sizes .now) (a .merge-first-rows .now) (a .merge-first-columns .now) (a .merge-last-rows .now) (a .merge-last-columns .now) (a .row-breaks .now) (a .column-breaks .now))
+room d = let a = d .before .before .before .before .before .before .before .before .before .before .before .before .args in rooms (job d) (lists (a .row-indexes .now) (a .row-sizes .now) (a .column-indexes .now) (a .column-sizes .now) (a .merge-first-rows .now) (a .merge-first-columns .now) (a .merge-last-rows .now) (a .merge-last-columns .now) (a .row-breaks .now) (a .column-breaks .now)) (d .before .before .before .before .before .before .before .before .before .before .before .before .pre .1)
 
 settings-end-requires : tie.Need-settings-end-requires
 settings-end-requires c κs = c .before .before .before .before .before .before .before .before .before .before .before .pre .0
@@ -19,7 +66,7 @@ part-rows-end : tie.Need-part-rows-end
 part-rows-end c = le-refl _
 
 write-slots-requires : tie.Need-write-slots-requires
-write-slots-requires c κs = let m = rooms (c .before .before .before .before .before .before .before .before .before .before .before .before .before .before .before .args .bytes .now) (lists (c .before .before .before .before .before .before .before .before .before .before .before .before .before .before .before .args .row-indexes .now) (c .before .before .before .before .before .before .before .before .before .before .before .before .before .before .before .args .row-sizes .now) (c .before .before .before .before .before .before .before .before .before .before .before .before .before .before .before .args .column-indexes .now) (c .before .before .before .before .before .before .before .before .before .before .before .before .before .before .before .args .column-sizes .now) (c .before .before .before .before .before .before .before .before .before .before .before .before .before .before .before .args .merge-first-rows .now) (c .before .before .before .before .before .before .before .before .before .before .before .before .before .before .before .args .merge-first-columns .now) (c .before .before .before .before .before .before .before .before .before .before .before .before .before .before .before .args .merge-last-rows .now) (c .before .before .before .before .before .before .before .before .before .before .before .before .before .before .before .args .merge-last-columns .now) (c .before .before .before .before .before .before .before .before .before .before .before .before .before .before .before .args .row-breaks .now) (c .before .before .before .before .before .before .before .before .before .before .before .before .before .before .before .args .column-breaks .now)) (c .before .before .before .before .before .before .before .before .before .before .before .before .before .before .before .pre .1) in let f = (part-from 14 _ _ (c .before .before .before .settings-end .ensures)) in (f .sorted, (refl, (room-from 14 _ _ f _ (m .rows), m .rows-even)))
+write-slots-requires c κs = let d = c .before .before .before in (rows-from d .sorted, (refl, (room-from 14 _ _ (rows-from d) _ (room d .rows), room d .rows-even)))
 
 sub-columns : tie.Need-sub-columns
 sub-columns c = c .before .before .before .before .write-slots .ensures .0 .within
@@ -31,7 +78,10 @@ part-columns-end : tie.Need-part-columns-end
 part-columns-end c = le-refl _
 
 write-slots-requires-2 : tie.Need-write-slots-requires-2
-write-slots-requires-2 c κs = let m = rooms (c .before .before .before .before .before .before .before .before .before .before .before .before .before .before .before .before .before .before .before .before .before .before .before .args .bytes .now) (lists (c .before .before .before .before .before .before .before .before .before .before .before .before .before .before .before .before .before .before .before .before .before .before .before .args .row-indexes .now) (c .before .before .before .before .before .before .before .before .before .before .before .before .before .before .before .before .before .before .before .before .before .before .before .args .row-sizes .now) (c .before .before .before .before .before .before .before .before .before .before .before .before .before .before .before .before .before .before .before .before .before .before .before .args .column-indexes .now) (c .before .before .before .before .before .before .before .before .before .before .before .before .before .before .before .before .before .before .before .before .before .before .before .args .column-sizes .now) (c .before .before .before .before .before .before .before .before .before .before .before .before .before .before .before .before .before .before .before .before .before .before .before .args .merge-first-rows .now) (c .before .before .before .before .before .before .before .before .before .before .before .before .before .before .before .before .before .before .before .before .before .before .before .args .merge-first-columns .now) (c .before .before .before .before .before .before .before .before .before .before .before .before .before .before .before .before .before .before .before .before .before .before .before .args .merge-last-rows .now) (c .before .before .before .before .before .before .before .before .before .before .before .before .before .before .before .before .before .before .before .before .before .before .before .args .merge-last-columns .now) (c .before .before .before .before .before .before .before .before .before .before .before .before .before .before .before .before .before .before .before .before .before .before .before .args .row-breaks .now) (c .before .before .before .before .before .before .before .before .before .before .before .before .before .before .before .before .before .before .before .before .before .before .before .args .column-breaks .now)) (c .before .before .before .before .before .before .before .before .before .before .before .before .before .before .before .before .before .before .before .before .before .before .before .pre .1) in let f = (from-on 14 15 _ _ _ (part-from 14 _ _ (c .before .before .before .before .before .before .before .before .before .before .before .settings-end .ensures)) (c .before .before .before .before .before .before .before .write-slots .ensures .0) (omega arith)) in (f .sorted, (refl, (room-from 15 _ _ f _ (m .columns), m .columns-even)))
+write-slots-requires-2 c κs =
+    let d = c .before .before .before .before .before .before .before in
+    let m = room (d .before .before .before .before) in
+    (columns-from d .sorted, (refl, (room-from 15 _ _ (columns-from d) _ (m .columns), m .columns-even)))
 
 sub-merges : tie.Need-sub-merges
 sub-merges c = c .before .before .before .before .write-slots2 .ensures .0 .within
@@ -43,7 +93,10 @@ part-merges-end : tie.Need-part-merges-end
 part-merges-end c = le-refl _
 
 write-merges-requires : tie.Need-write-merges-requires
-write-merges-requires c κs = let m = rooms (c .before .before .before .before .before .before .before .before .before .before .before .before .before .before .before .before .before .before .before .before .before .before .before .before .before .before .before .before .before .before .before .before .before .args .bytes .now) (lists (c .before .before .before .before .before .before .before .before .before .before .before .before .before .before .before .before .before .before .before .before .before .before .before .before .before .before .before .before .before .before .before .before .before .args .row-indexes .now) (c .before .before .before .before .before .before .before .before .before .before .before .before .before .before .before .before .before .before .before .before .before .before .before .before .before .before .before .before .before .before .before .before .before .args .row-sizes .now) (c .before .before .before .before .before .before .before .before .before .before .before .before .before .before .before .before .before .before .before .before .before .before .before .before .before .before .before .before .before .before .before .before .before .args .column-indexes .now) (c .before .before .before .before .before .before .before .before .before .before .before .before .before .before .before .before .before .before .before .before .before .before .before .before .before .before .before .before .before .before .before .before .before .args .column-sizes .now) (c .before .before .before .before .before .before .before .before .before .before .before .before .before .before .before .before .before .before .before .before .before .before .before .before .before .before .before .before .before .before .before .before .before .args .merge-first-rows .now) (c .before .before .before .before .before .before .before .before .before .before .before .before .before .before .before .before .before .before .before .before .before .before .before .before .before .before .before .before .before .before .before .before .before .args .merge-first-columns .now) (c .before .before .before .before .before .before .before .before .before .before .before .before .before .before .before .before .before .before .before .before .before .before .before .before .before .before .before .before .before .before .before .before .before .args .merge-last-rows .now) (c .before .before .before .before .before .before .before .before .before .before .before .before .before .before .before .before .before .before .before .before .before .before .before .before .before .before .before .before .before .before .before .before .before .args .merge-last-columns .now) (c .before .before .before .before .before .before .before .before .before .before .before .before .before .before .before .before .before .before .before .before .before .before .before .before .before .before .before .before .before .before .before .before .before .args .row-breaks .now) (c .before .before .before .before .before .before .before .before .before .before .before .before .before .before .before .before .before .before .before .before .before .before .before .before .before .before .before .before .before .before .before .before .before .args .column-breaks .now)) (c .before .before .before .before .before .before .before .before .before .before .before .before .before .before .before .before .before .before .before .before .before .before .before .before .before .before .before .before .before .before .before .before .before .pre .1) in let f = (from-on 15 16 _ _ _ (from-on 14 15 _ _ _ (part-from 14 _ _ (c .before .before .before .before .before .before .before .before .before .before .before .before .before .before .before .before .before .before .before .before .before .settings-end .ensures)) (c .before .before .before .before .before .before .before .before .before .before .before .before .before .before .before .before .before .write-slots .ensures .0) (omega arith)) (c .before .before .before .before .before .before .before .before .before .write-slots2 .ensures .0) (omega arith)) in (f .sorted, (room-from 16 _ _ f _ (m .merges), (m .first-columns-even, (m .last-rows-even, m .last-columns-even))))
+write-merges-requires c κs =
+    let d = c .before .before .before .before .before .before .before .before .before in
+    let m = room (d .before .before .before .before .before .before .before .before .before .before .before .before) in
+    (merges-from d .sorted, (room-from 16 _ _ (merges-from d) _ (m .merges), (m .first-columns-even, (m .last-rows-even, m .last-columns-even))))
 
 sub-breaks : tie.Need-sub-breaks
 sub-breaks c = c .before .before .before .before .before .before .before .before .write-merges .ensures .0 .within
@@ -55,7 +108,7 @@ part-breaks-end : tie.Need-part-breaks-end
 part-breaks-end c = le-refl _
 
 write-breaks-requires : tie.Need-write-breaks-requires
-write-breaks-requires c κs = let m = rooms (c .before .before .before .before .before .before .before .before .before .before .before .before .before .before .before .before .before .before .before .before .before .before .before .before .before .before .before .before .before .before .before .before .before .before .before .before .before .before .before .before .before .before .before .before .args .bytes .now) (lists (c .before .before .before .before .before .before .before .before .before .before .before .before .before .before .before .before .before .before .before .before .before .before .before .before .before .before .before .before .before .before .before .before .before .before .before .before .before .before .before .before .before .before .before .before .args .row-indexes .now) (c .before .before .before .before .before .before .before .before .before .before .before .before .before .before .before .before .before .before .before .before .before .before .before .before .before .before .before .before .before .before .before .before .before .before .before .before .before .before .before .before .before .before .before .before .args .row-sizes .now) (c .before .before .before .before .before .before .before .before .before .before .before .before .before .before .before .before .before .before .before .before .before .before .before .before .before .before .before .before .before .before .before .before .before .before .before .before .before .before .before .before .before .before .before .before .args .column-indexes .now) (c .before .before .before .before .before .before .before .before .before .before .before .before .before .before .before .before .before .before .before .before .before .before .before .before .before .before .before .before .before .before .before .before .before .before .before .before .before .before .before .before .before .before .before .before .args .column-sizes .now) (c .before .before .before .before .before .before .before .before .before .before .before .before .before .before .before .before .before .before .before .before .before .before .before .before .before .before .before .before .before .before .before .before .before .before .before .before .before .before .before .before .before .before .before .before .args .merge-first-rows .now) (c .before .before .before .before .before .before .before .before .before .before .before .before .before .before .before .before .before .before .before .before .before .before .before .before .before .before .before .before .before .before .before .before .before .before .before .before .before .before .before .before .before .before .before .before .args .merge-first-columns .now) (c .before .before .before .before .before .before .before .before .before .before .before .before .before .before .before .before .before .before .before .before .before .before .before .before .before .before .before .before .before .before .before .before .before .before .before .before .before .before .before .before .before .before .before .before .args .merge-last-rows .now) (c .before .before .before .before .before .before .before .before .before .before .before .before .before .before .before .before .before .before .before .before .before .before .before .before .before .before .before .before .before .before .before .before .before .before .before .before .before .before .before .before .before .before .before .before .args .merge-last-columns .now) (c .before .before .before .before .before .before .before .before .before .before .before .before .before .before .before .before .before .before .before .before .before .before .before .before .before .before .before .before .before .before .before .before .before .before .before .before .before .before .before .before .before .before .before .before .args .row-breaks .now) (c .before .before .before .before .before .before .before .before .before .before .before .before .before .before .before .before .before .before .before .before .before .before .before .before .before .before .before .before .before .before .before .before .before .before .before .before .before .before .before .before .before .before .before .before .args .column-breaks .now)) (c .before .before .before .before .before .before .before .before .before .before .before .before .before .before .before .before .before .before .before .before .before .before .before .before .before .before .before .before .before .before .before .before .before .before .before .before .before .before .before .before .before .before .before .before .pre .1) in let f = (from-on 16 17 _ _ _ (from-on 15 16 _ _ _ (from-on 14 15 _ _ _ (part-from 14 _ _ (c .before .before .before .before .before .before .before .before .before .before .before .before .before .before .before .before .before .before .before .before .before .before .before .before .before .before .before .before .before .before .before .before .settings-end .ensures)) (c .before .before .before .before .before .before .before .before .before .before .before .before .before .before .before .before .before .before .before .before .before .before .before .before .before .before .before .before .write-slots .ensures .0) (omega arith)) (c .before .before .before .before .before .before .before .before .before .before .before .before .before .before .before .before .before .before .before .before .write-slots2 .ensures .0) (omega arith)) (c .before .before .before .before .before .before .before .before .before .before .write-merges .ensures .0) (omega arith)) in (f .sorted, (refl, room-from 17 _ _ f _ (m .row-breaks)))
+write-breaks-requires c κs = let d = c .before .before .before .before .before .before .before .before .before .before in (row-breaks-from d .sorted, (refl, room-from 17 _ _ (row-breaks-from d) _ (room (d .before .before .before .before .before .before .before .before .before .before .before .before .before .before .before .before .before .before .before .before .before .before) .row-breaks)))
 
 sub-write-breaks : tie.Need-sub-write-breaks
 sub-write-breaks c = c .before .before .write-breaks .ensures .0 .within
@@ -67,7 +120,7 @@ part-write-breaks-end : tie.Need-part-write-breaks-end
 part-write-breaks-end c = le-refl _
 
 write-breaks-requires-2 : tie.Need-write-breaks-requires-2
-write-breaks-requires-2 c κs = let m = rooms (c .before .before .before .before .before .before .before .before .before .before .before .before .before .before .before .before .before .before .before .before .before .before .before .before .before .before .before .before .before .before .before .before .before .before .before .before .before .before .before .before .before .before .before .before .before .before .before .before .before .args .bytes .now) (lists (c .before .before .before .before .before .before .before .before .before .before .before .before .before .before .before .before .before .before .before .before .before .before .before .before .before .before .before .before .before .before .before .before .before .before .before .before .before .before .before .before .before .before .before .before .before .before .before .before .before .args .row-indexes .now) (c .before .before .before .before .before .before .before .before .before .before .before .before .before .before .before .before .before .before .before .before .before .before .before .before .before .before .before .before .before .before .before .before .before .before .before .before .before .before .before .before .before .before .before .before .before .before .before .before .before .args .row-sizes .now) (c .before .before .before .before .before .before .before .before .before .before .before .before .before .before .before .before .before .before .before .before .before .before .before .before .before .before .before .before .before .before .before .before .before .before .before .before .before .before .before .before .before .before .before .before .before .before .before .before .before .args .column-indexes .now) (c .before .before .before .before .before .before .before .before .before .before .before .before .before .before .before .before .before .before .before .before .before .before .before .before .before .before .before .before .before .before .before .before .before .before .before .before .before .before .before .before .before .before .before .before .before .before .before .before .before .args .column-sizes .now) (c .before .before .before .before .before .before .before .before .before .before .before .before .before .before .before .before .before .before .before .before .before .before .before .before .before .before .before .before .before .before .before .before .before .before .before .before .before .before .before .before .before .before .before .before .before .before .before .before .before .args .merge-first-rows .now) (c .before .before .before .before .before .before .before .before .before .before .before .before .before .before .before .before .before .before .before .before .before .before .before .before .before .before .before .before .before .before .before .before .before .before .before .before .before .before .before .before .before .before .before .before .before .before .before .before .before .args .merge-first-columns .now) (c .before .before .before .before .before .before .before .before .before .before .before .before .before .before .before .before .before .before .before .before .before .before .before .before .before .before .before .before .before .before .before .before .before .before .before .before .before .before .before .before .before .before .before .before .before .before .before .before .before .args .merge-last-rows .now) (c .before .before .before .before .before .before .before .before .before .before .before .before .before .before .before .before .before .before .before .before .before .before .before .before .before .before .before .before .before .before .before .before .before .before .before .before .before .before .before .before .before .before .before .before .before .before .before .before .before .args .merge-last-columns .now) (c .before .before .before .before .before .before .before .before .before .before .before .before .before .before .before .before .before .before .before .before .before .before .before .before .before .before .before .before .before .before .before .before .before .before .before .before .before .before .before .before .before .before .before .before .before .before .before .before .before .args .row-breaks .now) (c .before .before .before .before .before .before .before .before .before .before .before .before .before .before .before .before .before .before .before .before .before .before .before .before .before .before .before .before .before .before .before .before .before .before .before .before .before .before .before .before .before .before .before .before .before .before .before .before .before .args .column-breaks .now)) (c .before .before .before .before .before .before .before .before .before .before .before .before .before .before .before .before .before .before .before .before .before .before .before .before .before .before .before .before .before .before .before .before .before .before .before .before .before .before .before .before .before .before .before .before .before .before .before .before .before .pre .1) in let f = (from-on 17 18 _ _ _ (from-on 16 17 _ _ _ (from-on 15 16 _ _ _ (from-on 14 15 _ _ _ (part-from 14 _ _ (c .before .before .before .before .before .before .before .before .before .before .before .before .before .before .before .before .before .before .before .before .before .before .before .before .before .before .before .before .before .before .before .before .before .before .before .before .before .settings-end .ensures)) (c .before .before .before .before .before .before .before .before .before .before .before .before .before .before .before .before .before .before .before .before .before .before .before .before .before .before .before .before .before .before .before .before .before .write-slots .ensures .0) (omega arith)) (c .before .before .before .before .before .before .before .before .before .before .before .before .before .before .before .before .before .before .before .before .before .before .before .before .before .write-slots2 .ensures .0) (omega arith)) (c .before .before .before .before .before .before .before .before .before .before .before .before .before .before .before .write-merges .ensures .0) (omega arith)) (c .before .before .before .before .write-breaks .ensures .0) (omega arith)) in (f .sorted, (refl, room-from 18 _ _ f _ (m .column-breaks)))
+write-breaks-requires-2 c κs = let d = c .before .before .before .before in (column-breaks-from d .sorted, (refl, room-from 18 _ _ (column-breaks-from d) _ (room (d .before .before .before .before .before .before .before .before .before .before .before .before .before .before .before .before .before .before .before .before .before .before .before .before .before .before .before .before .before .before .before .before .before) .column-breaks)))
 
 same-length : tie.Need-same-length
 same-length c = c .before .before .before .before .before .before .before .before .before .before .before .before .before .before .before .before .before .before .before .before .before .before .before .before .before .before .before .before .before .before .before .before .before .before .before .before .write-slots .kept .1 .1 .0
@@ -100,18 +153,24 @@ same-length-10 : tie.Need-same-length-10
 same-length-10 c = c .before .before .write-breaks2 .kept .1 .1 .0
 
 returns : tie.Need-returns
-returns c = record {
-  row-indexes-are = values-from 14 _ _ (part-from 14 _ _ (c .before .before .before .before .before .before .before .before .before .before .before .before .before .before .before .before .before .before .before .before .before .before .before .before .before .before .before .before .before .before .before .before .before .before .before .before .before .before .before .before .settings-end .ensures)) 0 _ _ (c .before .before .before .before .before .before .before .before .before .before .before .before .before .before .before .before .before .before .before .before .before .before .before .before .before .before .before .before .before .before .before .before .before .before .before .before .write-slots .ensures .1 .0);
-  row-sizes-are = values-from 14 _ _ (part-from 14 _ _ (c .before .before .before .before .before .before .before .before .before .before .before .before .before .before .before .before .before .before .before .before .before .before .before .before .before .before .before .before .before .before .before .before .before .before .before .before .before .before .before .before .settings-end .ensures)) 1 _ _ (c .before .before .before .before .before .before .before .before .before .before .before .before .before .before .before .before .before .before .before .before .before .before .before .before .before .before .before .before .before .before .before .before .before .before .before .before .write-slots .ensures .1 .1);
-  column-indexes-are = values-from 15 _ _ (from-on 14 15 _ _ _ (part-from 14 _ _ (c .before .before .before .before .before .before .before .before .before .before .before .before .before .before .before .before .before .before .before .before .before .before .before .before .before .before .before .before .before .before .before .before .before .before .before .before .before .before .before .before .settings-end .ensures)) (c .before .before .before .before .before .before .before .before .before .before .before .before .before .before .before .before .before .before .before .before .before .before .before .before .before .before .before .before .before .before .before .before .before .before .before .before .write-slots .ensures .0) (omega arith)) 0 _ _ (c .before .before .before .before .before .before .before .before .before .before .before .before .before .before .before .before .before .before .before .before .before .before .before .before .before .before .before .before .write-slots2 .ensures .1 .0);
-  column-sizes-are = values-from 15 _ _ (from-on 14 15 _ _ _ (part-from 14 _ _ (c .before .before .before .before .before .before .before .before .before .before .before .before .before .before .before .before .before .before .before .before .before .before .before .before .before .before .before .before .before .before .before .before .before .before .before .before .before .before .before .before .settings-end .ensures)) (c .before .before .before .before .before .before .before .before .before .before .before .before .before .before .before .before .before .before .before .before .before .before .before .before .before .before .before .before .before .before .before .before .before .before .before .before .write-slots .ensures .0) (omega arith)) 1 _ _ (c .before .before .before .before .before .before .before .before .before .before .before .before .before .before .before .before .before .before .before .before .before .before .before .before .before .before .before .before .write-slots2 .ensures .1 .1);
-  merge-first-rows-are = values-from 16 _ _ (from-on 15 16 _ _ _ (from-on 14 15 _ _ _ (part-from 14 _ _ (c .before .before .before .before .before .before .before .before .before .before .before .before .before .before .before .before .before .before .before .before .before .before .before .before .before .before .before .before .before .before .before .before .before .before .before .before .before .before .before .before .settings-end .ensures)) (c .before .before .before .before .before .before .before .before .before .before .before .before .before .before .before .before .before .before .before .before .before .before .before .before .before .before .before .before .before .before .before .before .before .before .before .before .write-slots .ensures .0) (omega arith)) (c .before .before .before .before .before .before .before .before .before .before .before .before .before .before .before .before .before .before .before .before .before .before .before .before .before .before .before .before .write-slots2 .ensures .0) (omega arith)) 0 _ _ (c .before .before .before .before .before .before .before .before .before .before .before .before .before .before .before .before .before .before .write-merges .ensures .1 .0);
-  merge-first-columns-are = values-from 16 _ _ (from-on 15 16 _ _ _ (from-on 14 15 _ _ _ (part-from 14 _ _ (c .before .before .before .before .before .before .before .before .before .before .before .before .before .before .before .before .before .before .before .before .before .before .before .before .before .before .before .before .before .before .before .before .before .before .before .before .before .before .before .before .settings-end .ensures)) (c .before .before .before .before .before .before .before .before .before .before .before .before .before .before .before .before .before .before .before .before .before .before .before .before .before .before .before .before .before .before .before .before .before .before .before .before .write-slots .ensures .0) (omega arith)) (c .before .before .before .before .before .before .before .before .before .before .before .before .before .before .before .before .before .before .before .before .before .before .before .before .before .before .before .before .write-slots2 .ensures .0) (omega arith)) 1 _ _ (c .before .before .before .before .before .before .before .before .before .before .before .before .before .before .before .before .before .before .write-merges .ensures .1 .1 .0);
-  merge-last-rows-are = values-from 16 _ _ (from-on 15 16 _ _ _ (from-on 14 15 _ _ _ (part-from 14 _ _ (c .before .before .before .before .before .before .before .before .before .before .before .before .before .before .before .before .before .before .before .before .before .before .before .before .before .before .before .before .before .before .before .before .before .before .before .before .before .before .before .before .settings-end .ensures)) (c .before .before .before .before .before .before .before .before .before .before .before .before .before .before .before .before .before .before .before .before .before .before .before .before .before .before .before .before .before .before .before .before .before .before .before .before .write-slots .ensures .0) (omega arith)) (c .before .before .before .before .before .before .before .before .before .before .before .before .before .before .before .before .before .before .before .before .before .before .before .before .before .before .before .before .write-slots2 .ensures .0) (omega arith)) 2 _ _ (c .before .before .before .before .before .before .before .before .before .before .before .before .before .before .before .before .before .before .write-merges .ensures .1 .1 .1 .0);
-  merge-last-columns-are = values-from 16 _ _ (from-on 15 16 _ _ _ (from-on 14 15 _ _ _ (part-from 14 _ _ (c .before .before .before .before .before .before .before .before .before .before .before .before .before .before .before .before .before .before .before .before .before .before .before .before .before .before .before .before .before .before .before .before .before .before .before .before .before .before .before .before .settings-end .ensures)) (c .before .before .before .before .before .before .before .before .before .before .before .before .before .before .before .before .before .before .before .before .before .before .before .before .before .before .before .before .before .before .before .before .before .before .before .before .write-slots .ensures .0) (omega arith)) (c .before .before .before .before .before .before .before .before .before .before .before .before .before .before .before .before .before .before .before .before .before .before .before .before .before .before .before .before .write-slots2 .ensures .0) (omega arith)) 3 _ _ (c .before .before .before .before .before .before .before .before .before .before .before .before .before .before .before .before .before .before .write-merges .ensures .1 .1 .1 .1);
-  row-breaks-are = values-from 17 _ _ (from-on 16 17 _ _ _ (from-on 15 16 _ _ _ (from-on 14 15 _ _ _ (part-from 14 _ _ (c .before .before .before .before .before .before .before .before .before .before .before .before .before .before .before .before .before .before .before .before .before .before .before .before .before .before .before .before .before .before .before .before .before .before .before .before .before .before .before .before .settings-end .ensures)) (c .before .before .before .before .before .before .before .before .before .before .before .before .before .before .before .before .before .before .before .before .before .before .before .before .before .before .before .before .before .before .before .before .before .before .before .before .write-slots .ensures .0) (omega arith)) (c .before .before .before .before .before .before .before .before .before .before .before .before .before .before .before .before .before .before .before .before .before .before .before .before .before .before .before .before .write-slots2 .ensures .0) (omega arith)) (c .before .before .before .before .before .before .before .before .before .before .before .before .before .before .before .before .before .before .write-merges .ensures .0) (omega arith)) 0 _ _ (c .before .before .before .before .before .before .before .write-breaks .ensures .1);
-  column-breaks-are = values-from 18 _ _ (from-on 17 18 _ _ _ (from-on 16 17 _ _ _ (from-on 15 16 _ _ _ (from-on 14 15 _ _ _ (part-from 14 _ _ (c .before .before .before .before .before .before .before .before .before .before .before .before .before .before .before .before .before .before .before .before .before .before .before .before .before .before .before .before .before .before .before .before .before .before .before .before .before .before .before .before .settings-end .ensures)) (c .before .before .before .before .before .before .before .before .before .before .before .before .before .before .before .before .before .before .before .before .before .before .before .before .before .before .before .before .before .before .before .before .before .before .before .before .write-slots .ensures .0) (omega arith)) (c .before .before .before .before .before .before .before .before .before .before .before .before .before .before .before .before .before .before .before .before .before .before .before .before .before .before .before .before .write-slots2 .ensures .0) (omega arith)) (c .before .before .before .before .before .before .before .before .before .before .before .before .before .before .before .before .before .before .write-merges .ensures .0) (omega arith)) (c .before .before .before .before .before .before .before .write-breaks .ensures .0) (omega arith)) 0 _ _ (c .before .before .write-breaks2 .ensures .1);
-}
+returns c =
+    let w = c .before .before .before .before .before .before .before in
+    let m = c .before .before .before .before .before .before .before .before .before .before .before .before .before .before .before .before .before .before in
+    let g = c .before .before .before .before .before .before .before .before .before .before .before .before .before .before .before .before .before .before .before .before .before .before .before .before .before .before .before .before in
+    let e = c .before .before .before .before .before .before .before .before .before .before .before .before .before .before .before .before .before .before .before .before .before .before .before .before .before .before .before .before .before .before .before .before .before .before .before .before in
+    let d = c .before .before .before .before .before .before .before .before .before .before .before .before .before .before .before .before .before .before .before .before .before .before .before .before .before .before .before .before .before .before .before .before .before .before .before .before .before .before .before .before in
+    record {
+      row-indexes-are = values-from 14 _ _ (rows-from d) 0 _ _ (e .write-slots .ensures .1 .0);
+      row-sizes-are = values-from 14 _ _ (rows-from d) 1 _ _ (e .write-slots .ensures .1 .1);
+      column-indexes-are = values-from 15 _ _ (columns-from e) 0 _ _ (g .write-slots2 .ensures .1 .0);
+      column-sizes-are = values-from 15 _ _ (columns-from e) 1 _ _ (g .write-slots2 .ensures .1 .1);
+      merge-first-rows-are = values-from 16 _ _ (merges-from g) 0 _ _ (m .write-merges .ensures .1 .0);
+      merge-first-columns-are = values-from 16 _ _ (merges-from g) 1 _ _ (m .write-merges .ensures .1 .1 .0);
+      merge-last-rows-are = values-from 16 _ _ (merges-from g) 2 _ _ (m .write-merges .ensures .1 .1 .1 .0);
+      merge-last-columns-are = values-from 16 _ _ (merges-from g) 3 _ _ (m .write-merges .ensures .1 .1 .1 .1);
+      row-breaks-are = values-from 17 _ _ (row-breaks-from m) 0 _ _ (w .write-breaks .ensures .1);
+      column-breaks-are = values-from 18 _ _ (column-breaks-from w) 0 _ _ (c .before .before .write-breaks2 .ensures .1);
+    }
 
 pub write-items-spec : {M : Type 1} → statement M
 write-items-spec =
