@@ -11,11 +11,11 @@ use records::Range;
 use records::Record;
 use records::RowSlot;
 use records::rank_of;
+use units::Fixed;
 ghost use mathlib.Core.Path.{_≡_};
 ghost use mathlib.Core.Bool.{true};
 ghost use mathlib.Core.List.{[]};
 ghost use Prim.Native.Nat.{_+_, _≤_};
-ghost use lib.IntN.{natAbs};
 ghost use lib.ListN.{length};
 ghost use Rattle.rules.specs.Slots.{written};
 ghost use Rattle.records.specs.Records.{rank, step, records, marked, values, field};
@@ -52,23 +52,13 @@ pub(crate) struct Measured {
     pub size: u64,
 }
 
-fn magnitude(size: i64) -> u64
-    ensures { λ r. ⌜ r ≡ natAbs size ⌝ }
-{
-    if size >= 0 {
-        size as u64
-    } else {
-        ((-1 - size) as u64) + 1
-    }
-}
-
 fn row_measured(slot: RowSlot) -> Measured
     ensures { λ r. ⌜ r ≡ walk.rowMeasured slot ⌝ }
 {
     let size = slot.size;
     Measured {
         index: slot.index,
-        size: magnitude(size),
+        size: Fixed::from_raw(size).magnitude(),
     }
 }
 
@@ -78,7 +68,7 @@ fn column_measured(slot: ColumnSlot) -> Measured
     let size = slot.size;
     Measured {
         index: slot.index as u32,
-        size: magnitude(size),
+        size: Fixed::from_raw(size).magnitude(),
     }
 }
 

@@ -1,3 +1,4 @@
+-- `reader::lists::row_measured` meets its contract. Assumes nothing.
 use mir.Syntax.{w64}
 use mir.Facts.{toZ-ofZ}
 use native.Mathlib.Omega.{arith}
@@ -5,11 +6,14 @@ use borrow.Author.Needs.{needs}
 use Rattle.reader.proofs.lists.row_measured.Statement.{statement}
 use Rattle.reader.proofs.lists.row_measured.Tie as tie
 
+from-raw-requires : tie.Need-from-raw-requires
+from-raw-requires c κs = search needs
+
 magnitude-requires : tie.Need-magnitude-requires
 magnitude-requires c κs = search needs
 
 returns : tie.Need-returns
-returns c = rw (c .magnitude .ensures, toZ-ofZ {w = w64} {z = c .before .before .args .slot .size} (record { sfits = omega arith }))
+returns c = rw (c .magnitude .ensures, c .before .from-raw .ensures, toZ-ofZ {w = w64} {z = c .before .before .before .args .slot .size} (record { sfits = omega arith }))
 
 pub row-measured-spec : {M : Type 1} → statement M
-row-measured-spec = tie.close (tie.spec magnitude-requires returns)
+row-measured-spec = tie.close (tie.spec from-raw-requires magnitude-requires returns)
