@@ -1,6 +1,7 @@
 -- Laws for the loops that walk the records of a job. Assumes nothing.
 use mathlib.Core.Path.{_≡_, refl, sym, ap, ap₂, _∙_}
 use mathlib.Core.Bool.{Bool, true, false, true≢false, not, cond, _&&_, _||_}
+use mathlib.Core.Logic.{inl, inr}
 use mathlib.Core.List.{List, [], _∷_}
 use Prim.Native.Nat.{ℕ, suc, _+_, _-_, _≤_, _<_}
 use native.Mathlib.Decide.{decLe}
@@ -24,6 +25,7 @@ use Rattle.reader.specs.declared.settings.Lookup.the-variants.{Found, Mi
 use Rattle.records.specs.Records.{step, rank, isEnd, goesOn, records, marked}
 use Rattle.job_questions.specs.Verdict.{follows, ordered}
 use Rattle.reader.specs.Walk.{before, ofKind, firstOf, Sorted, Past, isNumber, isFlag, isSlot, isBreak}
+use Rattle.rules.proofs.QuestionLaws.{both}
 use Rattle.records.proofs.RecordLaws.{records-more, records-stop, step-used, part}
 use Rattle.records.proofs.records.Record as R
 
@@ -355,86 +357,36 @@ no-other k ts r h e o =
     let i : tagOf R.the-type r ≡ k = omega (arith, tag-rank r) in
     miss ts k h (rw i at o)
 
+-- p holds of no record with one of the tags
+abbrev noneOf : (ℕ → Bool) → List ℕ → Bool
+noneOf p [] = true
+noneOf p (t ∷ ts) = not (p (suc t)) && noneOf p ts
+
+-- a record of a rank that p holds of has none of the tags
+no-kind : (p : ℕ → Bool) (ts : List ℕ) (r : Record) → noneOf p ts ≡ true → p (rank r) ≡ true → OneOf ts (tagOf R.the-type r) → ⊥
+no-kind p ts r h e o = go (tagOf R.the-type r) (ap p (sym (tag-rank r)) ∙ e) ts h o
+  where
+    no : (b : Bool) → b ≡ true → not b ≡ true → ⊥
+    no true e h = true≢false (sym h)
+    no false e h = true≢false (sym e)
+
+    at : (x t : ℕ) → p (suc x) ≡ true → not (p (suc t)) ≡ true → x ≡ t → ⊥
+    at x t e h o = no (p (suc t)) (sym (ap (λ (n : ℕ). p (suc n)) o) ∙ e) h
+
+    go : (x : ℕ) → p (suc x) ≡ true → (ts : List ℕ) → noneOf p ts ≡ true → OneOf ts x → ⊥
+    go x e [] h o = o
+    go x e (t ∷ []) h o = at x t e (both (not (p (suc t))) true h .0) o
+    go x e (t ∷ (u ∷ ts)) h (inl o) = at x t e (both (not (p (suc t))) (noneOf p (u ∷ ts)) h .0) o
+    go x e (t ∷ (u ∷ ts)) h (inr o) = go x e (u ∷ ts) (both (not (p (suc t))) (noneOf p (u ∷ ts)) h .1) o
+
 pub no-number : (r : Record) → isNumber (rank r) ≡ true → OneOf (1 ∷ 2 ∷ 6 ∷ 7 ∷ 8 ∷ 9 ∷ 10 ∷ 11 ∷ 12 ∷ 13 ∷ 14 ∷ 15 ∷ 16 ∷ 17 ∷ 18 ∷ []) (tagOf R.the-type r) → ⊥
-no-number (Paper x) e o = miss (1 ∷ 2 ∷ 6 ∷ 7 ∷ 8 ∷ 9 ∷ 10 ∷ 11 ∷ 12 ∷ 13 ∷ 14 ∷ 15 ∷ 16 ∷ 17 ∷ 18 ∷ []) 0 tt o
-no-number Landscape e o = true≢false (sym e)
-no-number (Margin m) e o = true≢false (sym e)
-no-number (Scale x) e o = miss (1 ∷ 2 ∷ 6 ∷ 7 ∷ 8 ∷ 9 ∷ 10 ∷ 11 ∷ 12 ∷ 13 ∷ 14 ∷ 15 ∷ 16 ∷ 17 ∷ 18 ∷ []) 3 tt o
-no-number (Wide x) e o = miss (1 ∷ 2 ∷ 6 ∷ 7 ∷ 8 ∷ 9 ∷ 10 ∷ 11 ∷ 12 ∷ 13 ∷ 14 ∷ 15 ∷ 16 ∷ 17 ∷ 18 ∷ []) 4 tt o
-no-number (High x) e o = miss (1 ∷ 2 ∷ 6 ∷ 7 ∷ 8 ∷ 9 ∷ 10 ∷ 11 ∷ 12 ∷ 13 ∷ 14 ∷ 15 ∷ 16 ∷ 17 ∷ 18 ∷ []) 5 tt o
-no-number (Fit x) e o = true≢false (sym e)
-no-number (Order x) e o = true≢false (sym e)
-no-number Headings e o = true≢false (sym e)
-no-number (Limit x) e o = true≢false (sym e)
-no-number (Area a) e o = true≢false (sym e)
-no-number (TitleRows f l) e o = true≢false (sym e)
-no-number (TitleColumns f l) e o = true≢false (sym e)
-no-number (Row s) e o = true≢false (sym e)
-no-number (Column s) e o = true≢false (sym e)
-no-number (Merged m) e o = true≢false (sym e)
-no-number (RowBreak b) e o = true≢false (sym e)
-no-number (ColumnBreak b) e o = true≢false (sym e)
-no-number End e o = true≢false (sym e)
+no-number r = no-kind isNumber (1 ∷ 2 ∷ 6 ∷ 7 ∷ 8 ∷ 9 ∷ 10 ∷ 11 ∷ 12 ∷ 13 ∷ 14 ∷ 15 ∷ 16 ∷ 17 ∷ 18 ∷ []) r refl
 
 pub no-flag : (r : Record) → isFlag (rank r) ≡ true → OneOf (0 ∷ 1 ∷ 2 ∷ 3 ∷ 4 ∷ 5 ∷ 8 ∷ 9 ∷ 10 ∷ 11 ∷ 12 ∷ 13 ∷ 14 ∷ 15 ∷ 16 ∷ 17 ∷ 18 ∷ []) (tagOf R.the-type r) → ⊥
-no-flag (Paper x) e o = true≢false (sym e)
-no-flag Landscape e o = true≢false (sym e)
-no-flag (Margin m) e o = true≢false (sym e)
-no-flag (Scale x) e o = true≢false (sym e)
-no-flag (Wide x) e o = true≢false (sym e)
-no-flag (High x) e o = true≢false (sym e)
-no-flag (Fit x) e o = miss (0 ∷ 1 ∷ 2 ∷ 3 ∷ 4 ∷ 5 ∷ 8 ∷ 9 ∷ 10 ∷ 11 ∷ 12 ∷ 13 ∷ 14 ∷ 15 ∷ 16 ∷ 17 ∷ 18 ∷ []) 6 tt o
-no-flag (Order x) e o = miss (0 ∷ 1 ∷ 2 ∷ 3 ∷ 4 ∷ 5 ∷ 8 ∷ 9 ∷ 10 ∷ 11 ∷ 12 ∷ 13 ∷ 14 ∷ 15 ∷ 16 ∷ 17 ∷ 18 ∷ []) 7 tt o
-no-flag Headings e o = true≢false (sym e)
-no-flag (Limit x) e o = true≢false (sym e)
-no-flag (Area a) e o = true≢false (sym e)
-no-flag (TitleRows f l) e o = true≢false (sym e)
-no-flag (TitleColumns f l) e o = true≢false (sym e)
-no-flag (Row s) e o = true≢false (sym e)
-no-flag (Column s) e o = true≢false (sym e)
-no-flag (Merged m) e o = true≢false (sym e)
-no-flag (RowBreak b) e o = true≢false (sym e)
-no-flag (ColumnBreak b) e o = true≢false (sym e)
-no-flag End e o = true≢false (sym e)
+no-flag r = no-kind isFlag (0 ∷ 1 ∷ 2 ∷ 3 ∷ 4 ∷ 5 ∷ 8 ∷ 9 ∷ 10 ∷ 11 ∷ 12 ∷ 13 ∷ 14 ∷ 15 ∷ 16 ∷ 17 ∷ 18 ∷ []) r refl
 
 pub no-slot : (r : Record) → isSlot (rank r) ≡ true → OneOf (0 ∷ 1 ∷ 2 ∷ 3 ∷ 4 ∷ 5 ∷ 6 ∷ 7 ∷ 8 ∷ 9 ∷ 10 ∷ 11 ∷ 12 ∷ 15 ∷ 16 ∷ 17 ∷ 18 ∷ []) (tagOf R.the-type r) → ⊥
-no-slot (Paper x) e o = true≢false (sym e)
-no-slot Landscape e o = true≢false (sym e)
-no-slot (Margin m) e o = true≢false (sym e)
-no-slot (Scale x) e o = true≢false (sym e)
-no-slot (Wide x) e o = true≢false (sym e)
-no-slot (High x) e o = true≢false (sym e)
-no-slot (Fit x) e o = true≢false (sym e)
-no-slot (Order x) e o = true≢false (sym e)
-no-slot Headings e o = true≢false (sym e)
-no-slot (Limit x) e o = true≢false (sym e)
-no-slot (Area a) e o = true≢false (sym e)
-no-slot (TitleRows f l) e o = true≢false (sym e)
-no-slot (TitleColumns f l) e o = true≢false (sym e)
-no-slot (Row s) e o = miss (0 ∷ 1 ∷ 2 ∷ 3 ∷ 4 ∷ 5 ∷ 6 ∷ 7 ∷ 8 ∷ 9 ∷ 10 ∷ 11 ∷ 12 ∷ 15 ∷ 16 ∷ 17 ∷ 18 ∷ []) 13 tt o
-no-slot (Column s) e o = miss (0 ∷ 1 ∷ 2 ∷ 3 ∷ 4 ∷ 5 ∷ 6 ∷ 7 ∷ 8 ∷ 9 ∷ 10 ∷ 11 ∷ 12 ∷ 15 ∷ 16 ∷ 17 ∷ 18 ∷ []) 14 tt o
-no-slot (Merged m) e o = true≢false (sym e)
-no-slot (RowBreak b) e o = true≢false (sym e)
-no-slot (ColumnBreak b) e o = true≢false (sym e)
-no-slot End e o = true≢false (sym e)
+no-slot r = no-kind isSlot (0 ∷ 1 ∷ 2 ∷ 3 ∷ 4 ∷ 5 ∷ 6 ∷ 7 ∷ 8 ∷ 9 ∷ 10 ∷ 11 ∷ 12 ∷ 15 ∷ 16 ∷ 17 ∷ 18 ∷ []) r refl
 
 pub no-break : (r : Record) → isBreak (rank r) ≡ true → OneOf (0 ∷ 1 ∷ 2 ∷ 3 ∷ 4 ∷ 5 ∷ 6 ∷ 7 ∷ 8 ∷ 9 ∷ 10 ∷ 11 ∷ 12 ∷ 13 ∷ 14 ∷ 15 ∷ 18 ∷ []) (tagOf R.the-type r) → ⊥
-no-break (Paper x) e o = true≢false (sym e)
-no-break Landscape e o = true≢false (sym e)
-no-break (Margin m) e o = true≢false (sym e)
-no-break (Scale x) e o = true≢false (sym e)
-no-break (Wide x) e o = true≢false (sym e)
-no-break (High x) e o = true≢false (sym e)
-no-break (Fit x) e o = true≢false (sym e)
-no-break (Order x) e o = true≢false (sym e)
-no-break Headings e o = true≢false (sym e)
-no-break (Limit x) e o = true≢false (sym e)
-no-break (Area a) e o = true≢false (sym e)
-no-break (TitleRows f l) e o = true≢false (sym e)
-no-break (TitleColumns f l) e o = true≢false (sym e)
-no-break (Row s) e o = true≢false (sym e)
-no-break (Column s) e o = true≢false (sym e)
-no-break (Merged m) e o = true≢false (sym e)
-no-break (RowBreak b) e o = miss (0 ∷ 1 ∷ 2 ∷ 3 ∷ 4 ∷ 5 ∷ 6 ∷ 7 ∷ 8 ∷ 9 ∷ 10 ∷ 11 ∷ 12 ∷ 13 ∷ 14 ∷ 15 ∷ 18 ∷ []) 16 tt o
-no-break (ColumnBreak b) e o = miss (0 ∷ 1 ∷ 2 ∷ 3 ∷ 4 ∷ 5 ∷ 6 ∷ 7 ∷ 8 ∷ 9 ∷ 10 ∷ 11 ∷ 12 ∷ 13 ∷ 14 ∷ 15 ∷ 18 ∷ []) 17 tt o
-no-break End e o = true≢false (sym e)
+no-break r = no-kind isBreak (0 ∷ 1 ∷ 2 ∷ 3 ∷ 4 ∷ 5 ∷ 6 ∷ 7 ∷ 8 ∷ 9 ∷ 10 ∷ 11 ∷ 12 ∷ 13 ∷ 14 ∷ 15 ∷ 18 ∷ []) r refl
