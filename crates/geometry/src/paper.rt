@@ -345,7 +345,10 @@ fn placed(
     footer_y: Length,
     invalid_margins: u64,
 ) -> Content
-    ensures { λ r. ⌜ Section.contentOutcome r ≡ Section.placed (lengthOutcome x) (lengthOutcome y) (lengthOutcome width) (lengthOutcome height) (lengthOutcome «header_y») (lengthOutcome «footer_y») «invalid_margins» ⌝ }
+    ensures { λ r. ⌜
+        Section.contentOutcome r ≡ Section.placed (lengthOutcome x) (lengthOutcome y) (lengthOutcome width) (lengthOutcome height)
+        (lengthOutcome «header_y») (lengthOutcome «footer_y») «invalid_margins»
+        ⌝ }
 {
     let Length::Value(x) = x else {
         return Content::CoordinateOverflow;

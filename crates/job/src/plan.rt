@@ -66,8 +66,27 @@ fn plan_read(
     column_run_sizes: &mut [u64],
     column_run_marks: &mut [u8],
 ) -> Planning
-    requires { ⌜ section.Filled reading (lists (now «row_indexes») (now «row_sizes») (now «column_indexes») (now «column_sizes») (now «merge_first_rows») (now «merge_first_columns») (now «merge_last_rows») (now «merge_last_columns») (now «row_breaks») (now «column_breaks»)) ⌝ }
-    ensures { λ r. ⌜ section.ReadPlanned reading (lists (now («row_indexes» .entry)) (now («row_sizes» .entry)) (now («column_indexes» .entry)) (now («column_sizes» .entry)) (now («merge_first_rows» .entry)) (now («merge_first_columns» .entry)) (now («merge_last_rows» .entry)) (now («merge_last_columns» .entry)) (now («row_breaks» .entry)) (now («column_breaks» .entry))) r (pages.runLists (now («row_run_firsts» .entry)) (now («row_run_lasts» .entry)) (now («row_run_sizes» .entry)) (now («row_run_marks» .entry))) (pages.runLists (now («column_run_firsts» .entry)) (now («column_run_lasts» .entry)) (now («column_run_sizes» .entry)) (now («column_run_marks» .entry))) (pages.runLists (now («row_run_firsts» .exit)) (now («row_run_lasts» .exit)) (now («row_run_sizes» .exit)) (now («row_run_marks» .exit))) (pages.runLists (now («column_run_firsts» .exit)) (now («column_run_lasts» .exit)) (now («column_run_sizes» .exit)) (now («column_run_marks» .exit))) ⌝ }
+    requires { ⌜
+        section.Filled reading
+        (lists (now «row_indexes») (now «row_sizes») (now «column_indexes») (now «column_sizes») (now «merge_first_rows»)
+        (now «merge_first_columns») (now «merge_last_rows») (now «merge_last_columns») (now «row_breaks») (now «column_breaks»))
+        ⌝ }
+    ensures { λ r. ⌜
+        section.ReadPlanned reading
+        (lists (now («row_indexes» .entry)) (now («row_sizes» .entry)) (now («column_indexes» .entry))
+        (now («column_sizes» .entry)) (now («merge_first_rows» .entry)) (now («merge_first_columns» .entry))
+        (now («merge_last_rows» .entry)) (now («merge_last_columns» .entry)) (now («row_breaks» .entry))
+        (now («column_breaks» .entry)))
+        r
+        (pages.runLists (now («row_run_firsts» .entry)) (now («row_run_lasts» .entry)) (now («row_run_sizes» .entry))
+        (now («row_run_marks» .entry)))
+        (pages.runLists (now («column_run_firsts» .entry)) (now («column_run_lasts» .entry)) (now («column_run_sizes» .entry))
+        (now («column_run_marks» .entry)))
+        (pages.runLists (now («row_run_firsts» .exit)) (now («row_run_lasts» .exit)) (now («row_run_sizes» .exit))
+        (now («row_run_marks» .exit)))
+        (pages.runLists (now («column_run_firsts» .exit)) (now («column_run_lasts» .exit)) (now («column_run_sizes» .exit))
+        (now («column_run_marks» .exit)))
+        ⌝ }
 {
     match reading {
         Reading::Refused(number) => Planning::Refused(number),
@@ -123,7 +142,17 @@ fn plan_small(
     column_run_marks: &mut [u8],
 ) -> Planning
     requires { ⌜ length (now bytes) ≤ 2100 ⌝ }
-    ensures { λ r. ⌜ section.EvenPlanned (now (bytes .entry)) r (pages.runLists (now («row_run_firsts» .entry)) (now («row_run_lasts» .entry)) (now («row_run_sizes» .entry)) (now («row_run_marks» .entry))) (pages.runLists (now («column_run_firsts» .entry)) (now («column_run_lasts» .entry)) (now («column_run_sizes» .entry)) (now («column_run_marks» .entry))) (pages.runLists (now («row_run_firsts» .exit)) (now («row_run_lasts» .exit)) (now («row_run_sizes» .exit)) (now («row_run_marks» .exit))) (pages.runLists (now («column_run_firsts» .exit)) (now («column_run_lasts» .exit)) (now («column_run_sizes» .exit)) (now («column_run_marks» .exit))) ⌝ }
+    ensures { λ r. ⌜
+        section.EvenPlanned (now (bytes .entry)) r
+        (pages.runLists (now («row_run_firsts» .entry)) (now («row_run_lasts» .entry)) (now («row_run_sizes» .entry))
+        (now («row_run_marks» .entry)))
+        (pages.runLists (now («column_run_firsts» .entry)) (now («column_run_lasts» .entry)) (now («column_run_sizes» .entry))
+        (now («column_run_marks» .entry)))
+        (pages.runLists (now («row_run_firsts» .exit)) (now («row_run_lasts» .exit)) (now («row_run_sizes» .exit))
+        (now («row_run_marks» .exit)))
+        (pages.runLists (now («column_run_firsts» .exit)) (now («column_run_lasts» .exit)) (now («column_run_sizes» .exit))
+        (now («column_run_marks» .exit)))
+        ⌝ }
 {
     let mut row_indexes = [0u32; SMALL_ROWS];
     let mut row_sizes = [0u64; SMALL_ROWS];
@@ -183,7 +212,17 @@ fn plan_large(
     column_run_sizes: &mut [u64],
     column_run_marks: &mut [u8],
 ) -> Planning
-    ensures { λ r. ⌜ section.EvenPlanned (now (bytes .entry)) r (pages.runLists (now («row_run_firsts» .entry)) (now («row_run_lasts» .entry)) (now («row_run_sizes» .entry)) (now («row_run_marks» .entry))) (pages.runLists (now («column_run_firsts» .entry)) (now («column_run_lasts» .entry)) (now («column_run_sizes» .entry)) (now («column_run_marks» .entry))) (pages.runLists (now («row_run_firsts» .exit)) (now («row_run_lasts» .exit)) (now («row_run_sizes» .exit)) (now («row_run_marks» .exit))) (pages.runLists (now («column_run_firsts» .exit)) (now («column_run_lasts» .exit)) (now («column_run_sizes» .exit)) (now («column_run_marks» .exit))) ⌝ }
+    ensures { λ r. ⌜
+        section.EvenPlanned (now (bytes .entry)) r
+        (pages.runLists (now («row_run_firsts» .entry)) (now («row_run_lasts» .entry)) (now («row_run_sizes» .entry))
+        (now («row_run_marks» .entry)))
+        (pages.runLists (now («column_run_firsts» .entry)) (now («column_run_lasts» .entry)) (now («column_run_sizes» .entry))
+        (now («column_run_marks» .entry)))
+        (pages.runLists (now («row_run_firsts» .exit)) (now («row_run_lasts» .exit)) (now («row_run_sizes» .exit))
+        (now («row_run_marks» .exit)))
+        (pages.runLists (now («column_run_firsts» .exit)) (now («column_run_lasts» .exit)) (now («column_run_sizes» .exit))
+        (now («column_run_marks» .exit)))
+        ⌝ }
 {
     let mut row_indexes = [0u32; ROWS];
     let mut row_sizes = [0u64; ROWS];
@@ -254,10 +293,42 @@ pub fn plan_job(
     column_run_sizes: &mut [u64],
     column_run_marks: &mut [u8],
 ) -> Planning
-    ensures planned { λ r. ⌜ call.Planned (section.planJob (now (bytes .entry)) (pages.runLists (now («row_run_firsts» .entry)) (now («row_run_lasts» .entry)) (now («row_run_sizes» .entry)) (now («row_run_marks» .entry))) (pages.runLists (now («column_run_firsts» .entry)) (now («column_run_lasts» .entry)) (now («column_run_sizes» .entry)) (now («column_run_marks» .entry)))) r (pages.runLists (now («row_run_firsts» .entry)) (now («row_run_lasts» .entry)) (now («row_run_sizes» .entry)) (now («row_run_marks» .entry))) (pages.runLists (now («column_run_firsts» .entry)) (now («column_run_lasts» .entry)) (now («column_run_sizes» .entry)) (now («column_run_marks» .entry))) (pages.runLists (now («row_run_firsts» .exit)) (now («row_run_lasts» .exit)) (now («row_run_sizes» .exit)) (now («row_run_marks» .exit))) (pages.runLists (now («column_run_firsts» .exit)) (now («column_run_lasts» .exit)) (now («column_run_sizes» .exit)) (now («column_run_marks» .exit))) ⌝ }
-    ensures covered { λ r. ⌜ CoversPairs r (section.jobRows (now (bytes .entry))) (section.jobColumns (now (bytes .entry))) (pages.runLists (now («row_run_firsts» .exit)) (now («row_run_lasts» .exit)) (now («row_run_sizes» .exit)) (now («row_run_marks» .exit))) (pages.runLists (now («column_run_firsts» .exit)) (now («column_run_lasts» .exit)) (now («column_run_sizes» .exit)) (now («column_run_marks» .exit))) ⌝ }
-    ensures fewest { λ r. ⌜ FewestPlan r (section.jobSettings (now (bytes .entry))) (section.jobRows (now (bytes .entry))) (section.jobColumns (now (bytes .entry))) (pages.runLists (now («row_run_firsts» .exit)) (now («row_run_lasts» .exit)) (now («row_run_sizes» .exit)) (now («row_run_marks» .exit))) (pages.runLists (now («column_run_firsts» .exit)) (now («column_run_lasts» .exit)) (now («column_run_sizes» .exit)) (now («column_run_marks» .exit))) ⌝ }
-    ensures largest { λ r. ⌜ LargestPlan r (section.jobSettings (now (bytes .entry))) (section.jobRows (now (bytes .entry))) (section.jobColumns (now (bytes .entry))) ⌝ }
+    ensures planned { λ r. ⌜
+        call.Planned
+        (section.planJob (now (bytes .entry))
+        (pages.runLists (now («row_run_firsts» .entry)) (now («row_run_lasts» .entry)) (now («row_run_sizes» .entry))
+        (now («row_run_marks» .entry)))
+        (pages.runLists (now («column_run_firsts» .entry)) (now («column_run_lasts» .entry))
+        (now («column_run_sizes» .entry)) (now («column_run_marks» .entry))))
+        r
+        (pages.runLists (now («row_run_firsts» .entry)) (now («row_run_lasts» .entry)) (now («row_run_sizes» .entry))
+        (now («row_run_marks» .entry)))
+        (pages.runLists (now («column_run_firsts» .entry)) (now («column_run_lasts» .entry)) (now («column_run_sizes» .entry))
+        (now («column_run_marks» .entry)))
+        (pages.runLists (now («row_run_firsts» .exit)) (now («row_run_lasts» .exit)) (now («row_run_sizes» .exit))
+        (now («row_run_marks» .exit)))
+        (pages.runLists (now («column_run_firsts» .exit)) (now («column_run_lasts» .exit)) (now («column_run_sizes» .exit))
+        (now («column_run_marks» .exit)))
+        ⌝ }
+    ensures covered { λ r. ⌜
+        CoversPairs r (section.jobRows (now (bytes .entry))) (section.jobColumns (now (bytes .entry)))
+        (pages.runLists (now («row_run_firsts» .exit)) (now («row_run_lasts» .exit)) (now («row_run_sizes» .exit))
+        (now («row_run_marks» .exit)))
+        (pages.runLists (now («column_run_firsts» .exit)) (now («column_run_lasts» .exit)) (now («column_run_sizes» .exit))
+        (now («column_run_marks» .exit)))
+        ⌝ }
+    ensures fewest { λ r. ⌜
+        FewestPlan r (section.jobSettings (now (bytes .entry))) (section.jobRows (now (bytes .entry)))
+        (section.jobColumns (now (bytes .entry)))
+        (pages.runLists (now («row_run_firsts» .exit)) (now («row_run_lasts» .exit)) (now («row_run_sizes» .exit))
+        (now («row_run_marks» .exit)))
+        (pages.runLists (now («column_run_firsts» .exit)) (now («column_run_lasts» .exit)) (now («column_run_sizes» .exit))
+        (now («column_run_marks» .exit)))
+        ⌝ }
+    ensures largest { λ r. ⌜
+        LargestPlan r (section.jobSettings (now (bytes .entry))) (section.jobRows (now (bytes .entry)))
+        (section.jobColumns (now (bytes .entry)))
+        ⌝ }
 {
     let rows_even = lists_even(
         row_run_firsts.len(),

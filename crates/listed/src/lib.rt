@@ -32,9 +32,27 @@ pub fn list_four(
     column_sizes: &[u64],
     column_marks: &[u8],
 ) -> Four
-    ensures { λ r. ⌜ (section.listOutcome (r .answer) ≡ section.listPages plan (section.runLists (now («row_firsts» .entry)) (now («row_lasts» .entry)) (now («row_sizes» .entry)) (now («row_marks» .entry))) (section.runLists (now («column_firsts» .entry)) (now («column_lasts» .entry)) (now («column_sizes» .entry)) (now («column_marks» .entry))) 4) ×
-        (r .pages ≡ section.pagesLent (section.listPages plan (section.runLists (now («row_firsts» .entry)) (now («row_lasts» .entry)) (now («row_sizes» .entry)) (now («row_marks» .entry))) (section.runLists (now («column_firsts» .entry)) (now («column_lasts» .entry)) (now («column_sizes» .entry)) (now («column_marks» .entry))) 4)
-        (section.pagesOf plan (section.runLists (now («row_firsts» .entry)) (now («row_lasts» .entry)) (now («row_sizes» .entry)) (now («row_marks» .entry))) (section.runLists (now («column_firsts» .entry)) (now («column_lasts» .entry)) (now («column_sizes» .entry)) (now («column_marks» .entry)))) list) ⌝ }
+    ensures { λ r. ⌜
+        (section.listOutcome (r .answer) ≡ section.listPages plan
+        (section.runLists (now («row_firsts» .entry)) (now («row_lasts» .entry)) (now («row_sizes» .entry))
+        (now («row_marks» .entry)))
+        (section.runLists (now («column_firsts» .entry)) (now («column_lasts» .entry)) (now («column_sizes» .entry))
+        (now («column_marks» .entry)))
+        4) ×
+        (r .pages ≡ section.pagesLent
+        (section.listPages plan
+        (section.runLists (now («row_firsts» .entry)) (now («row_lasts» .entry)) (now («row_sizes» .entry))
+        (now («row_marks» .entry)))
+        (section.runLists (now («column_firsts» .entry)) (now («column_lasts» .entry)) (now («column_sizes» .entry))
+        (now («column_marks» .entry)))
+        4)
+        (section.pagesOf plan
+        (section.runLists (now («row_firsts» .entry)) (now («row_lasts» .entry)) (now («row_sizes» .entry))
+        (now («row_marks» .entry)))
+        (section.runLists (now («column_firsts» .entry)) (now («column_lasts» .entry)) (now («column_sizes» .entry))
+        (now («column_marks» .entry))))
+        list)
+        ⌝ }
 {
     let answer = pages::list_pages(
         &mut list,

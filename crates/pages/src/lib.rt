@@ -41,7 +41,10 @@ fn run_at(
 ) -> PageRun
     requires { ⌜ Even (now firsts) (now lasts) (now sizes) (now marks) ⌝ }
     requires { ⌜ at < length (now firsts) ⌝ }
-    ensures { λ r. ⌜ r ≡ section.runAt (section.runLists (now (firsts .entry)) (now (lasts .entry)) (now (sizes .entry)) (now (marks .entry))) «empty_body» at ⌝ }
+    ensures { λ r. ⌜
+        r ≡ section.runAt (section.runLists (now (firsts .entry)) (now (lasts .entry)) (now (sizes .entry)) (now (marks .entry)))
+        «empty_body» at
+        ⌝ }
 {
     PageRun {
         first: firsts[at],
@@ -70,7 +73,11 @@ fn page_after(
     requires { ⌜ plan .«row_runs» ≤ length (now rfirsts) ⌝ }
     requires { ⌜ plan .«column_runs» ≤ length (now cfirsts) ⌝ }
     requires { ⌜ before < plan .«row_runs» * plan .«column_runs» ⌝ }
-    ensures { λ r. ⌜ r ≡ section.pageAfter plan (section.runLists (now (rfirsts .entry)) (now (rlasts .entry)) (now (rsizes .entry)) (now (rmarks .entry))) (section.runLists (now (cfirsts .entry)) (now (clasts .entry)) (now (csizes .entry)) (now (cmarks .entry))) before ⌝ }
+    ensures { λ r. ⌜
+        r ≡ section.pageAfter plan
+        (section.runLists (now (rfirsts .entry)) (now (rlasts .entry)) (now (rsizes .entry)) (now (rmarks .entry)))
+        (section.runLists (now (cfirsts .entry)) (now (clasts .entry)) (now (csizes .entry)) (now (cmarks .entry))) before
+        ⌝ }
 {
     let order = plan.order;
     let place = place_of(order, plan.row_runs, plan.column_runs, before);
@@ -150,7 +157,14 @@ pub fn page_numbered(
     column_sizes: &[u64],
     column_marks: &[u8],
 ) -> PageAnswer
-    ensures { λ r. ⌜ section.pageOutcome r ≡ section.pageNumbered plan (section.runLists (now («row_firsts» .entry)) (now («row_lasts» .entry)) (now («row_sizes» .entry)) (now («row_marks» .entry))) (section.runLists (now («column_firsts» .entry)) (now («column_lasts» .entry)) (now («column_sizes» .entry)) (now («column_marks» .entry))) number ⌝ }
+    ensures { λ r. ⌜
+        section.pageOutcome r ≡ section.pageNumbered plan
+        (section.runLists (now («row_firsts» .entry)) (now («row_lasts» .entry)) (now («row_sizes» .entry))
+        (now («row_marks» .entry)))
+        (section.runLists (now («column_firsts» .entry)) (now («column_lasts» .entry)) (now («column_sizes» .entry))
+        (now («column_marks» .entry)))
+        number
+        ⌝ }
 {
     let even = lists_even(
         row_firsts.len(),
@@ -208,7 +222,14 @@ fn listing(
     column_sizes: &[u64],
     column_marks: &[u8],
 ) -> Listing
-    ensures { λ r. ⌜ section.listOutcome r ≡ section.listPages plan (section.runLists (now («row_firsts» .entry)) (now («row_lasts» .entry)) (now («row_sizes» .entry)) (now («row_marks» .entry))) (section.runLists (now («column_firsts» .entry)) (now («column_lasts» .entry)) (now («column_sizes» .entry)) (now («column_marks» .entry))) room ⌝ }
+    ensures { λ r. ⌜
+        section.listOutcome r ≡ section.listPages plan
+        (section.runLists (now («row_firsts» .entry)) (now («row_lasts» .entry)) (now («row_sizes» .entry))
+        (now («row_marks» .entry)))
+        (section.runLists (now («column_firsts» .entry)) (now («column_lasts» .entry)) (now («column_sizes» .entry))
+        (now («column_marks» .entry)))
+        room
+        ⌝ }
 {
     let even = lists_even(
         row_firsts.len(),
@@ -257,9 +278,27 @@ pub fn list_pages(
     column_sizes: &[u64],
     column_marks: &[u8],
 ) -> Listing
-    ensures { λ r. ⌜ (section.listOutcome r ≡ section.listPages plan (section.runLists (now («row_firsts» .entry)) (now («row_lasts» .entry)) (now («row_sizes» .entry)) (now («row_marks» .entry))) (section.runLists (now («column_firsts» .entry)) (now («column_lasts» .entry)) (now («column_sizes» .entry)) (now («column_marks» .entry))) (length (now (pages .entry)))) ×
-        (now (pages .exit) ≡ section.pagesLent (section.listPages plan (section.runLists (now («row_firsts» .entry)) (now («row_lasts» .entry)) (now («row_sizes» .entry)) (now («row_marks» .entry))) (section.runLists (now («column_firsts» .entry)) (now («column_lasts» .entry)) (now («column_sizes» .entry)) (now («column_marks» .entry))) (length (now (pages .entry))))
-        (section.pagesOf plan (section.runLists (now («row_firsts» .entry)) (now («row_lasts» .entry)) (now («row_sizes» .entry)) (now («row_marks» .entry))) (section.runLists (now («column_firsts» .entry)) (now («column_lasts» .entry)) (now («column_sizes» .entry)) (now («column_marks» .entry)))) (now (pages .entry))) ⌝ }
+    ensures { λ r. ⌜
+        (section.listOutcome r ≡ section.listPages plan
+        (section.runLists (now («row_firsts» .entry)) (now («row_lasts» .entry)) (now («row_sizes» .entry))
+        (now («row_marks» .entry)))
+        (section.runLists (now («column_firsts» .entry)) (now («column_lasts» .entry)) (now («column_sizes» .entry))
+        (now («column_marks» .entry)))
+        (length (now (pages .entry)))) ×
+        (now (pages .exit) ≡ section.pagesLent
+        (section.listPages plan
+        (section.runLists (now («row_firsts» .entry)) (now («row_lasts» .entry)) (now («row_sizes» .entry))
+        (now («row_marks» .entry)))
+        (section.runLists (now («column_firsts» .entry)) (now («column_lasts» .entry)) (now («column_sizes» .entry))
+        (now («column_marks» .entry)))
+        (length (now (pages .entry))))
+        (section.pagesOf plan
+        (section.runLists (now («row_firsts» .entry)) (now («row_lasts» .entry)) (now («row_sizes» .entry))
+        (now («row_marks» .entry)))
+        (section.runLists (now («column_firsts» .entry)) (now («column_lasts» .entry)) (now («column_sizes» .entry))
+        (now («column_marks» .entry))))
+        (now (pages .entry)))
+        ⌝ }
 {
     let answer = listing(
         pages.len(),

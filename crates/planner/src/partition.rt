@@ -32,7 +32,19 @@ fn partition_slots(
 ) -> Partition
     requires { ⌜ Slots (now indexes) (now sizes) ⌝ }
     requires { ⌜ call.Even (now «run_firsts») (now «run_lasts») (now «run_sizes») (now «run_marks») ⌝ }
-    ensures { λ r. ⌜ call.Answered (call.roomFor (axisRuns frame (now («merge_firsts» .entry)) (now («merge_lasts» .entry)) (now (indexes .entry)) (now (sizes .entry)) 0 (now (breaks .entry))) (axisTally frame (now («merge_firsts» .entry)) (now («merge_lasts» .entry)) (now (indexes .entry)) (now (sizes .entry)) (now (breaks .entry))) (length (now («run_firsts» .entry)))) (axisRuns frame (now («merge_firsts» .entry)) (now («merge_lasts» .entry)) (now (indexes .entry)) (now (sizes .entry)) 0 (now (breaks .entry))) r (now («run_firsts» .entry)) (now («run_lasts» .entry)) (now («run_sizes» .entry)) (now («run_marks» .entry)) (now («run_firsts» .exit)) (now («run_lasts» .exit)) (now («run_sizes» .exit)) (now («run_marks» .exit)) ⌝ }
+    ensures { λ r. ⌜
+        call.Answered
+        (call.roomFor
+        (axisRuns frame (now («merge_firsts» .entry)) (now («merge_lasts» .entry)) (now (indexes .entry))
+        (now (sizes .entry)) 0 (now (breaks .entry)))
+        (axisTally frame (now («merge_firsts» .entry)) (now («merge_lasts» .entry)) (now (indexes .entry))
+        (now (sizes .entry)) (now (breaks .entry)))
+        (length (now («run_firsts» .entry))))
+        (axisRuns frame (now («merge_firsts» .entry)) (now («merge_lasts» .entry)) (now (indexes .entry)) (now (sizes .entry)) 0
+        (now (breaks .entry)))
+        r (now («run_firsts» .entry)) (now («run_lasts» .entry)) (now («run_sizes» .entry)) (now («run_marks» .entry))
+        (now («run_firsts» .exit)) (now («run_lasts» .exit)) (now («run_sizes» .exit)) (now («run_marks» .exit))
+        ⌝ }
 {
     let tally = count_axis(frame, merge_firsts, merge_lasts, breaks, indexes, sizes);
     if tally.runs > run_firsts.len() {
@@ -68,7 +80,15 @@ fn partition_body(
 ) -> Partition
     requires { ⌜ Slots (now indexes) (now sizes) ⌝ }
     requires { ⌜ call.Even (now «run_firsts») (now «run_lasts») (now «run_sizes») (now «run_marks») ⌝ }
-    ensures { λ r. ⌜ call.Answered (call.fits setup (now (indexes .entry)) (now (sizes .entry)) (now («merge_firsts» .entry)) (now («merge_lasts» .entry)) (now (breaks .entry)) (length (now («run_firsts» .entry)))) (call.bodyRuns setup (now (indexes .entry)) (now (sizes .entry)) (now («merge_firsts» .entry)) (now («merge_lasts» .entry)) (now (breaks .entry))) r (now («run_firsts» .entry)) (now («run_lasts» .entry)) (now («run_sizes» .entry)) (now («run_marks» .entry)) (now («run_firsts» .exit)) (now («run_lasts» .exit)) (now («run_sizes» .exit)) (now («run_marks» .exit)) ⌝ }
+    ensures { λ r. ⌜
+        call.Answered
+        (call.fits setup (now (indexes .entry)) (now (sizes .entry)) (now («merge_firsts» .entry)) (now («merge_lasts» .entry))
+        (now (breaks .entry)) (length (now («run_firsts» .entry))))
+        (call.bodyRuns setup (now (indexes .entry)) (now (sizes .entry)) (now («merge_firsts» .entry))
+        (now («merge_lasts» .entry)) (now (breaks .entry)))
+        r (now («run_firsts» .entry)) (now («run_lasts» .entry)) (now («run_sizes» .entry)) (now («run_marks» .entry))
+        (now («run_firsts» .exit)) (now («run_lasts» .exit)) (now («run_sizes» .exit)) (now («run_marks» .exit))
+        ⌝ }
 {
     let first = setup.first;
     let last = setup.last;
@@ -119,7 +139,16 @@ pub fn partition_axis_with_breaks(
     run_sizes: &mut [u64],
     run_marks: &mut [u8],
 ) -> Partition
-    ensures { λ r. ⌜ call.Answered (call.partition (limitOf axis) setup (now (indexes .entry)) (now (sizes .entry)) (now («merge_firsts» .entry)) (now («merge_lasts» .entry)) (now (breaks .entry)) (now («run_firsts» .entry)) (now («run_lasts» .entry)) (now («run_sizes» .entry)) (now («run_marks» .entry))) (call.bodyRuns setup (now (indexes .entry)) (now (sizes .entry)) (now («merge_firsts» .entry)) (now («merge_lasts» .entry)) (now (breaks .entry))) r (now («run_firsts» .entry)) (now («run_lasts» .entry)) (now («run_sizes» .entry)) (now («run_marks» .entry)) (now («run_firsts» .exit)) (now («run_lasts» .exit)) (now («run_sizes» .exit)) (now («run_marks» .exit)) ⌝ }
+    ensures { λ r. ⌜
+        call.Answered
+        (call.partition (limitOf axis) setup (now (indexes .entry)) (now (sizes .entry)) (now («merge_firsts» .entry))
+        (now («merge_lasts» .entry)) (now (breaks .entry)) (now («run_firsts» .entry)) (now («run_lasts» .entry))
+        (now («run_sizes» .entry)) (now («run_marks» .entry)))
+        (call.bodyRuns setup (now (indexes .entry)) (now (sizes .entry)) (now («merge_firsts» .entry))
+        (now («merge_lasts» .entry)) (now (breaks .entry)))
+        r (now («run_firsts» .entry)) (now («run_lasts» .entry)) (now («run_sizes» .entry)) (now («run_marks» .entry))
+        (now («run_firsts» .exit)) (now («run_lasts» .exit)) (now («run_sizes» .exit)) (now («run_marks» .exit))
+        ⌝ }
 {
     let lent_even = lists_even(
         run_firsts.len(),

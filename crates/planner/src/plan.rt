@@ -113,7 +113,15 @@ fn choose_scale(
 ) -> ChosenScale
     requires { ⌜ call.Cuttable rows (now «row_indexes») (now «row_sizes») ⌝ }
     requires { ⌜ call.Cuttable columns (now «column_indexes») (now «column_sizes») ⌝ }
-    ensures { λ r. ⌜ scaleOf r ≡ cond (settings .fit) (fitScale (λ p. fitPasses (rows .fit) (now («merge_first_rows» .entry)) (now («merge_last_rows» .entry)) (call.within rows (now («row_indexes» .entry))) (call.within rows (now («row_sizes» .entry))) p && fitPasses (columns .fit) (now («merge_first_columns» .entry)) (now («merge_last_columns» .entry)) (call.within columns (now («column_indexes» .entry))) (call.within columns (now («column_sizes» .entry))) p)) (fixedScale (settings .percent)) ⌝ }
+    ensures { λ r. ⌜
+        scaleOf r ≡ cond (settings .fit)
+        (fitScale
+        (λ p. fitPasses (rows .fit) (now («merge_first_rows» .entry)) (now («merge_last_rows» .entry))
+        (call.within rows (now («row_indexes» .entry))) (call.within rows (now («row_sizes» .entry))) p && fitPasses
+        (columns .fit) (now («merge_first_columns» .entry)) (now («merge_last_columns» .entry))
+        (call.within columns (now («column_indexes» .entry))) (call.within columns (now («column_sizes» .entry))) p))
+        (fixedScale (settings .percent))
+        ⌝ }
 {
     if settings.fit {
         let row_fit = rows.fit;
@@ -150,7 +158,13 @@ fn count_cut(
     sizes: &[u64],
 ) -> FinalCut
     requires { ⌜ call.Cuttable ready (now indexes) (now sizes) ⌝ }
-    ensures { λ r. ⌜ r ≡ call.cutOf (call.readyRuns ready permille (now (indexes .entry)) (now (sizes .entry)) (now («merge_firsts» .entry)) (now («merge_lasts» .entry)) (now (breaks .entry))) (call.readyShifts ready permille (now (indexes .entry)) (now («merge_firsts» .entry)) (now («merge_lasts» .entry)) (now (breaks .entry))) ⌝ }
+    ensures { λ r. ⌜
+        r ≡ call.cutOf
+        (call.readyRuns ready permille (now (indexes .entry)) (now (sizes .entry)) (now («merge_firsts» .entry))
+        (now («merge_lasts» .entry)) (now (breaks .entry)))
+        (call.readyShifts ready permille (now (indexes .entry)) (now («merge_firsts» .entry)) (now («merge_lasts» .entry))
+        (now (breaks .entry)))
+        ⌝ }
     ensures { λ r. ⌜ (r .runs ≤ 2 ^ 20) × (r .expansions ≤ 2 ^ 20) × (r .shifts ≤ length (now (breaks .entry))) ⌝ }
 {
     let fit = ready.fit;
@@ -177,7 +191,11 @@ fn write_empty(
     run_marks: &mut [u8],
 )
     requires { ⌜ Room (orEmpty first []) (now «run_firsts») (now «run_lasts») (now «run_sizes») (now «run_marks») ⌝ }
-    ensures { λ _. ⌜ Written (orEmpty first []) 1 (now («run_firsts» .entry)) (now («run_lasts» .entry)) (now («run_sizes» .entry)) (now («run_marks» .entry)) (now («run_firsts» .exit)) (now («run_lasts» .exit)) (now («run_sizes» .exit)) (now («run_marks» .exit)) ⌝ }
+    ensures { λ _. ⌜
+        Written (orEmpty first []) 1 (now («run_firsts» .entry)) (now («run_lasts» .entry)) (now («run_sizes» .entry))
+        (now («run_marks» .entry)) (now («run_firsts» .exit)) (now («run_lasts» .exit)) (now («run_sizes» .exit))
+        (now («run_marks» .exit))
+        ⌝ }
 {
     run_firsts[0] = first;
     run_lasts[0] = first;
@@ -202,8 +220,22 @@ fn write_page_runs(
 )
     requires { ⌜ Slots (now indexes) (now sizes) ⌝ }
     requires { ⌜ empty ≡ none (axisRuns frame (now «merge_firsts») (now «merge_lasts») (now indexes) (now sizes) 0 (now breaks)) ⌝ }
-    requires { ⌜ Room (orEmpty first (axisRuns frame (now «merge_firsts») (now «merge_lasts») (now indexes) (now sizes) 0 (now breaks))) (now «run_firsts») (now «run_lasts») (now «run_sizes») (now «run_marks») ⌝ }
-    ensures { λ _. ⌜ Written (orEmpty first (axisRuns frame (now («merge_firsts» .entry)) (now («merge_lasts» .entry)) (now (indexes .entry)) (now (sizes .entry)) 0 (now (breaks .entry)))) (length (orEmpty first (axisRuns frame (now («merge_firsts» .entry)) (now («merge_lasts» .entry)) (now (indexes .entry)) (now (sizes .entry)) 0 (now (breaks .entry))))) (now («run_firsts» .entry)) (now («run_lasts» .entry)) (now («run_sizes» .entry)) (now («run_marks» .entry)) (now («run_firsts» .exit)) (now («run_lasts» .exit)) (now («run_sizes» .exit)) (now («run_marks» .exit)) ⌝ }
+    requires { ⌜
+        Room (orEmpty first (axisRuns frame (now «merge_firsts») (now «merge_lasts») (now indexes) (now sizes) 0 (now breaks)))
+        (now «run_firsts») (now «run_lasts») (now «run_sizes») (now «run_marks»)
+        ⌝ }
+    ensures { λ _. ⌜
+        Written
+        (orEmpty first
+        (axisRuns frame (now («merge_firsts» .entry)) (now («merge_lasts» .entry)) (now (indexes .entry))
+        (now (sizes .entry)) 0 (now (breaks .entry))))
+        (length
+        (orEmpty first
+        (axisRuns frame (now («merge_firsts» .entry)) (now («merge_lasts» .entry)) (now (indexes .entry))
+        (now (sizes .entry)) 0 (now (breaks .entry)))))
+        (now («run_firsts» .entry)) (now («run_lasts» .entry)) (now («run_sizes» .entry)) (now («run_marks» .entry))
+        (now («run_firsts» .exit)) (now («run_lasts» .exit)) (now («run_sizes» .exit)) (now («run_marks» .exit))
+        ⌝ }
 {
     if empty {
         write_empty(first, run_firsts, run_lasts, run_sizes, run_marks);
@@ -240,10 +272,39 @@ fn write_cut(
     run_marks: &mut [u8],
 ) -> u64
     requires { ⌜ call.Cuttable ready (now indexes) (now sizes) ⌝ }
-    requires { ⌜ cut ≡ call.cutOf (call.readyRuns ready permille (now indexes) (now sizes) (now «merge_firsts») (now «merge_lasts») (now breaks)) (call.readyShifts ready permille (now indexes) (now «merge_firsts») (now «merge_lasts») (now breaks)) ⌝ }
-    requires { ⌜ Room (orEmpty first (call.readyRuns ready permille (now indexes) (now sizes) (now «merge_firsts») (now «merge_lasts») (now breaks))) (now «run_firsts») (now «run_lasts») (now «run_sizes») (now «run_marks») ⌝ }
-    ensures { λ r. ⌜ Written (orEmpty first (call.readyRuns ready permille (now (indexes .entry)) (now (sizes .entry)) (now («merge_firsts» .entry)) (now («merge_lasts» .entry)) (now (breaks .entry)))) (cut .runs) (now («run_firsts» .entry)) (now («run_lasts» .entry)) (now («run_sizes» .entry)) (now («run_marks» .entry)) (now («run_firsts» .exit)) (now («run_lasts» .exit)) (now («run_sizes» .exit)) (now («run_marks» .exit)) ⌝ }
-    ensures { λ r. ⌜ r ≡ overflowing (spaceOf (ready .fit .page)) (ready .fit .stretch .title) permille (none (call.readyRuns ready permille (now (indexes .entry)) (now (sizes .entry)) (now («merge_firsts» .entry)) (now («merge_lasts» .entry)) (now (breaks .entry)))) (lists.firsts (orEmpty first (call.readyRuns ready permille (now (indexes .entry)) (now (sizes .entry)) (now («merge_firsts» .entry)) (now («merge_lasts» .entry)) (now (breaks .entry))))) (lists.sizes (orEmpty first (call.readyRuns ready permille (now (indexes .entry)) (now (sizes .entry)) (now («merge_firsts» .entry)) (now («merge_lasts» .entry)) (now (breaks .entry))))) ⌝ }
+    requires { ⌜
+        cut ≡ call.cutOf
+        (call.readyRuns ready permille (now indexes) (now sizes) (now «merge_firsts») (now «merge_lasts») (now breaks))
+        (call.readyShifts ready permille (now indexes) (now «merge_firsts») (now «merge_lasts») (now breaks))
+        ⌝ }
+    requires { ⌜
+        Room
+        (orEmpty first
+        (call.readyRuns ready permille (now indexes) (now sizes) (now «merge_firsts») (now «merge_lasts») (now breaks)))
+        (now «run_firsts») (now «run_lasts») (now «run_sizes») (now «run_marks»)
+        ⌝ }
+    ensures { λ r. ⌜
+        Written
+        (orEmpty first
+        (call.readyRuns ready permille (now (indexes .entry)) (now (sizes .entry)) (now («merge_firsts» .entry))
+        (now («merge_lasts» .entry)) (now (breaks .entry))))
+        (cut .runs) (now («run_firsts» .entry)) (now («run_lasts» .entry)) (now («run_sizes» .entry)) (now («run_marks» .entry))
+        (now («run_firsts» .exit)) (now («run_lasts» .exit)) (now («run_sizes» .exit)) (now («run_marks» .exit))
+        ⌝ }
+    ensures { λ r. ⌜
+        r ≡ overflowing (spaceOf (ready .fit .page)) (ready .fit .stretch .title) permille
+        (none
+        (call.readyRuns ready permille (now (indexes .entry)) (now (sizes .entry)) (now («merge_firsts» .entry))
+        (now («merge_lasts» .entry)) (now (breaks .entry))))
+        (lists.firsts
+        (orEmpty first
+        (call.readyRuns ready permille (now (indexes .entry)) (now (sizes .entry)) (now («merge_firsts» .entry))
+        (now («merge_lasts» .entry)) (now (breaks .entry)))))
+        (lists.sizes
+        (orEmpty first
+        (call.readyRuns ready permille (now (indexes .entry)) (now (sizes .entry)) (now («merge_firsts» .entry))
+        (now («merge_lasts» .entry)) (now (breaks .entry)))))
+        ⌝ }
 {
     let fit = ready.fit;
     let page = fit.page;
@@ -289,7 +350,21 @@ fn notes_of(
     column_overflows: u64,
 ) -> Notes
     requires { ⌜ call.Addable rows columns «row_cut» «column_cut» «row_overflows» «column_overflows» ⌝ }
-    ensures { λ r. ⌜ r ≡ record { «unknown_paper» = sides .unknown; «invalid_margins» = sides .invalid; «scale_clamped» = scale .clamp; «fit_unreachable» = scale .unreachable; «titles_ignored» = rows .ignored + columns .ignored; «titles_expanded» = rows .expanded + columns .expanded; «merge_expansions» = «row_cut» .expansions + «column_cut» .expansions; «break_shifts» = «row_cut» .shifts + «column_cut» .shifts; «overflowing_runs» = «row_overflows» + «column_overflows» } ⌝ }
+    ensures { λ r. ⌜
+        r ≡ record {
+          «unknown_paper» = sides .unknown;
+          «invalid_margins» = sides .invalid;
+          «scale_clamped» = scale .clamp;
+          «fit_unreachable» = scale .unreachable;
+          «titles_ignored» = rows .ignored + columns .ignored;
+          «titles_expanded» = rows
+              .expanded + columns .expanded;
+          «merge_expansions» = «row_cut» .expansions + «column_cut» .expansions;
+          «break_shifts» =
+              «row_cut» .shifts + «column_cut» .shifts;
+          «overflowing_runs» = «row_overflows» + «column_overflows»;
+        }
+        ⌝ }
 {
     Notes {
         unknown_paper: sides.unknown,
@@ -334,11 +409,38 @@ fn plan_cut(
 ) -> Planning
     requires { ⌜ call.Fine «row_axis» (now «row_indexes») (now «row_sizes») (now «merge_first_rows») (now «merge_last_rows») ⌝ }
     requires { ⌜ call.Fine «column_axis» (now «column_indexes») (now «column_sizes») (now «merge_first_columns») (now «merge_last_columns») ⌝ }
-    requires { ⌜ call.ReadyFor rows (sides .height .0) (call.axisFor «row_axis» (now «row_indexes») (now «row_sizes») (now «merge_first_rows») (now «merge_last_rows») (now «row_breaks»)) ⌝ }
-    requires { ⌜ call.ReadyFor columns (sides .width .0) (call.axisFor «column_axis» (now «column_indexes») (now «column_sizes») (now «merge_first_columns») (now «merge_last_columns») (now «column_breaks»)) ⌝ }
+    requires { ⌜
+        call.ReadyFor rows (sides .height .0)
+        (call.axisFor «row_axis» (now «row_indexes») (now «row_sizes») (now «merge_first_rows») (now «merge_last_rows»)
+        (now «row_breaks»))
+        ⌝ }
+    requires { ⌜
+        call.ReadyFor columns (sides .width .0)
+        (call.axisFor «column_axis» (now «column_indexes») (now «column_sizes») (now «merge_first_columns»)
+        (now «merge_last_columns») (now «column_breaks»))
+        ⌝ }
     requires { ⌜ Even (now «row_run_firsts») (now «row_run_lasts») (now «row_run_sizes») (now «row_run_marks») ⌝ }
     requires { ⌜ Even (now «column_run_firsts») (now «column_run_lasts») (now «column_run_sizes») (now «column_run_marks») ⌝ }
-    ensures { λ r. ⌜ call.Planned (call.roomFor (call.layoutAt settings (call.sidesOf sides) (call.axisFor «row_axis» (now («row_indexes» .entry)) (now («row_sizes» .entry)) (now («merge_first_rows» .entry)) (now («merge_last_rows» .entry)) (now («row_breaks» .entry))) (call.axisFor «column_axis» (now («column_indexes» .entry)) (now («column_sizes» .entry)) (now («merge_first_columns» .entry)) (now («merge_last_columns» .entry)) (now («column_breaks» .entry))) (scaleOf scale)) (length (now («row_run_firsts» .entry))) (length (now («column_run_firsts» .entry))) (settings .«page_limit»)) r (pages.runLists (now («row_run_firsts» .entry)) (now («row_run_lasts» .entry)) (now («row_run_sizes» .entry)) (now («row_run_marks» .entry))) (pages.runLists (now («column_run_firsts» .entry)) (now («column_run_lasts» .entry)) (now («column_run_sizes» .entry)) (now («column_run_marks» .entry))) (pages.runLists (now («row_run_firsts» .exit)) (now («row_run_lasts» .exit)) (now («row_run_sizes» .exit)) (now («row_run_marks» .exit))) (pages.runLists (now («column_run_firsts» .exit)) (now («column_run_lasts» .exit)) (now («column_run_sizes» .exit)) (now («column_run_marks» .exit))) ⌝ }
+    ensures { λ r. ⌜
+        call.Planned
+        (call.roomFor
+        (call.layoutAt settings (call.sidesOf sides)
+        (call.axisFor «row_axis» (now («row_indexes» .entry)) (now («row_sizes» .entry))
+        (now («merge_first_rows» .entry)) (now («merge_last_rows» .entry)) (now («row_breaks» .entry)))
+        (call.axisFor «column_axis» (now («column_indexes» .entry)) (now («column_sizes» .entry))
+        (now («merge_first_columns» .entry)) (now («merge_last_columns» .entry)) (now («column_breaks» .entry)))
+        (scaleOf scale))
+        (length (now («row_run_firsts» .entry))) (length (now («column_run_firsts» .entry))) (settings .«page_limit»))
+        r
+        (pages.runLists (now («row_run_firsts» .entry)) (now («row_run_lasts» .entry)) (now («row_run_sizes» .entry))
+        (now («row_run_marks» .entry)))
+        (pages.runLists (now («column_run_firsts» .entry)) (now («column_run_lasts» .entry)) (now («column_run_sizes» .entry))
+        (now («column_run_marks» .entry)))
+        (pages.runLists (now («row_run_firsts» .exit)) (now («row_run_lasts» .exit)) (now («row_run_sizes» .exit))
+        (now («row_run_marks» .exit)))
+        (pages.runLists (now («column_run_firsts» .exit)) (now («column_run_lasts» .exit)) (now («column_run_sizes» .exit))
+        (now («column_run_marks» .exit)))
+        ⌝ }
 {
     let permille = scale.permille;
     let row_cut = count_cut(
@@ -450,7 +552,25 @@ fn plan_axes(
     requires { ⌜ call.Fine «column_axis» (now «column_indexes») (now «column_sizes») (now «merge_first_columns») (now «merge_last_columns») ⌝ }
     requires { ⌜ Even (now «row_run_firsts») (now «row_run_lasts») (now «row_run_sizes») (now «row_run_marks») ⌝ }
     requires { ⌜ Even (now «column_run_firsts») (now «column_run_lasts») (now «column_run_sizes») (now «column_run_marks») ⌝ }
-    ensures { λ r. ⌜ call.Planned (call.roomFor (call.layout settings (call.sidesOf sides) (call.axisFor «row_axis» (now («row_indexes» .entry)) (now («row_sizes» .entry)) (now («merge_first_rows» .entry)) (now («merge_last_rows» .entry)) (now («row_breaks» .entry))) (call.axisFor «column_axis» (now («column_indexes» .entry)) (now («column_sizes» .entry)) (now («merge_first_columns» .entry)) (now («merge_last_columns» .entry)) (now («column_breaks» .entry)))) (length (now («row_run_firsts» .entry))) (length (now («column_run_firsts» .entry))) (settings .«page_limit»)) r (pages.runLists (now («row_run_firsts» .entry)) (now («row_run_lasts» .entry)) (now («row_run_sizes» .entry)) (now («row_run_marks» .entry))) (pages.runLists (now («column_run_firsts» .entry)) (now («column_run_lasts» .entry)) (now («column_run_sizes» .entry)) (now («column_run_marks» .entry))) (pages.runLists (now («row_run_firsts» .exit)) (now («row_run_lasts» .exit)) (now («row_run_sizes» .exit)) (now («row_run_marks» .exit))) (pages.runLists (now («column_run_firsts» .exit)) (now («column_run_lasts» .exit)) (now («column_run_sizes» .exit)) (now («column_run_marks» .exit))) ⌝ }
+    ensures { λ r. ⌜
+        call.Planned
+        (call.roomFor
+        (call.layout settings (call.sidesOf sides)
+        (call.axisFor «row_axis» (now («row_indexes» .entry)) (now («row_sizes» .entry))
+        (now («merge_first_rows» .entry)) (now («merge_last_rows» .entry)) (now («row_breaks» .entry)))
+        (call.axisFor «column_axis» (now («column_indexes» .entry)) (now («column_sizes» .entry))
+        (now («merge_first_columns» .entry)) (now («merge_last_columns» .entry)) (now («column_breaks» .entry))))
+        (length (now («row_run_firsts» .entry))) (length (now («column_run_firsts» .entry))) (settings .«page_limit»))
+        r
+        (pages.runLists (now («row_run_firsts» .entry)) (now («row_run_lasts» .entry)) (now («row_run_sizes» .entry))
+        (now («row_run_marks» .entry)))
+        (pages.runLists (now («column_run_firsts» .entry)) (now («column_run_lasts» .entry)) (now («column_run_sizes» .entry))
+        (now («column_run_marks» .entry)))
+        (pages.runLists (now («row_run_firsts» .exit)) (now («row_run_lasts» .exit)) (now («row_run_sizes» .exit))
+        (now («row_run_marks» .exit)))
+        (pages.runLists (now («column_run_firsts» .exit)) (now («column_run_lasts» .exit)) (now («column_run_sizes» .exit))
+        (now («column_run_marks» .exit)))
+        ⌝ }
 {
     let height = sides.height;
     let width = sides.width;
@@ -537,10 +657,56 @@ pub fn plan_pages(
     column_run_sizes: &mut [u64],
     column_run_marks: &mut [u8],
 ) -> Planning
-    ensures planned { λ r. ⌜ call.Planned (call.planned settings (call.rowsOf settings range «row_title» (now («row_indexes» .entry)) (now («row_sizes» .entry)) (now («merge_first_rows» .entry)) (now («merge_last_rows» .entry)) (now («row_breaks» .entry))) (call.columnsOf settings range «column_title» (now («column_indexes» .entry)) (now («column_sizes» .entry)) (now («merge_first_columns» .entry)) (now («merge_last_columns» .entry)) (now («column_breaks» .entry))) (pages.runLists (now («row_run_firsts» .entry)) (now («row_run_lasts» .entry)) (now («row_run_sizes» .entry)) (now («row_run_marks» .entry))) (pages.runLists (now («column_run_firsts» .entry)) (now («column_run_lasts» .entry)) (now («column_run_sizes» .entry)) (now («column_run_marks» .entry)))) r (pages.runLists (now («row_run_firsts» .entry)) (now («row_run_lasts» .entry)) (now («row_run_sizes» .entry)) (now («row_run_marks» .entry))) (pages.runLists (now («column_run_firsts» .entry)) (now («column_run_lasts» .entry)) (now («column_run_sizes» .entry)) (now («column_run_marks» .entry))) (pages.runLists (now («row_run_firsts» .exit)) (now («row_run_lasts» .exit)) (now («row_run_sizes» .exit)) (now («row_run_marks» .exit))) (pages.runLists (now («column_run_firsts» .exit)) (now («column_run_lasts» .exit)) (now («column_run_sizes» .exit)) (now («column_run_marks» .exit))) ⌝ }
-    ensures covered { λ r. ⌜ CoversPairs r (call.rowsOf settings range «row_title» (now («row_indexes» .entry)) (now («row_sizes» .entry)) (now («merge_first_rows» .entry)) (now («merge_last_rows» .entry)) (now («row_breaks» .entry))) (call.columnsOf settings range «column_title» (now («column_indexes» .entry)) (now («column_sizes» .entry)) (now («merge_first_columns» .entry)) (now («merge_last_columns» .entry)) (now («column_breaks» .entry))) (pages.runLists (now («row_run_firsts» .exit)) (now («row_run_lasts» .exit)) (now («row_run_sizes» .exit)) (now («row_run_marks» .exit))) (pages.runLists (now («column_run_firsts» .exit)) (now («column_run_lasts» .exit)) (now («column_run_sizes» .exit)) (now («column_run_marks» .exit))) ⌝ }
-    ensures fewest { λ r. ⌜ FewestPlan r settings (call.rowsOf settings range «row_title» (now («row_indexes» .entry)) (now («row_sizes» .entry)) (now («merge_first_rows» .entry)) (now («merge_last_rows» .entry)) (now («row_breaks» .entry))) (call.columnsOf settings range «column_title» (now («column_indexes» .entry)) (now («column_sizes» .entry)) (now («merge_first_columns» .entry)) (now («merge_last_columns» .entry)) (now («column_breaks» .entry))) (pages.runLists (now («row_run_firsts» .exit)) (now («row_run_lasts» .exit)) (now («row_run_sizes» .exit)) (now («row_run_marks» .exit))) (pages.runLists (now («column_run_firsts» .exit)) (now («column_run_lasts» .exit)) (now («column_run_sizes» .exit)) (now («column_run_marks» .exit))) ⌝ }
-    ensures largest { λ r. ⌜ LargestPlan r settings (call.rowsOf settings range «row_title» (now («row_indexes» .entry)) (now («row_sizes» .entry)) (now («merge_first_rows» .entry)) (now («merge_last_rows» .entry)) (now («row_breaks» .entry))) (call.columnsOf settings range «column_title» (now («column_indexes» .entry)) (now («column_sizes» .entry)) (now («merge_first_columns» .entry)) (now («merge_last_columns» .entry)) (now («column_breaks» .entry))) ⌝ }
+    ensures planned { λ r. ⌜
+        call.Planned
+        (call.planned settings
+        (call.rowsOf settings range «row_title» (now («row_indexes» .entry)) (now («row_sizes» .entry))
+        (now («merge_first_rows» .entry)) (now («merge_last_rows» .entry)) (now («row_breaks» .entry)))
+        (call.columnsOf settings range «column_title» (now («column_indexes» .entry)) (now («column_sizes» .entry))
+        (now («merge_first_columns» .entry)) (now («merge_last_columns» .entry)) (now («column_breaks» .entry)))
+        (pages.runLists (now («row_run_firsts» .entry)) (now («row_run_lasts» .entry)) (now («row_run_sizes» .entry))
+        (now («row_run_marks» .entry)))
+        (pages.runLists (now («column_run_firsts» .entry)) (now («column_run_lasts» .entry))
+        (now («column_run_sizes» .entry)) (now («column_run_marks» .entry))))
+        r
+        (pages.runLists (now («row_run_firsts» .entry)) (now («row_run_lasts» .entry)) (now («row_run_sizes» .entry))
+        (now («row_run_marks» .entry)))
+        (pages.runLists (now («column_run_firsts» .entry)) (now («column_run_lasts» .entry)) (now («column_run_sizes» .entry))
+        (now («column_run_marks» .entry)))
+        (pages.runLists (now («row_run_firsts» .exit)) (now («row_run_lasts» .exit)) (now («row_run_sizes» .exit))
+        (now («row_run_marks» .exit)))
+        (pages.runLists (now («column_run_firsts» .exit)) (now («column_run_lasts» .exit)) (now («column_run_sizes» .exit))
+        (now («column_run_marks» .exit)))
+        ⌝ }
+    ensures covered { λ r. ⌜
+        CoversPairs r
+        (call.rowsOf settings range «row_title» (now («row_indexes» .entry)) (now («row_sizes» .entry))
+        (now («merge_first_rows» .entry)) (now («merge_last_rows» .entry)) (now («row_breaks» .entry)))
+        (call.columnsOf settings range «column_title» (now («column_indexes» .entry)) (now («column_sizes» .entry))
+        (now («merge_first_columns» .entry)) (now («merge_last_columns» .entry)) (now («column_breaks» .entry)))
+        (pages.runLists (now («row_run_firsts» .exit)) (now («row_run_lasts» .exit)) (now («row_run_sizes» .exit))
+        (now («row_run_marks» .exit)))
+        (pages.runLists (now («column_run_firsts» .exit)) (now («column_run_lasts» .exit)) (now («column_run_sizes» .exit))
+        (now («column_run_marks» .exit)))
+        ⌝ }
+    ensures fewest { λ r. ⌜
+        FewestPlan r settings
+        (call.rowsOf settings range «row_title» (now («row_indexes» .entry)) (now («row_sizes» .entry))
+        (now («merge_first_rows» .entry)) (now («merge_last_rows» .entry)) (now («row_breaks» .entry)))
+        (call.columnsOf settings range «column_title» (now («column_indexes» .entry)) (now («column_sizes» .entry))
+        (now («merge_first_columns» .entry)) (now («merge_last_columns» .entry)) (now («column_breaks» .entry)))
+        (pages.runLists (now («row_run_firsts» .exit)) (now («row_run_lasts» .exit)) (now («row_run_sizes» .exit))
+        (now («row_run_marks» .exit)))
+        (pages.runLists (now («column_run_firsts» .exit)) (now («column_run_lasts» .exit)) (now («column_run_sizes» .exit))
+        (now («column_run_marks» .exit)))
+        ⌝ }
+    ensures largest { λ r. ⌜
+        LargestPlan r settings
+        (call.rowsOf settings range «row_title» (now («row_indexes» .entry)) (now («row_sizes» .entry))
+        (now («merge_first_rows» .entry)) (now («merge_last_rows» .entry)) (now («row_breaks» .entry)))
+        (call.columnsOf settings range «column_title» (now («column_indexes» .entry)) (now («column_sizes» .entry))
+        (now («merge_first_columns» .entry)) (now («merge_last_columns» .entry)) (now («column_breaks» .entry)))
+        ⌝ }
 {
     let lent_rows_even = lists_even(
         row_run_firsts.len(),

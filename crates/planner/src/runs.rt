@@ -150,7 +150,11 @@ fn write_runs(
 ) -> usize
     requires { ⌜ Slots (now indexes) (now sizes) ⌝ }
     requires { ⌜ Room (firstMarked mark (runs k (now mfirsts) (now mlasts) (now indexes) (now sizes))) (now firsts) (now lasts) (now totals) (now marks) ⌝ }
-    ensures { λ r. ⌜ Written (firstMarked mark (runs k (now (mfirsts .entry)) (now (mlasts .entry)) (now (indexes .entry)) (now (sizes .entry)))) r (now (firsts .entry)) (now (lasts .entry)) (now (totals .entry)) (now (marks .entry)) (now (firsts .exit)) (now (lasts .exit)) (now (totals .exit)) (now (marks .exit)) ⌝ }
+    ensures { λ r. ⌜
+        Written (firstMarked mark (runs k (now (mfirsts .entry)) (now (mlasts .entry)) (now (indexes .entry)) (now (sizes .entry))))
+        r (now (firsts .entry)) (now (lasts .entry)) (now (totals .entry)) (now (marks .entry)) (now (firsts .exit))
+        (now (lasts .exit)) (now (totals .exit)) (now (marks .exit))
+        ⌝ }
 {
     let mut is = indexes;
     let mut ss = sizes;
@@ -314,7 +318,11 @@ fn write_stretch(
     requires { ⌜ Slots (now indexes) (now sizes) ⌝ }
     requires { ⌜ (a ≤ e) × (e ≤ length (now sizes)) ⌝ }
     requires { ⌜ RoomAt (stretch k (now mfirsts) (now mlasts) (now indexes) (now sizes) a e) at (now firsts) (now lasts) (now totals) (now marks) ⌝ }
-    ensures { λ r. ⌜ WrittenAt (stretch k (now (mfirsts .entry)) (now (mlasts .entry)) (now (indexes .entry)) (now (sizes .entry)) a e) at r (now (firsts .entry)) (now (lasts .entry)) (now (totals .entry)) (now (marks .entry)) (now (firsts .exit)) (now (lasts .exit)) (now (totals .exit)) (now (marks .exit)) ⌝ }
+    ensures { λ r. ⌜
+        WrittenAt (stretch k (now (mfirsts .entry)) (now (mlasts .entry)) (now (indexes .entry)) (now (sizes .entry)) a e) at r
+        (now (firsts .entry)) (now (lasts .entry)) (now (totals .entry)) (now (marks .entry)) (now (firsts .exit))
+        (now (lasts .exit)) (now (totals .exit)) (now (marks .exit))
+        ⌝ }
 {
     write_runs(
         k,
@@ -345,7 +353,13 @@ pub(crate) fn write_axis(
 ) -> usize
     requires { ⌜ Slots (now indexes) (now sizes) ⌝ }
     requires { ⌜ Room (axisRuns k (now mfirsts) (now mlasts) (now indexes) (now sizes) 0 (now breaks)) (now firsts) (now lasts) (now totals) (now marks) ⌝ }
-    ensures { λ r. ⌜ Written (axisRuns k (now (mfirsts .entry)) (now (mlasts .entry)) (now (indexes .entry)) (now (sizes .entry)) 0 (now (breaks .entry))) r (now (firsts .entry)) (now (lasts .entry)) (now (totals .entry)) (now (marks .entry)) (now (firsts .exit)) (now (lasts .exit)) (now (totals .exit)) (now (marks .exit)) ⌝ }
+    ensures { λ r. ⌜
+        Written
+        (axisRuns k (now (mfirsts .entry)) (now (mlasts .entry)) (now (indexes .entry)) (now (sizes .entry)) 0
+        (now (breaks .entry)))
+        r (now (firsts .entry)) (now (lasts .entry)) (now (totals .entry)) (now (marks .entry)) (now (firsts .exit))
+        (now (lasts .exit)) (now (totals .exit)) (now (marks .exit))
+        ⌝ }
 {
     let end = sizes.len();
     let mut prev = 0;

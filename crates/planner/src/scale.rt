@@ -100,7 +100,11 @@ fn runs_pass(
 ) -> bool
     requires { ⌜ Low page ⌝ }
     requires { ⌜ Slots (now indexes) (now sizes) ⌝ }
-    ensures { λ r. ⌜ r ≡ allFit (spaceOf page) (titled (frame .title)) permille (runs frame (now (mfirsts .entry)) (now (mlasts .entry)) (now (indexes .entry)) (now (sizes .entry))) && meets target (length (runs frame (now (mfirsts .entry)) (now (mlasts .entry)) (now (indexes .entry)) (now (sizes .entry)))) ⌝ }
+    ensures { λ r. ⌜
+        r ≡ allFit (spaceOf page) (titled (frame .title)) permille
+        (runs frame (now (mfirsts .entry)) (now (mlasts .entry)) (now (indexes .entry)) (now (sizes .entry))) && meets target
+        (length (runs frame (now (mfirsts .entry)) (now (mlasts .entry)) (now (indexes .entry)) (now (sizes .entry))))
+        ⌝ }
 {
     let title = frame.title;
     let mut is = indexes;
@@ -169,7 +173,10 @@ fn both_pass(
 ) -> bool
     requires { ⌜ Fitted rows (now rindexes) (now rsizes) ⌝ }
     requires { ⌜ Fitted columns (now cindexes) (now csizes) ⌝ }
-    ensures { λ r. ⌜ r ≡ fitPasses rows (now (rfirsts .entry)) (now (rlasts .entry)) (now (rindexes .entry)) (now (rsizes .entry)) permille && fitPasses columns (now (cfirsts .entry)) (now (clasts .entry)) (now (cindexes .entry)) (now (csizes .entry)) permille ⌝ }
+    ensures { λ r. ⌜
+        r ≡ fitPasses rows (now (rfirsts .entry)) (now (rlasts .entry)) (now (rindexes .entry)) (now (rsizes .entry)) permille &&
+        fitPasses columns (now (cfirsts .entry)) (now (clasts .entry)) (now (cindexes .entry)) (now (csizes .entry)) permille
+        ⌝ }
 {
     if !fit_passes(rows, permille, rfirsts, rlasts, rindexes, rsizes) {
         return false;
@@ -192,7 +199,12 @@ fn halved_permille(
 ) -> u16
     requires { ⌜ Fitted rows (now rindexes) (now rsizes) ⌝ }
     requires { ⌜ Fitted columns (now cindexes) (now csizes) ⌝ }
-    ensures { λ r. ⌜ r ≡ halve (λ p. fitPasses rows (now (rfirsts .entry)) (now (rlasts .entry)) (now (rindexes .entry)) (now (rsizes .entry)) p && fitPasses columns (now (cfirsts .entry)) (now (clasts .entry)) (now (cindexes .entry)) (now (csizes .entry)) p) 10 100 1000 ⌝ }
+    ensures { λ r. ⌜
+        r ≡ halve
+        (λ p. fitPasses rows (now (rfirsts .entry)) (now (rlasts .entry)) (now (rindexes .entry)) (now (rsizes .entry)) p &&
+        fitPasses columns (now (cfirsts .entry)) (now (clasts .entry)) (now (cindexes .entry)) (now (csizes .entry)) p)
+        10 100 1000
+        ⌝ }
 {
     let mut low: u16 = 100;
     let mut high: u16 = 1000;
@@ -234,7 +246,11 @@ pub(crate) fn fit_scale(
 ) -> ChosenScale
     requires { ⌜ Fitted rows (now rindexes) (now rsizes) ⌝ }
     requires { ⌜ Fitted columns (now cindexes) (now csizes) ⌝ }
-    ensures { λ r. ⌜ scaleOf r ≡ fitScale (λ p. fitPasses rows (now (rfirsts .entry)) (now (rlasts .entry)) (now (rindexes .entry)) (now (rsizes .entry)) p && fitPasses columns (now (cfirsts .entry)) (now (clasts .entry)) (now (cindexes .entry)) (now (csizes .entry)) p) ⌝ }
+    ensures { λ r. ⌜
+        scaleOf r ≡ fitScale
+        (λ p. fitPasses rows (now (rfirsts .entry)) (now (rlasts .entry)) (now (rindexes .entry)) (now (rsizes .entry)) p &&
+        fitPasses columns (now (cfirsts .entry)) (now (clasts .entry)) (now (cindexes .entry)) (now (csizes .entry)) p)
+        ⌝ }
 {
     if !both_pass(
         rows,

@@ -124,7 +124,10 @@ fn formed(
     merge_firsts: &[u32],
     merge_lasts: &[u32],
 ) -> bool
-    ensures { λ r. ⌜ r ≡ wellFormed first last «lent_even» (now (indexes .entry)) (now (sizes .entry)) (now («merge_firsts» .entry)) (now («merge_lasts» .entry)) ⌝ }
+    ensures { λ r. ⌜
+        r ≡ wellFormed first last «lent_even» (now (indexes .entry)) (now (sizes .entry)) (now («merge_firsts» .entry))
+        (now («merge_lasts» .entry))
+        ⌝ }
 {
     (indexes.len() == sizes.len())
         & (merge_firsts.len() == merge_lasts.len())
@@ -153,7 +156,10 @@ pub fn partition_refusal(
     merge_lasts: &[u32],
     lent_even: bool,
 ) -> u8
-    ensures { λ r. ⌜ r ≡ partition.firstNo limit setup (now (indexes .entry)) (now (sizes .entry)) (now («merge_firsts» .entry)) (now («merge_lasts» .entry)) «lent_even» ⌝ }
+    ensures { λ r. ⌜
+        r ≡ partition.firstNo limit setup (now (indexes .entry)) (now (sizes .entry)) (now («merge_firsts» .entry))
+        (now («merge_lasts» .entry)) «lent_even»
+        ⌝ }
 {
     let six = formed(
         setup.first,
@@ -185,7 +191,14 @@ pub fn plan_refusal(
     merge_last_rows: &[u32],
     merge_last_columns: &[u32],
 ) -> u8
-    ensures { λ r. ⌜ r ≡ call.firstNo (call.axisFor «row_axis» (now («row_indexes» .entry)) (now («row_sizes» .entry)) (now («merge_first_rows» .entry)) (now («merge_last_rows» .entry)) []) (call.axisFor «column_axis» (now («column_indexes» .entry)) (now («column_sizes» .entry)) (now («merge_first_columns» .entry)) (now («merge_last_columns» .entry)) []) «lent_rows_even» «lent_columns_even» ⌝ }
+    ensures { λ r. ⌜
+        r ≡ call.firstNo
+        (call.axisFor «row_axis» (now («row_indexes» .entry)) (now («row_sizes» .entry)) (now («merge_first_rows» .entry))
+        (now («merge_last_rows» .entry)) [])
+        (call.axisFor «column_axis» (now («column_indexes» .entry)) (now («column_sizes» .entry))
+        (now («merge_first_columns» .entry)) (now («merge_last_columns» .entry)) [])
+        «lent_rows_even» «lent_columns_even»
+        ⌝ }
 {
     let six = formed(
         row_axis.first,

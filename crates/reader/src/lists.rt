@@ -234,8 +234,21 @@ fn write_items(
     column_breaks: &mut [u32],
 )
     requires { ⌜ Sorted 0 (records (now bytes)) ⌝ }
-    requires { ⌜ Room (now bytes) (lists (now «row_indexes») (now «row_sizes») (now «column_indexes») (now «column_sizes») (now «merge_first_rows») (now «merge_first_columns») (now «merge_last_rows») (now «merge_last_columns») (now «row_breaks») (now «column_breaks»)) ⌝ }
-    ensures { λ _. ⌜ AllWritten (now (bytes .entry)) (lists (now («row_indexes» .entry)) (now («row_sizes» .entry)) (now («column_indexes» .entry)) (now («column_sizes» .entry)) (now («merge_first_rows» .entry)) (now («merge_first_columns» .entry)) (now («merge_last_rows» .entry)) (now («merge_last_columns» .entry)) (now («row_breaks» .entry)) (now («column_breaks» .entry))) (lists (now («row_indexes» .exit)) (now («row_sizes» .exit)) (now («column_indexes» .exit)) (now («column_sizes» .exit)) (now («merge_first_rows» .exit)) (now («merge_first_columns» .exit)) (now («merge_last_rows» .exit)) (now («merge_last_columns» .exit)) (now («row_breaks» .exit)) (now («column_breaks» .exit))) ⌝ }
+    requires { ⌜
+        Room (now bytes)
+        (lists (now «row_indexes») (now «row_sizes») (now «column_indexes») (now «column_sizes») (now «merge_first_rows»)
+        (now «merge_first_columns») (now «merge_last_rows») (now «merge_last_columns») (now «row_breaks») (now «column_breaks»))
+        ⌝ }
+    ensures { λ _. ⌜
+        AllWritten (now (bytes .entry))
+        (lists (now («row_indexes» .entry)) (now («row_sizes» .entry)) (now («column_indexes» .entry))
+        (now («column_sizes» .entry)) (now («merge_first_rows» .entry)) (now («merge_first_columns» .entry))
+        (now («merge_last_rows» .entry)) (now («merge_last_columns» .entry)) (now («row_breaks» .entry))
+        (now («column_breaks» .entry)))
+        (lists (now («row_indexes» .exit)) (now («row_sizes» .exit)) (now («column_indexes» .exit)) (now («column_sizes» .exit))
+        (now («merge_first_rows» .exit)) (now («merge_first_columns» .exit)) (now («merge_last_rows» .exit))
+        (now («merge_last_columns» .exit)) (now («row_breaks» .exit)) (now («column_breaks» .exit)))
+        ⌝ }
 {
     let at_rows = settings_end(bytes);
     let rows = &bytes[at_rows..];
@@ -292,7 +305,12 @@ fn lent_even(
     last_rows: &[u32],
     last_columns: &[u32],
 ) -> bool
-    ensures { λ r. ⌜ r ≡ evenLists (lists (now («row_indexes» .entry)) (now («row_sizes» .entry)) (now («column_indexes» .entry)) (now («column_sizes» .entry)) (now («first_rows» .entry)) (now («first_columns» .entry)) (now («last_rows» .entry)) (now («last_columns» .entry)) [] []) ⌝ }
+    ensures { λ r. ⌜
+        r ≡ evenLists
+        (lists (now («row_indexes» .entry)) (now («row_sizes» .entry)) (now («column_indexes» .entry))
+        (now («column_sizes» .entry)) (now («first_rows» .entry)) (now («first_columns» .entry)) (now («last_rows» .entry))
+        (now («last_columns» .entry)) [] [])
+        ⌝ }
 {
     let merges = first_rows.len();
     let rows_even = row_indexes.len() == row_sizes.len();
@@ -315,7 +333,13 @@ fn admit_to(
     row_breaks: &[u32],
     column_breaks: &[u32],
 ) -> Checked
-    ensures { λ r. ⌜ checkedOutcome r ≡ admittedTo (now (bytes .entry)) (lists (now («row_indexes» .entry)) (now («row_sizes» .entry)) (now («column_indexes» .entry)) (now («column_sizes» .entry)) (now («merge_first_rows» .entry)) (now («merge_first_columns» .entry)) (now («merge_last_rows» .entry)) (now («merge_last_columns» .entry)) (now («row_breaks» .entry)) (now («column_breaks» .entry))) ⌝ }
+    ensures { λ r. ⌜
+        checkedOutcome r ≡ admittedTo (now (bytes .entry))
+        (lists (now («row_indexes» .entry)) (now («row_sizes» .entry)) (now («column_indexes» .entry))
+        (now («column_sizes» .entry)) (now («merge_first_rows» .entry)) (now («merge_first_columns» .entry))
+        (now («merge_last_rows» .entry)) (now («merge_last_columns» .entry)) (now («row_breaks» .entry))
+        (now («column_breaks» .entry)))
+        ⌝ }
 {
     let even = lent_even(
         row_indexes,
@@ -351,7 +375,16 @@ pub fn read_job(
     row_breaks: &mut [u32],
     column_breaks: &mut [u32],
 ) -> Reading
-    ensures { λ r. ⌜ JobRead (now (bytes .entry)) r (lists (now («row_indexes» .entry)) (now («row_sizes» .entry)) (now («column_indexes» .entry)) (now («column_sizes» .entry)) (now («merge_first_rows» .entry)) (now («merge_first_columns» .entry)) (now («merge_last_rows» .entry)) (now («merge_last_columns» .entry)) (now («row_breaks» .entry)) (now («column_breaks» .entry))) (lists (now («row_indexes» .exit)) (now («row_sizes» .exit)) (now («column_indexes» .exit)) (now («column_sizes» .exit)) (now («merge_first_rows» .exit)) (now («merge_first_columns» .exit)) (now («merge_last_rows» .exit)) (now («merge_last_columns» .exit)) (now («row_breaks» .exit)) (now («column_breaks» .exit))) ⌝ }
+    ensures { λ r. ⌜
+        JobRead (now (bytes .entry)) r
+        (lists (now («row_indexes» .entry)) (now («row_sizes» .entry)) (now («column_indexes» .entry))
+        (now («column_sizes» .entry)) (now («merge_first_rows» .entry)) (now («merge_first_columns» .entry))
+        (now («merge_last_rows» .entry)) (now («merge_last_columns» .entry)) (now («row_breaks» .entry))
+        (now («column_breaks» .entry)))
+        (lists (now («row_indexes» .exit)) (now («row_sizes» .exit)) (now («column_indexes» .exit)) (now («column_sizes» .exit))
+        (now («merge_first_rows» .exit)) (now («merge_first_columns» .exit)) (now («merge_last_rows» .exit))
+        (now («merge_last_columns» .exit)) (now («row_breaks» .exit)) (now («column_breaks» .exit)))
+        ⌝ }
 {
     let admitted = admit_to(
         bytes,

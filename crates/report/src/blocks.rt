@@ -28,7 +28,13 @@ pub fn page_block(
     column_marks: &[u8],
     out: &mut [u8; 65536],
 ) -> Block
-    ensures { λ r. ⌜ BlockOf plan (runLists (now («row_firsts» .entry)) (now («row_lasts» .entry)) (now («row_sizes» .entry)) (now («row_marks» .entry))) (runLists (now («column_firsts» .entry)) (now («column_lasts» .entry)) (now («column_sizes» .entry)) (now («column_marks» .entry))) from r (now (out .exit)) ⌝ }
+    ensures { λ r. ⌜
+        BlockOf plan
+        (runLists (now («row_firsts» .entry)) (now («row_lasts» .entry)) (now («row_sizes» .entry)) (now («row_marks» .entry)))
+        (runLists (now («column_firsts» .entry)) (now («column_lasts» .entry)) (now («column_sizes» .entry))
+        (now («column_marks» .entry)))
+        from r (now (out .exit))
+        ⌝ }
 {
     let mut next = from;
     let mut end = 0;

@@ -40,10 +40,42 @@ pub extern "C" fn yuzhbani_plan(
     column_run_sizes: &mut [u64],
     column_run_marks: &mut [u8],
 ) -> u8
-    ensures planned { λ r. ⌜ PlanHanded (job.planJob (now (bytes .entry)) (runLists (now («row_run_firsts» .entry)) (now («row_run_lasts» .entry)) (now («row_run_sizes» .entry)) (now («row_run_marks» .entry))) (runLists (now («column_run_firsts» .entry)) (now («column_run_lasts» .entry)) (now («column_run_sizes» .entry)) (now («column_run_marks» .entry)))) r (now (numbers .entry)) (now (numbers .exit)) (runLists (now («row_run_firsts» .entry)) (now («row_run_lasts» .entry)) (now («row_run_sizes» .entry)) (now («row_run_marks» .entry))) (runLists (now («column_run_firsts» .entry)) (now («column_run_lasts» .entry)) (now («column_run_sizes» .entry)) (now («column_run_marks» .entry))) (runLists (now («row_run_firsts» .exit)) (now («row_run_lasts» .exit)) (now («row_run_sizes» .exit)) (now («row_run_marks» .exit))) (runLists (now («column_run_firsts» .exit)) (now («column_run_lasts» .exit)) (now («column_run_sizes» .exit)) (now («column_run_marks» .exit))) ⌝ }
-    ensures covered { λ r. ⌜ CoversPairs (section.told r (now (numbers .exit))) (job.jobRows (now (bytes .entry))) (job.jobColumns (now (bytes .entry))) (runLists (now («row_run_firsts» .exit)) (now («row_run_lasts» .exit)) (now («row_run_sizes» .exit)) (now («row_run_marks» .exit))) (runLists (now («column_run_firsts» .exit)) (now («column_run_lasts» .exit)) (now («column_run_sizes» .exit)) (now («column_run_marks» .exit))) ⌝ }
-    ensures fewest { λ r. ⌜ FewestPlan (section.told r (now (numbers .exit))) (job.jobSettings (now (bytes .entry))) (job.jobRows (now (bytes .entry))) (job.jobColumns (now (bytes .entry))) (runLists (now («row_run_firsts» .exit)) (now («row_run_lasts» .exit)) (now («row_run_sizes» .exit)) (now («row_run_marks» .exit))) (runLists (now («column_run_firsts» .exit)) (now («column_run_lasts» .exit)) (now («column_run_sizes» .exit)) (now («column_run_marks» .exit))) ⌝ }
-    ensures largest { λ r. ⌜ LargestPlan (section.told r (now (numbers .exit))) (job.jobSettings (now (bytes .entry))) (job.jobRows (now (bytes .entry))) (job.jobColumns (now (bytes .entry))) ⌝ }
+    ensures planned { λ r. ⌜
+        PlanHanded
+        (job.planJob (now (bytes .entry))
+        (runLists (now («row_run_firsts» .entry)) (now («row_run_lasts» .entry)) (now («row_run_sizes» .entry))
+        (now («row_run_marks» .entry)))
+        (runLists (now («column_run_firsts» .entry)) (now («column_run_lasts» .entry)) (now («column_run_sizes» .entry))
+        (now («column_run_marks» .entry))))
+        r (now (numbers .entry)) (now (numbers .exit))
+        (runLists (now («row_run_firsts» .entry)) (now («row_run_lasts» .entry)) (now («row_run_sizes» .entry))
+        (now («row_run_marks» .entry)))
+        (runLists (now («column_run_firsts» .entry)) (now («column_run_lasts» .entry)) (now («column_run_sizes» .entry))
+        (now («column_run_marks» .entry)))
+        (runLists (now («row_run_firsts» .exit)) (now («row_run_lasts» .exit)) (now («row_run_sizes» .exit))
+        (now («row_run_marks» .exit)))
+        (runLists (now («column_run_firsts» .exit)) (now («column_run_lasts» .exit)) (now («column_run_sizes» .exit))
+        (now («column_run_marks» .exit)))
+        ⌝ }
+    ensures covered { λ r. ⌜
+        CoversPairs (section.told r (now (numbers .exit))) (job.jobRows (now (bytes .entry))) (job.jobColumns (now (bytes .entry)))
+        (runLists (now («row_run_firsts» .exit)) (now («row_run_lasts» .exit)) (now («row_run_sizes» .exit))
+        (now («row_run_marks» .exit)))
+        (runLists (now («column_run_firsts» .exit)) (now («column_run_lasts» .exit)) (now («column_run_sizes» .exit))
+        (now («column_run_marks» .exit)))
+        ⌝ }
+    ensures fewest { λ r. ⌜
+        FewestPlan (section.told r (now (numbers .exit))) (job.jobSettings (now (bytes .entry))) (job.jobRows (now (bytes .entry)))
+        (job.jobColumns (now (bytes .entry)))
+        (runLists (now («row_run_firsts» .exit)) (now («row_run_lasts» .exit)) (now («row_run_sizes» .exit))
+        (now («row_run_marks» .exit)))
+        (runLists (now («column_run_firsts» .exit)) (now («column_run_lasts» .exit)) (now («column_run_sizes» .exit))
+        (now («column_run_marks» .exit)))
+        ⌝ }
+    ensures largest { λ r. ⌜
+        LargestPlan (section.told r (now (numbers .exit))) (job.jobSettings (now (bytes .entry))) (job.jobRows (now (bytes .entry)))
+        (job.jobColumns (now (bytes .entry)))
+        ⌝ }
 {
     let planning = plan_job(
         bytes,
@@ -84,10 +116,56 @@ pub extern "C" fn yuzhbani_plan_lists(
     column_run_sizes: &mut [u64],
     column_run_marks: &mut [u8],
 ) -> u8
-    ensures planned { λ r. ⌜ PlanHanded (planned (settingsFrom (now (asked .entry))) (rowsAsked (now (asked .entry)) (now («row_indexes» .entry)) (now («row_sizes» .entry)) (now («merge_first_rows» .entry)) (now («merge_last_rows» .entry)) (now («row_breaks» .entry))) (columnsAsked (now (asked .entry)) (now («column_indexes» .entry)) (now («column_sizes» .entry)) (now («merge_first_columns» .entry)) (now («merge_last_columns» .entry)) (now («column_breaks» .entry))) (runLists (now («row_run_firsts» .entry)) (now («row_run_lasts» .entry)) (now («row_run_sizes» .entry)) (now («row_run_marks» .entry))) (runLists (now («column_run_firsts» .entry)) (now («column_run_lasts» .entry)) (now («column_run_sizes» .entry)) (now («column_run_marks» .entry)))) r (now (numbers .entry)) (now (numbers .exit)) (runLists (now («row_run_firsts» .entry)) (now («row_run_lasts» .entry)) (now («row_run_sizes» .entry)) (now («row_run_marks» .entry))) (runLists (now («column_run_firsts» .entry)) (now («column_run_lasts» .entry)) (now («column_run_sizes» .entry)) (now («column_run_marks» .entry))) (runLists (now («row_run_firsts» .exit)) (now («row_run_lasts» .exit)) (now («row_run_sizes» .exit)) (now («row_run_marks» .exit))) (runLists (now («column_run_firsts» .exit)) (now («column_run_lasts» .exit)) (now («column_run_sizes» .exit)) (now («column_run_marks» .exit))) ⌝ }
-    ensures covered { λ r. ⌜ CoversPairs (section.told r (now (numbers .exit))) (rowsAsked (now (asked .entry)) (now («row_indexes» .entry)) (now («row_sizes» .entry)) (now («merge_first_rows» .entry)) (now («merge_last_rows» .entry)) (now («row_breaks» .entry))) (columnsAsked (now (asked .entry)) (now («column_indexes» .entry)) (now («column_sizes» .entry)) (now («merge_first_columns» .entry)) (now («merge_last_columns» .entry)) (now («column_breaks» .entry))) (runLists (now («row_run_firsts» .exit)) (now («row_run_lasts» .exit)) (now («row_run_sizes» .exit)) (now («row_run_marks» .exit))) (runLists (now («column_run_firsts» .exit)) (now («column_run_lasts» .exit)) (now («column_run_sizes» .exit)) (now («column_run_marks» .exit))) ⌝ }
-    ensures fewest { λ r. ⌜ FewestPlan (section.told r (now (numbers .exit))) (settingsFrom (now (asked .entry))) (rowsAsked (now (asked .entry)) (now («row_indexes» .entry)) (now («row_sizes» .entry)) (now («merge_first_rows» .entry)) (now («merge_last_rows» .entry)) (now («row_breaks» .entry))) (columnsAsked (now (asked .entry)) (now («column_indexes» .entry)) (now («column_sizes» .entry)) (now («merge_first_columns» .entry)) (now («merge_last_columns» .entry)) (now («column_breaks» .entry))) (runLists (now («row_run_firsts» .exit)) (now («row_run_lasts» .exit)) (now («row_run_sizes» .exit)) (now («row_run_marks» .exit))) (runLists (now («column_run_firsts» .exit)) (now («column_run_lasts» .exit)) (now («column_run_sizes» .exit)) (now («column_run_marks» .exit))) ⌝ }
-    ensures largest { λ r. ⌜ LargestPlan (section.told r (now (numbers .exit))) (settingsFrom (now (asked .entry))) (rowsAsked (now (asked .entry)) (now («row_indexes» .entry)) (now («row_sizes» .entry)) (now («merge_first_rows» .entry)) (now («merge_last_rows» .entry)) (now («row_breaks» .entry))) (columnsAsked (now (asked .entry)) (now («column_indexes» .entry)) (now («column_sizes» .entry)) (now («merge_first_columns» .entry)) (now («merge_last_columns» .entry)) (now («column_breaks» .entry))) ⌝ }
+    ensures planned { λ r. ⌜
+        PlanHanded
+        (planned (settingsFrom (now (asked .entry)))
+        (rowsAsked (now (asked .entry)) (now («row_indexes» .entry)) (now («row_sizes» .entry))
+        (now («merge_first_rows» .entry)) (now («merge_last_rows» .entry)) (now («row_breaks» .entry)))
+        (columnsAsked (now (asked .entry)) (now («column_indexes» .entry)) (now («column_sizes» .entry))
+        (now («merge_first_columns» .entry)) (now («merge_last_columns» .entry)) (now («column_breaks» .entry)))
+        (runLists (now («row_run_firsts» .entry)) (now («row_run_lasts» .entry)) (now («row_run_sizes» .entry))
+        (now («row_run_marks» .entry)))
+        (runLists (now («column_run_firsts» .entry)) (now («column_run_lasts» .entry)) (now («column_run_sizes» .entry))
+        (now («column_run_marks» .entry))))
+        r (now (numbers .entry)) (now (numbers .exit))
+        (runLists (now («row_run_firsts» .entry)) (now («row_run_lasts» .entry)) (now («row_run_sizes» .entry))
+        (now («row_run_marks» .entry)))
+        (runLists (now («column_run_firsts» .entry)) (now («column_run_lasts» .entry)) (now («column_run_sizes» .entry))
+        (now («column_run_marks» .entry)))
+        (runLists (now («row_run_firsts» .exit)) (now («row_run_lasts» .exit)) (now («row_run_sizes» .exit))
+        (now («row_run_marks» .exit)))
+        (runLists (now («column_run_firsts» .exit)) (now («column_run_lasts» .exit)) (now («column_run_sizes» .exit))
+        (now («column_run_marks» .exit)))
+        ⌝ }
+    ensures covered { λ r. ⌜
+        CoversPairs (section.told r (now (numbers .exit)))
+        (rowsAsked (now (asked .entry)) (now («row_indexes» .entry)) (now («row_sizes» .entry)) (now («merge_first_rows» .entry))
+        (now («merge_last_rows» .entry)) (now («row_breaks» .entry)))
+        (columnsAsked (now (asked .entry)) (now («column_indexes» .entry)) (now («column_sizes» .entry))
+        (now («merge_first_columns» .entry)) (now («merge_last_columns» .entry)) (now («column_breaks» .entry)))
+        (runLists (now («row_run_firsts» .exit)) (now («row_run_lasts» .exit)) (now («row_run_sizes» .exit))
+        (now («row_run_marks» .exit)))
+        (runLists (now («column_run_firsts» .exit)) (now («column_run_lasts» .exit)) (now («column_run_sizes» .exit))
+        (now («column_run_marks» .exit)))
+        ⌝ }
+    ensures fewest { λ r. ⌜
+        FewestPlan (section.told r (now (numbers .exit))) (settingsFrom (now (asked .entry)))
+        (rowsAsked (now (asked .entry)) (now («row_indexes» .entry)) (now («row_sizes» .entry)) (now («merge_first_rows» .entry))
+        (now («merge_last_rows» .entry)) (now («row_breaks» .entry)))
+        (columnsAsked (now (asked .entry)) (now («column_indexes» .entry)) (now («column_sizes» .entry))
+        (now («merge_first_columns» .entry)) (now («merge_last_columns» .entry)) (now («column_breaks» .entry)))
+        (runLists (now («row_run_firsts» .exit)) (now («row_run_lasts» .exit)) (now («row_run_sizes» .exit))
+        (now («row_run_marks» .exit)))
+        (runLists (now («column_run_firsts» .exit)) (now («column_run_lasts» .exit)) (now («column_run_sizes» .exit))
+        (now («column_run_marks» .exit)))
+        ⌝ }
+    ensures largest { λ r. ⌜
+        LargestPlan (section.told r (now (numbers .exit))) (settingsFrom (now (asked .entry)))
+        (rowsAsked (now (asked .entry)) (now («row_indexes» .entry)) (now («row_sizes» .entry)) (now («merge_first_rows» .entry))
+        (now («merge_last_rows» .entry)) (now («row_breaks» .entry)))
+        (columnsAsked (now (asked .entry)) (now («column_indexes» .entry)) (now («column_sizes» .entry))
+        (now («merge_first_columns» .entry)) (now («merge_last_columns» .entry)) (now («column_breaks» .entry)))
+        ⌝ }
 {
     let what = asked_from(asked);
     let settings = what.settings;
@@ -137,7 +215,15 @@ pub extern "C" fn yuzhbani_page(
     column_marks: &[u8],
     page: &mut [u64; 12],
 ) -> u8
-    ensures { λ r. ⌜ PageHanded (pageNumbered (section.planFrom (now (numbers .entry))) (runLists (now («row_firsts» .entry)) (now («row_lasts» .entry)) (now («row_sizes» .entry)) (now («row_marks» .entry))) (runLists (now («column_firsts» .entry)) (now («column_lasts» .entry)) (now («column_sizes» .entry)) (now («column_marks» .entry))) number) r (now (page .entry)) (now (page .exit)) ⌝ }
+    ensures { λ r. ⌜
+        PageHanded
+        (pageNumbered (section.planFrom (now (numbers .entry)))
+        (runLists (now («row_firsts» .entry)) (now («row_lasts» .entry)) (now («row_sizes» .entry)) (now («row_marks» .entry)))
+        (runLists (now («column_firsts» .entry)) (now («column_lasts» .entry)) (now («column_sizes» .entry))
+        (now («column_marks» .entry)))
+        number)
+        r (now (page .entry)) (now (page .exit))
+        ⌝ }
 {
     let plan = plan_from(numbers);
     let answer = page_numbered(
@@ -182,7 +268,13 @@ pub extern "C" fn yuzhbani_block(
     column_marks: &[u8],
     out: &mut [u8; 65536],
 ) -> usize
-    ensures { λ r. ⌜ BlockOf (section.planFrom (now (numbers .entry))) (runLists (now («row_firsts» .entry)) (now («row_lasts» .entry)) (now («row_sizes» .entry)) (now («row_marks» .entry))) (runLists (now («column_firsts» .entry)) (now («column_lasts» .entry)) (now («column_sizes» .entry)) (now («column_marks» .entry))) (now (next .entry)) (blockTo (now (next .exit)) r) (now (out .exit)) ⌝ }
+    ensures { λ r. ⌜
+        BlockOf (section.planFrom (now (numbers .entry)))
+        (runLists (now («row_firsts» .entry)) (now («row_lasts» .entry)) (now («row_sizes» .entry)) (now («row_marks» .entry)))
+        (runLists (now («column_firsts» .entry)) (now («column_lasts» .entry)) (now («column_sizes» .entry))
+        (now («column_marks» .entry)))
+        (now (next .entry)) (blockTo (now (next .exit)) r) (now (out .exit))
+        ⌝ }
 {
     let plan = plan_from(numbers);
     let from = *next;
