@@ -78,10 +78,12 @@ columnTitleFrom ns = titleFrom ns 27
 abbrev pub rowsAsked : List ℕ → List ℕ → List ℕ → List ℕ → List ℕ → List ℕ → AxisInput
 rowsAsked ns is ss fs ls bs = rowsOf (settingsFrom ns) (rangeFrom ns) (rowTitleFrom ns) is ss fs ls bs
 
+-- the columns that are asked for
 abbrev pub columnsAsked : List ℕ → List ℕ → List ℕ → List ℕ → List ℕ → List ℕ → AxisInput
 columnsAsked ns is ss fs ls bs = columnsOf (settingsFrom ns) (rangeFrom ns) (columnTitleFrom ns) is ss fs ls bs
 
 -- ---- for the private functions
 
+-- all that thirty numbers ask
 abbrev pub askedFrom : List ℕ → Asked
 askedFrom ns = record { settings = settingsFrom ns; range = rangeFrom ns; «row_title» = rowTitleFrom ns; «column_title» = columnTitleFrom ns }

@@ -40,9 +40,11 @@ tenDecimals n w h = record { code = n; width = decimal w 10000000000; height = d
 abbrev pub millimetres : ℕ → ℕ → ℕ → Sheet
 millimetres n w h = record { code = n; width = div binary64 (ofInt binary64 (pos w)) (decimal 254 10); height = div binary64 (ofInt binary64 (pos h)) (decimal 254 10) }
 
+-- "absent means 1": Letter, 8.5 by 11 inches
 unfoldable pub letter : Sheet
 letter = inches 1 8500 11000
 
+-- the Rust's list of paper sizes, by code
 unfoldable pub sheets : List Sheet
 unfolding letter
 sheets =
@@ -109,6 +111,7 @@ abbrev pub turned : Bool → PaperFound → PaperFound
 turned true p = record { code = p .code; width = p .height; height = p .width; unknown = p .unknown }
 turned false p = p
 
+-- the paper of a code, turned where it is landscape: "An unlisted code resolves to 1 with a note. Landscape swaps."
 unfoldable pub paperGeometry : Setting → Bool → Outcome PaperFound
 unfolding resolved sheets
 paperGeometry asked landscape =
@@ -134,6 +137,7 @@ sideInPixels z = div binary64 (ofInt binary64 z) (ofInt binary64 (pos 1024))
 abbrev pub shorter : Float → ℤ → Bool
 shorter x side = lt (inPixels x) (sideInPixels side)
 
+-- all six are finite and not negative
 abbrev pub allUsable : Margins → Bool
 allUsable m = usable (m .left) && usable (m .right) && usable (m .top) && usable (m .bottom) && usable (m .header) && usable (m .footer)
 
@@ -175,6 +179,7 @@ between side near far = lessOf (lessOf (given side) (inchesToFixed near)) (inche
 abbrev pub footerAt : ℤ → Float → Outcome ℤ
 footerAt height footer = lessOf (lessOf (given height) (inchesToFixed footer)) (given (pos 16384))
 
+-- what six margins leave of a paper
 unfoldable pub contentBetween : ℤ → ℤ → Margins → ℕ → Outcome Placed
 contentBetween width height m invalid =
     placed (inchesToFixed (m .left)) (inchesToFixed (m .top)) (between width (m .left) (m .right)) (between height (m .top) (m .bottom))

@@ -265,6 +265,7 @@ fn turned(paper: Paper, landscape: bool) -> Paper
     paper
 }
 
+// The paper of a code, Letter where it is absent or unlisted, turned where it is landscape.
 pub fn paper_geometry(code: Setting, landscape: bool) -> Paper
     ensures { λ r. ⌜ given (Section.paperFound r) ≡ Section.paperGeometry code landscape ⌝ }
 {
@@ -396,6 +397,7 @@ fn content_between(width: Fixed, height: Fixed, m: Margins, invalid_margins: u64
     )
 }
 
+// What the margins leave of a paper; margins that do not hold are replaced, all six.
 pub fn content_geometry(paper: PaperGeometry, margins: MarginSetting) -> Content
     ensures { λ r. ⌜ Section.contentOutcome r ≡ Section.contentGeometry (paper .width .0) (paper .height .0) margins ⌝ }
 {

@@ -28,11 +28,13 @@ use Rattle.job_settings.specs.declared.JobSettings.{JobSettings}
 abbrev pub rowsRead : JobSettings → List ℕ → List ℕ → List ℕ → List ℕ → List ℕ → AxisInput
 rowsRead j is ss fs ls bs = rowsOf (settingsFor j) (rangeFor (j .range)) (j .«row_title») is ss fs ls bs
 
+-- columns that were read, as the planner takes them
 abbrev pub columnsRead : JobSettings → List ℕ → List ℕ → List ℕ → List ℕ → List ℕ → AxisInput
 columnsRead j is ss fs ls bs = columnsOf (settingsFor j) (rangeFor (j .range)) (j .«column_title») is ss fs ls bs
 
 -- ---- a job, by its bytes
 
+-- the settings of a job
 abbrev pub jobSettings : List ℕ → Settings
 jobSettings s = settingsFor (settingsOf (records s))
 
@@ -82,6 +84,7 @@ pub record Long (j : Job) (l : Lists) : Type 0 where
   pub row-breaks-long : j .items .«row_breaks» ≤ length (l .row-breaks)
   pub column-breaks-long : j .items .«column_breaks» ≤ length (l .column-breaks)
 
+-- what was read, if a job was, stands in the lists
 pub record Filled (reading : Reading) (l : Lists) : Type 0 where
   pub filled : (j : Job) → reading ≡ Value j → Long j l
 
@@ -91,6 +94,7 @@ rowsFrom j l =
     rowsRead (j .settings) (take (j .items .rows) (l .row-indexes)) (take (j .items .rows) (l .row-sizes))
     (take (j .items .merges) (l .merge-first-rows)) (take (j .items .merges) (l .merge-last-rows)) (take (j .items .«row_breaks») (l .row-breaks))
 
+-- the columns of the lists that were read
 abbrev pub columnsFrom : Job → Lists → AxisInput
 columnsFrom j l =
     columnsRead (j .settings) (take (j .items .columns) (l .column-indexes)) (take (j .items .columns) (l .column-sizes))

@@ -18,6 +18,7 @@ use Rattle.job_questions.specs.declared.Survey.the-variants.{Stopped, Wh
 abbrev pub fine : Asked → Fine
 fine a = record { flag = flagOk a; first = notReversed a; grid = inGrid a; size = sized a }
 
+-- what is fine of both
 abbrev pub bothFine : Fine → Fine → Fine
 bothFine a b = record { flag = a .flag && b .flag; first = a .first && b .first; grid = a .grid && b .grid; size = a .size && b .size }
 
@@ -29,6 +30,7 @@ beyond = 4294967296
 abbrev pub placed : ℕ → ℕ → ℕ → ℕ
 placed top next i = cond (leb next i && leb i top) (i + 1) beyond
 
+-- the next row that may come, after a record
 abbrev pub rowsAfter : ℕ → Asked → ℕ
 rowsAfter n (Flag x) = n
 rowsAfter n (Cells r) = n
@@ -36,6 +38,7 @@ rowsAfter n (InRows s) = placed lastRow n (s .index)
 rowsAfter n (InColumns s) = n
 rowsAfter n Other = n
 
+-- the next column that may come, after a record
 abbrev pub columnsAfter : ℕ → Asked → ℕ
 columnsAfter n (Flag x) = n
 columnsAfter n (Cells r) = n
@@ -77,6 +80,7 @@ start = record {
   items = record { rows = 0; columns = 0; merges = 0; «row_breaks» = 0; «column_breaks» = 0 };
 }
 
+-- the state of a pass after one more record
 abbrev pub advanced : State → Record → State
 advanced t r = record {
   rank = rank r;

@@ -56,6 +56,7 @@ unfoldable pub ordered : ℕ → List Record → Bool
 ordered k [] = true
 ordered k (r ∷ rs) = follows k (rank r) && ordered (rank r) rs
 
+-- an AR
 abbrev pub isArea : Record → Bool
 isArea r = eqb (rank r) AR
 
@@ -78,6 +79,7 @@ flagOk Other = true
 abbrev pub firstsOk : Range → Bool
 firstsOk a = leb (a .«first_row») (a .«last_row») && leb (a .«first_column») (a .«last_column»)
 
+-- 6, of one record
 abbrev pub notReversed : Asked → Bool
 notReversed (Flag x) = true
 notReversed (Cells a) = firstsOk a
@@ -89,6 +91,7 @@ notReversed Other = true
 abbrev pub lastRow : ℕ
 lastRow = 1048575
 
+-- the last column of the grid
 abbrev pub lastColumn : ℕ
 lastColumn = 16383
 
@@ -97,6 +100,7 @@ abbrev pub gridOk : Range → Bool
 gridOk a =
     (leb (a .«first_row») lastRow && leb (a .«last_row») lastRow) && (leb (a .«first_column») lastColumn && leb (a .«last_column») lastColumn)
 
+-- 7, of one record
 abbrev pub inGrid : Asked → Bool
 inGrid (Flag x) = true
 inGrid (Cells a) = gridOk a
@@ -108,6 +112,7 @@ inGrid Other = true
 abbrev pub sizeOk : ℤ → Bool
 sizeOk z = leZ (pos 0) z && leZ z (pos 1073741823)
 
+-- 9, of one record
 abbrev pub sized : Asked → Bool
 sized (Flag x) = true
 sized (Cells a) = true

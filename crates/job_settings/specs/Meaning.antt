@@ -22,6 +22,7 @@ use Rattle.job_settings.specs.declared.LimitSetting.{LimitSetting}
 use Rattle.job_settings.specs.declared.LimitSetting.the-variants as limit
 use Rattle.job_settings.specs.declared.JobSettings.{JobSettings}
 
+-- a record of the setting is there
 abbrev pub isGiven : Setting → Bool
 isGiven number.Absent = false
 isGiven (number.Given x) = true
@@ -52,6 +53,7 @@ inchesOf m = record {
   footer = f64Of (m .footer);
 }
 
+-- six bit patterns as margins in inches
 abbrev pub marginSetting : MarginsRead → MarginSetting
 marginSetting margins.Absent = inches.Absent
 marginSetting (margins.Given m) = inches.Given (inchesOf m)
@@ -62,6 +64,7 @@ marginSetting (margins.Given m) = inches.Given (inchesOf m)
 abbrev pub orderFor : FlagSetting → PageOrder
 orderFor f = cond (overThenDown f) OverThenDown DownThenOver
 
+-- the settings as the planner takes them
 abbrev pub settingsFor : JobSettings → Settings
 settingsFor j = record {
   paper = j .paper;
@@ -76,5 +79,6 @@ settingsFor j = record {
   «page_limit» = limitOf (j .«page_limit»);
 }
 
+-- the range as the planner takes it
 abbrev pub rangeFor : Range → PrintRange
 rangeFor a = record { «first_row» = a .«first_row»; «first_column» = a .«first_column»; «last_row» = a .«last_row»; «last_column» = a .«last_column» }

@@ -27,10 +27,12 @@ pub record PageHanded (o : Outcome Page) (r : ℕ) (old numbers : List ℕ) : Ty
 
 -- ---- of a plan call
 
+-- 0, or the number of the refusal
 abbrev pub answerOf : Planning → ℕ
 answerOf (Value p) = 0
 answerOf (Refused n) = n
 
+-- the sixteen numbers of a plan, or those that stood there
 abbrev pub numbersOf : Planning → List ℕ → List ℕ
 numbersOf (Value p) old = planNumbers p
 numbersOf (Refused n) old = old

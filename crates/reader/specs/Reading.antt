@@ -30,6 +30,7 @@ pub record Lists : Type 0 where
   pub row-breaks : List ℕ
   pub column-breaks : List ℕ
 
+-- ten lists together
 abbrev pub lists : List ℕ → List ℕ → List ℕ → List ℕ → List ℕ → List ℕ → List ℕ → List ℕ → List ℕ → List ℕ → Lists
 lists ri rs ci cs fr fc lr lc rb cb = record {
   row-indexes = ri;
@@ -87,6 +88,7 @@ asked equally-long room s =
 unfoldable pub admitted : Bool → Items → List ℕ → Outcome Items
 admitted equally-long room s = inOrder 1 (asked equally-long room s) (itemsOf (records s))
 
+-- what is asked of a job, and of the lists that are lent for its items
 abbrev pub admittedTo : List ℕ → Lists → Outcome Items
 admittedTo s l = admitted (evenLists l) (roomIn l) s
 

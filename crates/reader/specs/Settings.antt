@@ -58,6 +58,7 @@ abbrev pub titleFrom : List Record → Title
 titleFrom [] = title.Absent
 titleFrom (r ∷ rs) = title.Pair (field 0 r) (field 1 r)
 
+-- the settings of the records, in their order
 abbrev pub settingsOf : List Record → JobSettings
 settingsOf rs = record {
   paper = numberFrom (marked PC rs);

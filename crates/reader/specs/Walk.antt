@@ -54,6 +54,7 @@ pub record Past (k : ℕ) (b : List ℕ) (n : ℕ) : Type 0 where
 abbrev pub isNumber : ℕ → Bool
 isNumber k = eqb k PC || (eqb k SC || (eqb k FW || eqb k FH))
 
+-- a kind of record that has a flag
 abbrev pub isFlag : ℕ → Bool
 isFlag k = eqb k FT || eqb k OD
 
@@ -61,6 +62,7 @@ isFlag k = eqb k FT || eqb k OD
 abbrev pub isSlot : ℕ → Bool
 isSlot k = eqb k RW || eqb k CL
 
+-- a kind of record that has a break
 abbrev pub isBreak : ℕ → Bool
 isBreak k = eqb k BR || eqb k BC
 
@@ -68,6 +70,7 @@ isBreak k = eqb k BR || eqb k BC
 abbrev pub measured : Record → Measured
 measured r = record { index = field 0 r; size = field 1 r }
 
+-- a row and a column as slots
 abbrev pub rowMeasured : RowSlot → Measured
 rowMeasured s = record { index = s .index; size = natAbs (s .size) }
 

@@ -50,6 +50,7 @@ pub record Format : Type 0 where
   pub kind : List ℕ → Record
   pub bytes : ℕ
 
+-- a kind of record, by the two bytes of its mark
 abbrev pub format : ℕ → ℕ → (List ℕ → Record) → ℕ → Format
 format a b k n = record { mark = a + 256 * b; kind = k; bytes = n }
 
@@ -109,6 +110,7 @@ unfoldable pub sizeIn : List Format → ℕ → ℕ
 sizeIn [] m = 0
 sizeIn (f ∷ fs) m = cond (eqb m (f .mark)) (f .bytes) (sizeIn fs m)
 
+-- the record of a known mark at the head of the bytes
 unfoldable pub known : List ℕ → Step
 known s = find (u16At s 0) formats s
 
@@ -204,6 +206,7 @@ rank End = EN
 
 -- ---- the records of a job, up to the first EN
 
+-- an EN
 abbrev pub isEnd : Record → Bool
 isEnd r = eqb (rank r) EN
 
@@ -233,6 +236,7 @@ recordsFrom k [] = []
 recordsFrom zero (b ∷ bs) = onto (step (b ∷ bs)) (recordsFrom (pred (used (step (b ∷ bs)))) bs)
 recordsFrom (suc k) (b ∷ bs) = recordsFrom k bs
 
+-- the records of a job
 unfoldable pub records : List ℕ → List Record
 records s = recordsFrom 0 s
 
@@ -242,11 +246,13 @@ restFrom k [] = []
 restFrom zero (b ∷ bs) = cond (goesOn (step (b ∷ bs))) (restFrom (pred (used (step (b ∷ bs)))) bs) (b ∷ bs)
 restFrom (suc k) (b ∷ bs) = restFrom k bs
 
+-- the bytes from the EN on, or from where no whole known record stands
 unfoldable pub rest : List ℕ → List ℕ
 rest s = restFrom 0 s
 
 -- ---- "each record read is one kind with its own fields": the fields, in the order in which they stand
 
+-- the four numbers of a range of cells
 abbrev pub cellsOf : Range → List ℕ
 cellsOf a = a .«first_row» ∷ a .«first_column» ∷ a .«last_row» ∷ a .«last_column» ∷ []
 

@@ -35,6 +35,7 @@ six-digits = refl
 
 -- ---- the example
 
+-- nothing is noted
 abbrev no-notes : Notes
 no-notes = record {
   «unknown_paper» = 0;

@@ -1,4 +1,4 @@
-// Blocks of page lines, for a program that writes many at a time.
+// Blocks of page lines (document 01, section "Jobs"), for a program that writes many at a time.
 use crate::lines::page_at;
 use rules::PageAnswer;
 use rules::Plan;

@@ -1,4 +1,4 @@
-// The lines of a plan. Each private function puts its line from the place `at` on, and returns the place after it.
+// The lines of a plan: document 01, section "Jobs". Each private function puts its line from the place `at` on, and returns the place after it.
 use crate::text::line;
 use rules::Notes;
 use rules::Page;

@@ -77,5 +77,6 @@ nearestUnits (fin s m e) = wholeUnits s (halfUp (m * up e) (down e))
 abbrev pub inPixels : Float → Float
 inPixels x = mul binary64 x (ofInt binary64 (pos 96))
 
+-- "Inches times 96, times 1,024, each product rounded as f64, then rounded to the nearest whole"
 unfoldable pub inchesToFixed : Float → Outcome ℤ
 inchesToFixed inches = nearestUnits (mul binary64 (inPixels inches) (ofInt binary64 (pos 1024)))

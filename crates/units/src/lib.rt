@@ -24,6 +24,7 @@ pub enum Length {
 impl Fixed {
     pub const ZERO: Self = Self(0);
 
+    // A length of so many units, and its units.
     pub fn from_raw(raw: i64) -> Self
         ensures { λ r. ⌜ r .0 ≡ raw ⌝ }
     {

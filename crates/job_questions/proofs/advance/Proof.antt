@@ -1,3 +1,4 @@
+-- `job_questions::advance` meets its contract. Assumes nothing.
 use borrow.Author.Needs.{needs}
 use Rattle.job_questions.proofs.advance.Statement.{statement}
 use Rattle.job_questions.proofs.advance.Tie as tie

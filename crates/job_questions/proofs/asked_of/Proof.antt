@@ -1,3 +1,4 @@
+-- `job_questions::asked_of` meets its contract. Assumes nothing.
 use mathlib.Core.Path.{sym, ap}
 use Rattle.job_questions.specs.Verdict.{asked}
 use Rattle.job_questions.proofs.Arms.{nothing-asked}

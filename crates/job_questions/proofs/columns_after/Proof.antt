@@ -1,3 +1,4 @@
+-- `job_questions::columns_after` meets its contract. Assumes nothing.
 use mathlib.Core.Path.{sym, ap, _∙_}
 use Rattle.job_questions.specs.Pass.{columnsAfter}
 use Rattle.job_questions.proofs.Arms.{no-column}

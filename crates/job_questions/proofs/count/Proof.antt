@@ -1,3 +1,4 @@
+-- `job_questions::count` meets its contract. Assumes nothing.
 use borrow.Author.Needs.{needs}
 use Rattle.job_questions.proofs.count.Statement.{statement}
 use Rattle.job_questions.proofs.count.Tie as tie

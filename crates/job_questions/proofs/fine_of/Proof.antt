@@ -1,3 +1,4 @@
+-- `job_questions::fine_of` meets its contract. Assumes nothing.
 use mathlib.Core.Path.{sym, ap}
 use Rattle.job_questions.specs.Pass.{fine}
 use borrow.Author.Needs.{needs}

@@ -1,3 +1,4 @@
+-- `job_questions::first_no` meets its contract. Assumes nothing.
 use Rattle.job_questions.specs.Pass.{answer}
 use Rattle.job_questions.proofs.PassLaws.{no-here, yes-here, none-no}
 use borrow.Author.Tests.{not-true, not-false}

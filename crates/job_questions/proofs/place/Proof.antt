@@ -1,3 +1,4 @@
+-- `job_questions::place` meets its contract. Assumes nothing.
 use borrow.Author.Needs.{needs}
 use Rattle.job_questions.proofs.place.Statement.{statement}
 use Rattle.job_questions.proofs.place.Tie as tie

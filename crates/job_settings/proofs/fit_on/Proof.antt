@@ -1,3 +1,4 @@
+-- `job_settings::fit_on` meets its contract. Assumes nothing.
 use mathlib.Core.Path.{sym, ap}
 use Rattle.job_settings.specs.declared.FlagSetting.{FlagSetting}
 use Rattle.job_settings.specs.Meaning.{fitOn}

@@ -1,3 +1,4 @@
+-- `job_settings::margin_setting` meets its contract. Assumes nothing.
 use mathlib.Core.Path.{sym, ap}
 use Rattle.job_settings.specs.Meaning.{marginSetting}
 use borrow.Author.Needs.{needs}

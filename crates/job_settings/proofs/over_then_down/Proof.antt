@@ -1,3 +1,4 @@
+-- `job_settings::over_then_down` meets its contract. Assumes nothing.
 use mathlib.Core.Path.{sym, ap}
 use Rattle.job_settings.specs.Meaning.{overThenDown}
 use borrow.Author.Needs.{needs}

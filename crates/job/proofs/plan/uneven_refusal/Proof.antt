@@ -1,3 +1,4 @@
+-- `job::plan::uneven_refusal` meets its contract. Assumes nothing.
 use mathlib.Core.Path.{sym, ap, _∙_}
 use Rattle.job_questions.specs.Verdict.{checkedOutcome}
 use Rattle.job.proofs.JobLaws.{never-uneven}

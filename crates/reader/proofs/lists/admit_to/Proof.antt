@@ -1,3 +1,4 @@
+-- `reader::lists::admit_to` meets its contract. Assumes nothing.
 use borrow.Author.Needs.{needs}
 use Rattle.reader.proofs.lists.admit_to.Statement.{statement}
 use Rattle.reader.proofs.lists.admit_to.Tie as tie

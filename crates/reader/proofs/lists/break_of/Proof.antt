@@ -1,3 +1,4 @@
+-- `reader::lists::break_of` meets its contract. Assumes nothing.
 use mathlib.Core.Path.{sym, ap}
 use Rattle.records.specs.Records.{field}
 use Rattle.reader.proofs.WalkLaws.{no-break}

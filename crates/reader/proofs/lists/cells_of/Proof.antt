@@ -1,3 +1,4 @@
+-- `reader::lists::cells_of` meets its contract. Assumes nothing.
 use mathlib.Core.Path.{sym, ap}
 use mathlib.Core.List.{[], _∷_}
 use Rattle.reader.specs.Walk.{cells}

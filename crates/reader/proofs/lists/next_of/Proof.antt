@@ -1,3 +1,4 @@
+-- `reader::lists::next_of` meets its contract. Assumes nothing.
 use Rattle.reader.proofs.WalkLaws.{kind-none, kind-some, kind-other}
 use borrow.Author.Needs.{needs}
 use Rattle.reader.proofs.lists.next_of.Statement.{statement}

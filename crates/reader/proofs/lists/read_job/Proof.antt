@@ -1,3 +1,4 @@
+-- `reader::lists::read_job` meets its contract. Assumes nothing.
 use mathlib.Core.Path.{refl}
 use Rattle.reader.specs.Reading.{lists}
 use Rattle.reader.proofs.ReadingLaws.{given-sorted, given-room, job-given, job-refused}

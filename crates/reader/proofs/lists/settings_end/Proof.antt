@@ -1,3 +1,4 @@
+-- `reader::lists::settings_end` meets its contract. Assumes nothing.
 use lib.ListN.{length}
 use Rattle.records.proofs.RecordLaws.{length-part}
 use Rattle.reader.proofs.WalkLaws.{Going, going-start, going-on, past-end, past-at, walk-used}

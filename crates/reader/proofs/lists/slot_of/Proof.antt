@@ -1,3 +1,4 @@
+-- `reader::lists::slot_of` meets its contract. Assumes nothing.
 use mathlib.Core.Path.{sym, ap, _∙_}
 use Rattle.reader.specs.Walk.{measured}
 use Rattle.reader.proofs.WalkLaws.{no-slot}

@@ -1,3 +1,4 @@
+-- `reader::lists::write_breaks` meets its contract. Assumes nothing.
 use lib.ListN.{length}
 use Prim.Native.Nat.{_+_}
 use Rattle.records.specs.Records.{field, records, marked}

@@ -1,3 +1,4 @@
+-- `reader::lists::write_merges` meets its contract. Assumes nothing.
 use mathlib.Core.Path.{ap}
 use lib.ListN.{length}
 use Rattle.records.specs.declared.records.Range.{Range}

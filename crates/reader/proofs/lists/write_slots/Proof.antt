@@ -1,3 +1,4 @@
+-- `reader::lists::write_slots` meets its contract. Assumes nothing.
 use mathlib.Core.Path.{ap}
 use lib.ListN.{length}
 use Prim.Native.Nat.{_+_}

@@ -1,3 +1,4 @@
+-- `reader::settings::column_title_of` meets its contract. Assumes nothing.
 use mathlib.Core.Path.{refl}
 use mathlib.Core.List.{[], _∷_}
 use Rattle.records.specs.Records.{records}

@@ -1,3 +1,4 @@
+-- `reader::settings::find_record` meets its contract. Assumes nothing.
 use mathlib.Core.Path.{_≡_, refl}
 use lib.ListN.{length}
 use Rattle.records.specs.Records.{records, marked}

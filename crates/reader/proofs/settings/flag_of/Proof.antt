@@ -1,3 +1,4 @@
+-- `reader::settings::flag_of` meets its contract. Assumes nothing.
 use mathlib.Core.Path.{refl}
 use Rattle.records.specs.Records.{records}
 use Rattle.reader.specs.Settings.{flagFrom}

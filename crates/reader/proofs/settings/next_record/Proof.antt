@@ -1,3 +1,4 @@
+-- `reader::settings::next_record` meets its contract. Assumes nothing.
 use Rattle.reader.proofs.WalkLaws.{next-nothing, next-end, next-kind}
 use borrow.Author.Needs.{needs}
 use Rattle.reader.proofs.settings.next_record.Statement.{statement}

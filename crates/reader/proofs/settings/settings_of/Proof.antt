@@ -1,3 +1,4 @@
+-- `reader::settings::settings_of` meets its contract. Assumes nothing.
 use mathlib.Core.Path.{refl}
 use Rattle.reader.proofs.settings.settings_of.Statement.{statement}
 use Rattle.reader.proofs.settings.settings_of.Tie as tie

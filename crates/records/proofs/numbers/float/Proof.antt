@@ -1,3 +1,4 @@
+-- `records::numbers::float` meets its contract. Assumes nothing.
 use mathlib.Core.Path.{refl}
 use lib.Ieee.{ofBits, ofFields, div, odd}
 use Rattle.records.specs.Numbers.{f64Of}

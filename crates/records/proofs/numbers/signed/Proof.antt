@@ -1,3 +1,4 @@
+-- `records::numbers::signed` meets its contract. Assumes nothing.
 use mathlib.Core.Path.{refl}
 use Rattle.records.specs.Numbers.{i64Of}
 use Rattle.records.proofs.NumberLaws.{flip-fits, flipped}

@@ -1,3 +1,4 @@
+-- `records::records::column_at` meets its contract. Assumes nothing.
 use mir.Syntax.{w64}
 use mir.Facts.{toZ-ofZ}
 use borrow.Author.Needs.{needs}

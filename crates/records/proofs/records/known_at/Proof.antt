@@ -1,3 +1,4 @@
+-- `records::records::known_at` meets its contract. Assumes nothing.
 use mathlib.Core.Path.{_∙_}
 use native.Mathlib.Nat.{le-trans}
 use Rattle.records.specs.Records.{find, formats, sizeIn}

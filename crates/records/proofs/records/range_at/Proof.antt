@@ -1,3 +1,4 @@
+-- `records::records::range_at` meets its contract. Assumes nothing.
 use Rattle.records.proofs.NumberLaws.{within}
 use Rattle.records.proofs.records.range_at.Statement.{statement}
 use Rattle.records.proofs.records.range_at.Tie as tie

@@ -1,3 +1,4 @@
+-- `records::records::read_record` meets its contract. Assumes nothing.
 use Rattle.records.proofs.RecordLaws.{step-short, step-cut, step-whole}
 use borrow.Author.Needs.{needs}
 use Rattle.records.proofs.records.read_record.Statement.{statement}

@@ -1,3 +1,4 @@
+-- `records::records::setting_at` meets its contract. Assumes nothing.
 use Rattle.records.specs.Records.{find, formats, settings, sizeIn}
 use Rattle.records.proofs.NumberLaws.{within}
 use Rattle.records.proofs.RecordLaws.{at-mark, size-of-mark, no-mark}

@@ -1,3 +1,4 @@
+-- `records::records::size_of` meets its contract. Assumes nothing.
 use mathlib.Core.Path.{refl}
 use mathlib.Core.List.{[], _∷_}
 use Rattle.records.specs.Records.{sizeIn, formats}
