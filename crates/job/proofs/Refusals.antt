@@ -4,13 +4,11 @@ use mathlib.Core.Bool.{true, _&&_}
 use mathlib.Core.List.{List}
 use Prim.Native.Nat.{ℕ, _≤_, _<_}
 use native.Mathlib.Omega.{arith}
-use lib.Dec.{leb}
 use lib.ListN.{length, length-map}
 use Rattle.units.specs.Outcome.{Outcome, given, refused, andThen}
-use Rattle.rules.specs.Questions.{ask}
 use Rattle.rules.specs.Pages.{RunLists, evenLists}
-use Rattle.rules.specs.Plan.{planned, roomFor, layout}
-use Rattle.rules.proofs.NoTen.{never-ten, past-nine, asked, not-given}
+use Rattle.rules.specs.Plan.{planned}
+use Rattle.rules.proofs.NoTen.{never-ten, plan-numbers}
 use Rattle.rules.proofs.RunCount.{never-eleven}
 use Rattle.job_questions.specs.declared.Items.{Items}
 use Rattle.records.specs.Records.{RW, CL, field, records, marked}
@@ -49,11 +47,5 @@ job-never-eleven s rows columns hr hc e =
 
 -- pages are taken by number, and no plan asks 13
 pub job-never-thirteen : (s : List ℕ) (rows columns : RunLists) → planJob s rows columns ≡ refused 13 → ⊥
-unfolding roomFor
 job-never-thirteen s rows columns e =
-    let w = past-nine (jobSettings s) (jobRows s) (jobColumns s) rows columns 13 (omega arith) (in-plan s rows columns 13 (omega arith) e .2) in
-    let l = layout (jobSettings s) (w .sides) (jobRows s) (jobColumns s) in
-    let fits = leb (length (l .rows)) (length (rows .firsts)) && leb (length (l .columns)) (length (columns .firsts)) in
-    let few = leb (l .plan .pages) (jobSettings s .«page_limit») in
-    let eleven = asked 11 13 fits (ask 12 few (given l)) (λ i. omega arith) (w .room) in
-    not-given l 13 (asked 12 13 few (given l) (λ i. omega arith) (eleven .1) .1)
+    omega (arith, plan-numbers (jobSettings s) (jobRows s) (jobColumns s) rows columns 13 (in-plan s rows columns 13 (omega arith) e .2) .1)

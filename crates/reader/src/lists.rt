@@ -18,7 +18,7 @@ ghost use mathlib.Core.List.{[]};
 ghost use Prim.Native.Nat.{_+_, _≤_};
 ghost use lib.ListN.{length};
 ghost use Rattle.rules.specs.Slots.{written};
-ghost use Rattle.records.specs.Records.{rank, step, records, marked, values, field};
+ghost use Rattle.records.specs.Records.{rank, step, records, marked, values, field, MR};
 ghost use Rattle.job_questions.specs.Verdict.{checkedOutcome};
 ghost use Rattle.reader.specs.Walk.{before, ofKind, Sorted, Past, isSlot, isBreak, measured};
 ghost use Rattle.reader.specs.Walk as walk;
@@ -173,15 +173,15 @@ fn write_merges(
     last_columns: &mut [u32],
 ) -> usize
     requires { ⌜ Sorted 16 (records (now bytes)) ⌝ }
-    requires { ⌜ length (marked 16 (records (now bytes))) ≤ length (now «first_rows») ⌝ }
+    requires { ⌜ length (marked MR (records (now bytes))) ≤ length (now «first_rows») ⌝ }
     requires { ⌜ length (now «first_rows») ≡ length (now «first_columns») ⌝ }
     requires { ⌜ length (now «first_rows») ≡ length (now «last_rows») ⌝ }
     requires { ⌜ length (now «first_rows») ≡ length (now «last_columns») ⌝ }
     ensures { λ r. ⌜ Past 17 (now (bytes .entry)) r ⌝ }
-    ensures { λ _. ⌜ now («first_rows» .exit) ≡ written (values 16 0 (records (now (bytes .entry)))) (now («first_rows» .entry)) ⌝ }
-    ensures { λ _. ⌜ now («first_columns» .exit) ≡ written (values 16 1 (records (now (bytes .entry)))) (now («first_columns» .entry)) ⌝ }
-    ensures { λ _. ⌜ now («last_rows» .exit) ≡ written (values 16 2 (records (now (bytes .entry)))) (now («last_rows» .entry)) ⌝ }
-    ensures { λ _. ⌜ now («last_columns» .exit) ≡ written (values 16 3 (records (now (bytes .entry)))) (now («last_columns» .entry)) ⌝ }
+    ensures { λ _. ⌜ now («first_rows» .exit) ≡ written (values MR 0 (records (now (bytes .entry)))) (now («first_rows» .entry)) ⌝ }
+    ensures { λ _. ⌜ now («first_columns» .exit) ≡ written (values MR 1 (records (now (bytes .entry)))) (now («first_columns» .entry)) ⌝ }
+    ensures { λ _. ⌜ now («last_rows» .exit) ≡ written (values MR 2 (records (now (bytes .entry)))) (now («last_rows» .entry)) ⌝ }
+    ensures { λ _. ⌜ now («last_columns» .exit) ≡ written (values MR 3 (records (now (bytes .entry)))) (now («last_columns» .entry)) ⌝ }
 {
     let mut s = bytes;
     let mut k: usize = 0;

@@ -12,7 +12,7 @@ use records::read_record;
 use rules::Title;
 ghost use mathlib.Core.Path.{_≡_};
 ghost use mathlib.Core.Bool.{true};
-ghost use Rattle.records.specs.Records.{step, records, marked};
+ghost use Rattle.records.specs.Records.{step, records, marked, MG, LP, AR, TR, TC};
 ghost use Rattle.reader.specs.Settings as section;
 ghost use Rattle.reader.specs.Walk.{before, firstOf, Sorted, isNumber, isFlag};
 
@@ -134,7 +134,7 @@ fn is_there(bytes: &[u8], wanted: u8) -> bool
 
 fn margins_of(bytes: &[u8]) -> MarginsRead
     requires { ⌜ Sorted 0 (records (now bytes)) ⌝ }
-    ensures { λ r. ⌜ r ≡ section.marginsFrom (marked 3 (records (now (bytes .entry)))) ⌝ }
+    ensures { λ r. ⌜ r ≡ section.marginsFrom (marked MG (records (now (bytes .entry)))) ⌝ }
 {
     let Lookup::Found(found) = find_record(bytes, MARGINS) else {
         return MarginsRead::Absent;
@@ -147,7 +147,7 @@ fn margins_of(bytes: &[u8]) -> MarginsRead
 
 fn limit_of(bytes: &[u8]) -> LimitSetting
     requires { ⌜ Sorted 0 (records (now bytes)) ⌝ }
-    ensures { λ r. ⌜ r ≡ section.limitFrom (marked 10 (records (now (bytes .entry)))) ⌝ }
+    ensures { λ r. ⌜ r ≡ section.limitFrom (marked LP (records (now (bytes .entry)))) ⌝ }
 {
     let Lookup::Found(found) = find_record(bytes, PAGE_LIMIT) else {
         return LimitSetting::Absent;
@@ -171,7 +171,7 @@ fn nowhere() -> Range
 
 fn range_of(bytes: &[u8]) -> Range
     requires { ⌜ Sorted 0 (records (now bytes)) ⌝ }
-    ensures { λ r. ⌜ r ≡ section.rangeFrom (marked 11 (records (now (bytes .entry)))) ⌝ }
+    ensures { λ r. ⌜ r ≡ section.rangeFrom (marked AR (records (now (bytes .entry)))) ⌝ }
 {
     let Lookup::Found(found) = find_record(bytes, RANGE) else {
         return nowhere();
@@ -184,7 +184,7 @@ fn range_of(bytes: &[u8]) -> Range
 
 fn row_title_of(bytes: &[u8]) -> Title
     requires { ⌜ Sorted 0 (records (now bytes)) ⌝ }
-    ensures { λ r. ⌜ r ≡ section.titleFrom (marked 12 (records (now (bytes .entry)))) ⌝ }
+    ensures { λ r. ⌜ r ≡ section.titleFrom (marked TR (records (now (bytes .entry)))) ⌝ }
 {
     let Lookup::Found(found) = find_record(bytes, ROW_TITLE) else {
         return Title::Absent;
@@ -197,7 +197,7 @@ fn row_title_of(bytes: &[u8]) -> Title
 
 fn column_title_of(bytes: &[u8]) -> Title
     requires { ⌜ Sorted 0 (records (now bytes)) ⌝ }
-    ensures { λ r. ⌜ r ≡ section.titleFrom (marked 13 (records (now (bytes .entry)))) ⌝ }
+    ensures { λ r. ⌜ r ≡ section.titleFrom (marked TC (records (now (bytes .entry)))) ⌝ }
 {
     let Lookup::Found(found) = find_record(bytes, COLUMN_TITLE) else {
         return Title::Absent;

@@ -20,6 +20,7 @@ use Rattle.rules.specs.Questions.{ask, equallyLong, risingWithin, allSma
 use Rattle.rules.specs.Scale.{units}
 use Rattle.rules.specs.Pages.{RunLists, evenLists}
 use Rattle.rules.specs.Plan.{AxisInput, Sides, Layout, contentSides, layout, formed, inGrid, roomFor, planned}
+use Rattle.rules.proofs.Laws.{split}
 
 -- ---- the content's sides
 
@@ -92,13 +93,14 @@ asked n k false rest d e = let same : n ≡ k = cc in absurd (d same)
 pub not-given : {A : Type 0} (a : A) (k : ℕ) → given a ≡ refused k → ⊥
 not-given a k e = let z : _≡_ {A = ℕ} 0 1 = cc in omega arith
 
--- a plan that is refused with a number past 9: 6 was answered yes, the content has sides, and the refusal is that of the room
+-- a plan that is refused with none of 6 to 9: 6 was answered yes, the content has sides, and the refusal is that of the room
 pub record PastNine (s : Settings) (rows columns : AxisInput) (lr lc : RunLists) (k : ℕ) : Type 0 where
   pub sides : Sides
   pub six : formed rows (evenLists lr) && formed columns (evenLists lc) && equallyLong (rows .merge-firsts) (columns .merge-firsts) ≡ true
   pub room : roomFor (layout s sides rows columns) (length (lr .firsts)) (length (lc .firsts)) (s .«page_limit») ≡ refused k
 
-pub past-nine : (s : Settings) (rows columns : AxisInput) (lr lc : RunLists) (k : ℕ) → 9 < k → planned s rows columns lr lc ≡ refused k → PastNine s rows columns lr lc k
+pub past-nine : (s : Settings) (rows columns : AxisInput) (lr lc : RunLists) (k : ℕ) → ((n : ℕ) → 6 ≤ n → n ≤ 9 → n ≡ k → ⊥)
+    → planned s rows columns lr lc ≡ refused k → PastNine s rows columns lr lc k
 unfolding planned
 past-nine s rows columns lr lc k h e =
     let q6 = formed rows (evenLists lr) && formed columns (evenLists lc) && equallyLong (rows .merge-firsts) (columns .merge-firsts) in
@@ -107,23 +109,32 @@ past-nine s rows columns lr lc k h e =
     let q9 = allSmall (rows .sizes) && allSmall (columns .sizes) in
     let next : Sides → Outcome Layout = λ x. roomFor (layout s x rows columns) (length (lr .firsts)) (length (lc .firsts)) (s .«page_limit») in
     let after = andThen (contentSides s) next in
-    let six = asked 6 k q6 (ask 7 q7 (ask 8 q8 (ask 9 q9 after))) (λ i. omega arith) e in
-    let seven = asked 7 k q7 (ask 8 q8 (ask 9 q9 after)) (λ i. omega arith) (six .1) in
-    let eight = asked 8 k q8 (ask 9 q9 after) (λ i. omega arith) (seven .1) in
-    let nine = asked 9 k q9 after (λ i. omega arith) (eight .1) in
+    let six = asked 6 k q6 (ask 7 q7 (ask 8 q8 (ask 9 q9 after))) (h 6 (omega arith) (omega arith)) e in
+    let seven = asked 7 k q7 (ask 8 q8 (ask 9 q9 after)) (h 7 (omega arith) (omega arith)) (six .1) in
+    let eight = asked 8 k q8 (ask 9 q9 after) (h 8 (omega arith) (omega arith)) (seven .1) in
+    let nine = asked 9 k q9 after (h 9 (omega arith) (omega arith)) (eight .1) in
     let c = sides-given s in
     record { sides = c .0; six = six .0; room = sym (ap (λ (o : Outcome Sides). andThen o next) (c .1)) ∙ nine .1 }
 
-room-not-ten : (l : Layout) (row-room column-room limit : ℕ) → roomFor l row-room column-room limit ≡ refused 10 → ⊥
+-- the room refuses with 11 or 12
+room-numbers : (l : Layout) (row-room column-room limit k : ℕ) → roomFor l row-room column-room limit ≡ refused k → (11 ≤ k) × (k ≤ 12)
 unfolding roomFor
-room-not-ten l row-room column-room limit e =
-    let fits = leb (length (l .rows)) row-room && leb (length (l .columns)) column-room in
-    let few = leb (l .plan .pages) limit in
-    let eleven = asked 11 10 fits (ask 12 few (given l)) (λ i. omega arith) e in
-    let twelve = asked 12 10 few (given l) (λ i. omega arith) (eleven .1) in
-    not-given l 10 (twelve .1)
+room-numbers l row-room column-room limit k e = go (leb (length (l .rows)) row-room && leb (length (l .columns)) column-room) (leb (l .plan .pages) limit) e
+  where
+    go : (fits few : Bool) → ask 11 fits (ask 12 few (given l)) ≡ refused k → (11 ≤ k) × (k ≤ 12)
+    go false few e = let i : 11 ≡ k = cc in (omega arith, omega arith)
+    go true false e = let i : 12 ≡ k = cc in (omega arith, omega arith)
+    go true true e = absurd (not-given l k e)
+
+-- a plan is refused with 6 to 9, 11 or 12
+pub plan-numbers : (s : Settings) (rows columns : AxisInput) (lr lc : RunLists) (k : ℕ) → planned s rows columns lr lc ≡ refused k
+    → (6 ≤ k) × (k ≤ 12) × (k ≡ 10 → ⊥)
+plan-numbers s rows columns lr lc k e =
+    split 6 k (λ h. split k 9 (λ g. (h, omega arith, λ i. omega arith)) (λ g. let r = of-room (λ n low high i. omega arith) in (omega arith, r .1, λ i. omega arith)))
+    (λ h. let r = of-room (λ n low high i. omega arith) in absurd (omega arith))
+  where
+    of-room : ((n : ℕ) → 6 ≤ n → n ≤ 9 → n ≡ k → ⊥) → (11 ≤ k) × (k ≤ 12)
+    of-room h = let w = past-nine s rows columns lr lc k h e in room-numbers (layout s (w .sides) rows columns) _ _ _ k (w .room)
 
 pub never-ten : (s : Settings) (rows columns : AxisInput) (lr lc : RunLists) → planned s rows columns lr lc ≡ refused 10 → ⊥
-never-ten s rows columns lr lc e =
-    let w = past-nine s rows columns lr lc 10 (omega arith) e in
-    room-not-ten (layout s (w .sides) rows columns) _ _ _ (w .room)
+never-ten s rows columns lr lc e = plan-numbers s rows columns lr lc 10 e .2 refl

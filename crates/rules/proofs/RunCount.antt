@@ -56,7 +56,7 @@ pub never-eleven : (s : Settings) (a b : AxisInput) (rows columns : RunLists) �
     → length (b .indexes) ≤ length (columns .firsts) → 1 ≤ length (columns .firsts) → planned s a b rows columns ≡ refused 11 → ⊥
 unfolding roomFor layout layoutAt
 never-eleven s a b rows columns ra oa rb ob e =
-    let w = past-nine s a b rows columns 11 (omega arith) e in
+    let w = past-nine s a b rows columns 11 (λ n low high i. omega arith) e in
     let six = both (formed a (evenLists rows) && formed b (evenLists columns)) (equallyLong (a .merge-firsts) (b .merge-firsts)) (w .six) in
     let each = both (formed a (evenLists rows)) (formed b (evenLists columns)) (six .0) in
     let p = chosenScale s (w .sides) a b .permille in

@@ -4,19 +4,16 @@ use mathlib.Core.Bool.{Bool, true, false, _&&_}
 use mathlib.Core.List.{List, [], _∷_}
 use Prim.Native.Nat.{ℕ, zero, suc, _≤_}
 use native.Mathlib.Omega.{arith}
-use lib.Dec.{leb}
-use lib.ListN.{length}
 use Rattle.units.specs.Outcome.{Outcome, given, refused, andThen}
 use Rattle.rules.specs.declared.pages.PageAnswer.{PageAnswer}
 use Rattle.rules.specs.declared.pages.Plan.{Plan}
 use Rattle.rules.specs.declared.plan.Settings.{Settings}
 use Rattle.rules.specs.declared.plan.Planning.{Planning}
 use Rattle.rules.specs.declared.plan.Planning.the-variants.{Value, Refused}
-use Rattle.rules.specs.Questions.{ask, equallyLong, risingWithin, allSmall}
 use Rattle.rules.specs.Pages.{RunLists, evenLists, pageNumbered, pageOutcome}
-use Rattle.rules.specs.Plan.{AxisInput, Sides, Layout, Planned, rowsOf, columnsOf, contentSides, layout, formed, inGrid, roomFor, planned, planOutcome}
+use Rattle.rules.specs.Plan.{AxisInput, Layout, Planned, rowsOf, columnsOf, planned, planOutcome}
 use Rattle.rules.specs.Demand.{CoversPairs, FewestPlan, LargestPlan}
-use Rattle.rules.proofs.NoTen.{sides-given, asked, not-given}
+use Rattle.rules.proofs.NoTen.{not-given, plan-numbers}
 use Rattle.job_questions.specs.declared.Items.{Items}
 use Rattle.records.specs.Records.{records}
 use Rattle.job_questions.specs.Verdict.{inOrder, questions, itemsOf, verdictLent}
@@ -40,26 +37,7 @@ unfolding verdictLent
 questions-not-zero even s e = let i = from-first (itemsOf (records s)) 1 0 (questions even s) e in omega (arith, i)
 
 pub plan-not-zero : (s : Settings) (rows columns : AxisInput) (lr lc : RunLists) → planned s rows columns lr lc ≡ refused 0 → ⊥
-unfolding planned roomFor
-plan-not-zero s rows columns lr lc e =
-    let q6 = formed rows (evenLists lr) && formed columns (evenLists lc) && equallyLong (rows .merge-firsts) (columns .merge-firsts) in
-    let q7 = inGrid rows && inGrid columns in
-    let q8 = risingWithin (rows .limit) (rows .indexes) && risingWithin (columns .limit) (columns .indexes) in
-    let q9 = allSmall (rows .sizes) && allSmall (columns .sizes) in
-    let next : Sides → Outcome Layout = λ x. roomFor (layout s x rows columns) (length (lr .firsts)) (length (lc .firsts)) (s .«page_limit») in
-    let after = andThen (contentSides s) next in
-    let six = asked 6 0 q6 (ask 7 q7 (ask 8 q8 (ask 9 q9 after))) (λ i. omega arith) e in
-    let seven = asked 7 0 q7 (ask 8 q8 (ask 9 q9 after)) (λ i. omega arith) (six .1) in
-    let eight = asked 8 0 q8 (ask 9 q9 after) (λ i. omega arith) (seven .1) in
-    let nine = asked 9 0 q9 after (λ i. omega arith) (eight .1) in
-    let c = sides-given s in
-    let l = layout s (c .0) rows columns in
-    let room = sym (ap (λ (o : Outcome Sides). andThen o next) (c .1)) ∙ nine .1 in
-    let fits = leb (length (l .rows)) (length (lr .firsts)) && leb (length (l .columns)) (length (lc .firsts)) in
-    let few = leb (l .plan .pages) (s .«page_limit») in
-    let eleven = asked 11 0 fits (ask 12 few (given l)) (λ i. omega arith) room in
-    let twelve = asked 12 0 few (given l) (λ i. omega arith) (eleven .1) in
-    not-given l 0 (twelve .1)
+plan-not-zero s rows columns lr lc e = omega (arith, plan-numbers s rows columns lr lc 0 e .0)
 
 pub job-not-zero : (s : List ℕ) (rows columns : RunLists) → planJob s rows columns ≡ refused 0 → ⊥
 unfolding planJob
