@@ -30,12 +30,14 @@ class Axis:
     lent: tuple = (0, 0, 0, 0)
 
 
+def lengths(a):
+    return (*map(len, (a.indexes, a.sizes, a.firsts, a.lasts, a.breaks)), *a.lent)
+
+
 def line(letter, a):
-    lists = (a.indexes, a.sizes, a.firsts, a.lasts, a.breaks)
-    lengths = (*map(len, lists), *a.lent)
-    assert max(lengths) <= MOST, lengths
+    assert max(lengths(a)) <= MOST, lengths(a)
     title = a.title or (0, 0)
-    head = (a.columns, a.title is not None, *lengths, *a.range, *title, *a.capacities)
+    head = (a.columns, a.title is not None, *lengths(a), *a.range, *title, *a.capacities)
     tail = "".join(
         (
             " %08x" * len(a.indexes) % tuple(a.indexes),
@@ -332,9 +334,11 @@ AXIS_FAULTS = (
 
 
 def spoilt(r, a, faults):
-    """At times a fault, at times two."""
+    """At times a fault, at times several. One that makes a list longer than a line can have is left out."""
     while chance(r, 0.12):
-        a = pick(r, faults)(r, a)
+        worse = pick(r, faults)(r, a)
+        if max(lengths(worse)) <= MOST:
+            a = worse
     return a
 
 
