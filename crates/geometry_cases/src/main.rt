@@ -2,7 +2,6 @@
 // then a list of inputs on standard input, by a line each. The file `stdout` has the Rust's answers to the list in `stdin`.
 mod figures;
 mod lengths;
-mod numbers;
 mod paper;
 mod replay;
 mod text;

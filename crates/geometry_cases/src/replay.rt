@@ -7,7 +7,6 @@
 //     p  paper_geometry     0 absent or 1 given, code, landscape 0 or 1
 //     m  content_geometry   width, height, left, right, top, bottom, header, footer
 //     a  content_geometry   width, height; margins absent
-use crate::numbers::signed;
 use crate::text::count;
 use crate::text::number;
 use crate::text::word;
@@ -19,7 +18,8 @@ use geometry::Setting;
 use libc::STDIN_FILENO;
 use lines::bits;
 use lines::digit;
-use lines::float;
+use records::float;
+use records::signed;
 use units::Fixed;
 use units::Length;
 ghost use Prim.Native.Nat.{_<_};

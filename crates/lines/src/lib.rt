@@ -1,6 +1,5 @@
-// Numbers that stand in text as hexadecimal digits, and what bits stand for, for programs that replay lines of input.
+// Numbers that stand in text as hexadecimal digits, for programs that replay lines of input.
 ghost use mathlib.Core.Path.{_≡_};
-ghost use lib.Ieee.{ofBits, binary64};
 ghost use Rattle.lines.specs.Hex.{digitOf, number};
 
 fn wide(byte: u8) -> u64
@@ -39,15 +38,4 @@ pub fn bits(digits: &[u8]) -> u64
         i += 1;
     }
     value
-}
-
-// The float that 64 bits stand for; every NaN's pattern gives a NaN.
-pub fn float(pattern: u64) -> f64
-    ensures { λ r. ⌜ r ≡ ofBits binary64 pattern ⌝ }
-{
-    if pattern % 0x8000_0000_0000_0000 > 0x7ff0_0000_0000_0000 {
-        0.0 / 0.0
-    } else {
-        f64::from_bits(pattern)
-    }
 }

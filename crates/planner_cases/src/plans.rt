@@ -14,7 +14,7 @@ use crate::plan_head::length;
 use geometry::MarginSetting;
 use geometry::Margins;
 use libc::STDIN_FILENO;
-use lines::float;
+use records::float;
 use rules::Planning;
 use rules::Settings;
 

@@ -16,7 +16,7 @@ use Rattle.job_questions.specs.declared.Items.{Items}
 use Rattle.records.specs.Records.{Format, RW, CL, MR, BR, BC, find, formats, known, step, rank, isEnd, used, onto, recordsFrom, records, marked}
 use Rattle.job_questions.specs.Verdict.{question6, questions, inOrder, verdictLent, itemsOf}
 use Rattle.reader.specs.Reading.{Lists, evenLists, roomIn, fitIn, asked, jobOf, readJob}
-use Rattle.records.proofs.RecordLaws.{in-whole, step-used}
+use Rattle.records.proofs.RecordLaws.{in-whole, step-used, split}
 use Rattle.job_questions.proofs.PassLaws.{All}
 use Rattle.reader.proofs.ReadingLaws.{all-given}
 
@@ -26,10 +26,6 @@ use Rattle.reader.proofs.ReadingLaws.{all-given}
 abbrev heavy : ℕ → ℕ → List ℕ → List Format → Bool
 heavy k w s [] = true
 heavy k w s (f ∷ fs) = cond (cond (eqb (rank (f .kind s)) k) (leb w (f .bytes)) true) (heavy k w s fs) false
-
-split : (a b : Bool) → T (cond a b false) → T a × T b
-split true b t = (tt, t)
-split false b t = absurd t
 
 heavy-here : (k w : ℕ) (f : Format) (s : List ℕ) → T (cond (eqb (rank (f .kind s)) k) (leb w (f .bytes)) true) → eqb (rank (f .kind s)) k ≡ true → w ≤ f .bytes
 heavy-here k w f s t e = leb→le w (f .bytes) (rw e at t)

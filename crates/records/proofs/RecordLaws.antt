@@ -89,7 +89,7 @@ abbrev pub covers : List (List ℕ) → List Format → Bool
 covers kss [] = true
 covers kss (f ∷ fs) = cond (among kss (f .mark)) (covers kss fs) false
 
-split : (a b : Bool) → T (cond a b false) → T a × T b
+pub split : (a b : Bool) → T (cond a b false) → T a × T b
 split true b t = (tt, t)
 split false b t = absurd t
 

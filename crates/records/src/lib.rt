@@ -3,6 +3,7 @@ mod numbers;
 mod records;
 
 pub use numbers::float;
+pub use numbers::signed;
 pub use records::ColumnSlot;
 pub use records::MarginBits;
 pub use records::Merge;

@@ -32,7 +32,7 @@ pub(crate) fn u64_at(s: &[u8], at: usize) -> u64
 }
 
 // The signed number that 64 bits stand for.
-pub(crate) fn signed(bits: u64) -> i64
+pub fn signed(bits: u64) -> i64
     ensures { λ r. ⌜ r ≡ i64Of bits ⌝ }
 {
     if bits < 0x8000_0000_0000_0000 {

@@ -9,16 +9,13 @@ use lib.ListN.{length, take, drop, length-drop, take-append-drop}
 use lib.Seq.{drop-drop, length-take-le}
 use Rattle.rules.specs.Slots.{sum}
 use Rattle.rules.specs.Division.{_∈_, Division, startsFrom, CutsAt, pieces, Within}
+use Rattle.rules.specs.Pages.{joined}
 use Rattle.rules.proofs.Laws.{split}
 
 -- ---- what runs have of a list, put together, is the list
 
-unfoldable pub join : {A : Type 0} → List (List A) → List A
-join [] = []
-join (p ∷ ps) = p ++ join ps
-
-pub join-pieces : {A : Type 0} (ns : List ℕ) (xs : List A) → sum ns ≡ length xs → join (pieces ns xs) ≡ xs
-unfolding join pieces sum
+pub join-pieces : {A : Type 0} (ns : List ℕ) (xs : List A) → sum ns ≡ length xs → joined (pieces ns xs) ≡ xs
+unfolding joined pieces sum
 join-pieces [] [] h = refl
 join-pieces [] (x ∷ xs) h = absurd (omega arith)
 join-pieces (n ∷ ns) xs h =

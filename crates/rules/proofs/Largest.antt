@@ -23,9 +23,10 @@ use Rattle.rules.specs.Lent.{sizes}
 use Rattle.rules.specs.Division.{_∈_, Division, pieces, Within, Fewest}
 use Rattle.rules.specs.Scale.{Space, Body, units, capacityOf, frameFor, runsAt, fitsSide, rendered, allFit, runsFit, meets, axisPasses, fitScale}
 use Rattle.rules.specs.Fitting.{RoundedFits, FitsPage, MeetsTarget, Reaches, Chosen}
+use Rattle.rules.specs.Pages.{joined}
 use Rattle.rules.proofs.Laws.{either, split}
 use Rattle.rules.proofs.AxisLaws.{unmarked}
-use Rattle.rules.proofs.Division.{join, join-pieces}
+use Rattle.rules.proofs.Division.{join-pieces}
 use Rattle.rules.proofs.Whole.{axis-tells}
 use Rattle.rules.proofs.Fewest.{axis-fewest}
 use Rattle.rules.proofs.Halving.{fit-chosen}
@@ -61,16 +62,16 @@ of-map f z (y ∷ ys) (inl e) = (y, inl refl, e)
 of-map f z (y ∷ ys) (inr i) = let r = of-map f z ys i in (r .0, inr (r .1), r .2)
 
 -- what is in runs put together is in one of them
-in-some : (x : ℕ) (ps : List (List ℕ)) → x ∈ join ps → (run : List ℕ) × (run ∈ ps) × (x ∈ run)
-unfolding join
+in-some : (x : ℕ) (ps : List (List ℕ)) → x ∈ joined ps → (run : List ℕ) × (run ∈ ps) × (x ∈ run)
+unfolding joined
 in-some x (p ∷ ps) i =
-    ⊎-elim (λ j. (p, inl refl, j)) (λ j. let r = in-some x ps j in (r .0, inr (r .1), r .2)) (in-append x p (join ps) i)
+    ⊎-elim (λ j. (p, inl refl, j)) (λ j. let r = in-some x ps j in (r .0, inr (r .1), r .2)) (in-append x p (joined ps) i)
 
 -- and the other way
-in-join : (x : ℕ) (run : List ℕ) (ps : List (List ℕ)) → run ∈ ps → x ∈ run → x ∈ join ps
-unfolding join
-in-join x run (p ∷ ps) (inl e) j = in-left x p (join ps) (rw e at j)
-in-join x run (p ∷ ps) (inr i) j = in-right x p (join ps) (in-join x run ps i j)
+in-join : (x : ℕ) (run : List ℕ) (ps : List (List ℕ)) → run ∈ ps → x ∈ run → x ∈ joined ps
+unfolding joined
+in-join x run (p ∷ ps) (inl e) j = in-left x p (joined ps) (rw e at j)
+in-join x run (p ∷ ps) (inr i) j = in-right x p (joined ps) (in-join x run ps i j)
 
 -- a run of one slot is that slot
 alone : (run : List ℕ) → length run ≡ 1 → sum run ∈ run

@@ -1,28 +1,28 @@
--- Laws that belong to no one function; from `Division` on, theorems over the definitions.
+-- Laws that belong to no one function, and theorems over the definitions: each file after those that it uses.
 pub mod Laws
 pub mod QuestionLaws
+pub mod EndLaws
+pub mod Places
 pub mod TitleLaws
 pub mod Lent
 pub mod MergeLaws
-pub mod EndLaws
+pub mod Earliest
 pub mod AxisLaws
 pub mod PartitionLaws
 pub mod ScaleLaws
-pub mod PlanLaws
-pub mod PagesCode
+pub mod Halving
 pub mod PageLaws
+pub mod PagesCode
 pub mod ListLaws
 pub mod Division
 pub mod Cuts
 pub mod Whole
 pub mod OneRun
 pub mod Fewest
-pub mod Halving
 pub mod Largest
-pub mod Cases
-pub mod Earliest
-pub mod Places
+pub mod PlanLaws
 pub mod NoTen
 pub mod BodyLaws
-pub mod Demand
 pub mod RunCount
+pub mod Demand
+pub mod Cases

@@ -15,9 +15,10 @@ use Rattle.rules.specs.Titles.{holds}
 use Rattle.rules.specs.Runs.{Run, runOf, natural, again, resumed, resumption, filled, taken, capacityAt, runEnd, run, runs, stretch, axisRuns}
 use Rattle.rules.specs.Lent.{firsts, lasts, sizes, marks}
 use Rattle.rules.specs.Division.{_∈_, Division, startsFrom, pieces, firstOf, lastOf, Tells, MarkedAt, MarksKept}
+use Rattle.rules.specs.Pages.{joined}
 use Rattle.rules.proofs.Laws.{either, natural-pos, natural-le, length-mid}
 use Rattle.rules.proofs.EndLaws.{merged-within}
-use Rattle.rules.proofs.Division.{Chain, done, link, chain-counts, division-of, join, join-pieces}
+use Rattle.rules.proofs.Division.{Chain, done, link, chain-counts, division-of, join-pieces}
 use Rattle.rules.proofs.Cuts.{keptCuts, counts, slotsOf, runs-chain, marked-chain, axis-chain, kept-ordered, ordered-in}
 
 -- ---- a run takes at least one slot, and at most all
@@ -106,7 +107,7 @@ module _ (k : Frame) (fs ls is ss bs : List ℕ) (even : length is ≡ length ss
   axis-division = division-of (chain-counts {Q = λ p m. Unit {0}} (λ p r t. tt) told-chain)
 
   -- in order, and together all slots: what the runs have of a list as long, put together, is that list
-  pub axis-whole : {A : Type 0} (xs : List A) → length xs ≡ length ss → join (pieces (counts (axisRuns k fs ls is ss 0 bs)) xs) ≡ xs
+  pub axis-whole : {A : Type 0} (xs : List A) → length xs ≡ length ss → joined (pieces (counts (axisRuns k fs ls is ss 0 bs)) xs) ≡ xs
   axis-whole xs h = join-pieces _ xs (axis-division .whole ∙ sym h)
 
 tells-from : (is ss : List ℕ) {p : ℕ} {rs : List Run} {n : ℕ} → Chain slotsOf (Told is ss) p rs n

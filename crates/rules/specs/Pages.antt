@@ -167,7 +167,7 @@ pageAfter p rows columns before =
 
 -- 14: "Page number from 1 to the count?", where no count goes past the places that the runs make
 unfoldable pub hasPage : Plan → ℕ → Bool
-hasPage p n = leb 1 n && leb n (min (p .pages) (p .«row_runs» * p .«column_runs»))
+hasPage p n = leb 1 n && leb n (pageCount p)
 
 -- the first of the questions 6, 11 and 14 whose answer is no, or 0; of the lists, whether they are equally long and how long those of rows and
 -- of columns are
