@@ -119,51 +119,30 @@ placed-more top n i is h =
           ]
     ]
 
-row-step : (a : ℕ) (r : Record) (rs : List Record)
-    → ltb a beyond && rising lastRow a (values RW 0 (r ∷ rs)) ≡ ltb (rowsAfter a (asked r)) beyond && rising lastRow (rowsAfter a (asked r)) (values RW 0 rs)
+-- a record more: of another kind than an axis' slots, it leaves that axis as it is
+axes-step : (a b : ℕ) (r : Record) (rs : List Record)
+    → (ltb a beyond && rising lastRow a (values RW 0 (r ∷ rs)) ≡ ltb (rowsAfter a (asked r)) beyond && rising lastRow (rowsAfter a (asked r)) (values RW 0 rs))
+    × (ltb b beyond && rising lastColumn b (values CL 0 (r ∷ rs)) ≡ ltb (columnsAfter b (asked r)) beyond && rising lastColumn (columnsAfter b (asked r)) (values CL 0 rs))
 unfolding rising marked
-row-step a (Paper x) rs = refl
-row-step a Landscape rs = refl
-row-step a (Margin m) rs = refl
-row-step a (Scale x) rs = refl
-row-step a (Wide x) rs = refl
-row-step a (High x) rs = refl
-row-step a (Fit x) rs = refl
-row-step a (Order x) rs = refl
-row-step a Headings rs = refl
-row-step a (Limit x) rs = refl
-row-step a (Area x) rs = refl
-row-step a (TitleRows f l) rs = refl
-row-step a (TitleColumns f l) rs = refl
-row-step a (Row s) rs = placed-more lastRow a (s .index) (values RW 0 rs) (omega arith)
-row-step a (Column s) rs = refl
-row-step a (Merged m) rs = refl
-row-step a (RowBreak b) rs = refl
-row-step a (ColumnBreak b) rs = refl
-row-step a End rs = refl
-
-column-step : (a : ℕ) (r : Record) (rs : List Record)
-    → ltb a beyond && rising lastColumn a (values CL 0 (r ∷ rs)) ≡ ltb (columnsAfter a (asked r)) beyond && rising lastColumn (columnsAfter a (asked r)) (values CL 0 rs)
-unfolding rising marked
-column-step a (Paper x) rs = refl
-column-step a Landscape rs = refl
-column-step a (Margin m) rs = refl
-column-step a (Scale x) rs = refl
-column-step a (Wide x) rs = refl
-column-step a (High x) rs = refl
-column-step a (Fit x) rs = refl
-column-step a (Order x) rs = refl
-column-step a Headings rs = refl
-column-step a (Limit x) rs = refl
-column-step a (Area x) rs = refl
-column-step a (TitleRows f l) rs = refl
-column-step a (TitleColumns f l) rs = refl
-column-step a (Row s) rs = refl
-column-step a (Column s) rs = placed-more lastColumn a (s .index) (values CL 0 rs) (omega arith)
-column-step a (Merged m) rs = refl
-column-step a (RowBreak b) rs = refl
-column-step a (ColumnBreak b) rs = refl
-column-step a End rs = refl
+axes-step a b (Paper x) rs = (refl, refl)
+axes-step a b Landscape rs = (refl, refl)
+axes-step a b (Margin m) rs = (refl, refl)
+axes-step a b (Scale x) rs = (refl, refl)
+axes-step a b (Wide x) rs = (refl, refl)
+axes-step a b (High x) rs = (refl, refl)
+axes-step a b (Fit x) rs = (refl, refl)
+axes-step a b (Order x) rs = (refl, refl)
+axes-step a b Headings rs = (refl, refl)
+axes-step a b (Limit x) rs = (refl, refl)
+axes-step a b (Area x) rs = (refl, refl)
+axes-step a b (TitleRows f l) rs = (refl, refl)
+axes-step a b (TitleColumns f l) rs = (refl, refl)
+axes-step a b (Row s) rs = (placed-more lastRow a (s .index) (values RW 0 rs) (omega arith), refl)
+axes-step a b (Column s) rs = (refl, placed-more lastColumn b (s .index) (values CL 0 rs) (omega arith))
+axes-step a b (Merged m) rs = (refl, refl)
+axes-step a b (RowBreak c) rs = (refl, refl)
+axes-step a b (ColumnBreak c) rs = (refl, refl)
+axes-step a b End rs = (refl, refl)
 
 module _ (even : Bool) where
   pub number-step : (t : State) (r : Record) (rs : List Record) → number even t (r ∷ rs) ≡ number even (advanced t r) rs
@@ -175,8 +154,8 @@ module _ (even : Bool) where
         and-assoc (t .fine .flag) (flagOk (asked r)) (every flagOk rs),
         and-inner even (t .fine .first) (notReversed (asked r)) (every notReversed rs),
         and-assoc (t .fine .grid) (inGrid (asked r)) (every inGrid rs),
-        row-step (t .rows) r rs,
-        column-step (t .columns) r rs,
+        axes-step (t .rows) (t .columns) r rs .0,
+        axes-step (t .rows) (t .columns) r rs .1,
         and-assoc (t .fine .size) (sized (asked r)) (every sized rs),
       )
 
