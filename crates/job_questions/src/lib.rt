@@ -122,17 +122,10 @@ fn grid_ok(a: Range) -> bool
     rows & columns
 }
 
-fn row_ok(s: RowSlot) -> bool
-    ensures { λ r. ⌜ r ≡ sizeOk (s .size) ⌝ }
+// 9 of a size.
+fn size_ok(size: i64) -> bool
+    ensures { λ r. ⌜ r ≡ sizeOk size ⌝ }
 {
-    let size = s.size;
-    (0 <= size) & (size <= LARGEST_SIZE)
-}
-
-fn column_ok(s: ColumnSlot) -> bool
-    ensures { λ r. ⌜ r ≡ sizeOk (s .size) ⌝ }
-{
-    let size = s.size;
     (0 <= size) & (size <= LARGEST_SIZE)
 }
 
@@ -156,11 +149,11 @@ fn fine_of(what: Asked) -> Fine
             f
         }
         Asked::InRows(s) => {
-            f.size = row_ok(s);
+            f.size = size_ok(s.size);
             f
         }
         Asked::InColumns(s) => {
-            f.size = column_ok(s);
+            f.size = size_ok(s.size);
             f
         }
         Asked::Other => f,

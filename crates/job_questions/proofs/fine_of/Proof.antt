@@ -1,5 +1,8 @@
 -- `job_questions::fine_of` meets its contract. Assumes nothing.
 use mathlib.Core.Path.{sym, ap}
+use mir.Syntax.{w64}
+use mir.Facts.{toZ-ofZ}
+use native.Mathlib.Omega.{arith}
 use Rattle.job_questions.specs.Pass.{fine}
 use borrow.Author.Needs.{needs}
 use Rattle.job_questions.proofs.fine_of.Statement.{statement}
@@ -20,14 +23,14 @@ grid-ok-requires c κs = search needs
 enum-known-what-3 : tie.Need-enum-known-what-3
 enum-known-what-3 c = search needs
 
-row-ok-requires : tie.Need-row-ok-requires
-row-ok-requires c κs = search needs
+size-ok-requires : tie.Need-size-ok-requires
+size-ok-requires c κs = search needs
 
 enum-known-what-4 : tie.Need-enum-known-what-4
 enum-known-what-4 c = search needs
 
-column-ok-requires : tie.Need-column-ok-requires
-column-ok-requires c κs = search needs
+size-ok-requires-2 : tie.Need-size-ok-requires-2
+size-ok-requires-2 c κs = search needs
 
 enum-told : tie.Need-enum-told
 enum-told c = search needs
@@ -39,10 +42,10 @@ returns-2 : tie.Need-returns-2
 returns-2 c = rw (c .before .firsts-ok .ensures, c .grid-ok .ensures) (sym (ap fine (c .before .before .before .what2 .given .1)))
 
 returns-3 : tie.Need-returns-3
-returns-3 c = rw (c .row-ok .ensures) (sym (ap fine (c .before .before .what3 .given .1)))
+returns-3 c = rw (c .size-ok .ensures, toZ-ofZ {w = w64} {z = c .before .before .before .what3 .given .0 .0 .size} (record { sfits = omega arith })) (sym (ap fine (c .before .before .before .what3 .given .1)))
 
 returns-4 : tie.Need-returns-4
-returns-4 c = rw (c .column-ok .ensures) (sym (ap fine (c .before .before .what4 .given .1)))
+returns-4 c = rw (c .size-ok2 .ensures, toZ-ofZ {w = w64} {z = c .before .before .before .what4 .given .0 .0 .size} (record { sfits = omega arith })) (sym (ap fine (c .before .before .before .what4 .given .1)))
 
 returns-5 : tie.Need-returns-5
 returns-5 c = sym (ap fine (c .enum-told .given .1))
@@ -56,9 +59,9 @@ fine-of-spec =
     firsts-ok-requires
     grid-ok-requires
     enum-known-what-3
-    row-ok-requires
+    size-ok-requires
     enum-known-what-4
-    column-ok-requires
+    size-ok-requires-2
     enum-told
     returns
     returns-2
