@@ -16,7 +16,9 @@ title-from-requires-2 : tie.Need-title-from-requires-2
 title-from-requires-2 c κs = search needs
 
 returns : tie.Need-returns
-returns c = rw (c .title-from2 .ensures, c .before .title-from .ensures, c .before .before .range-from .ensures, c .before .before .before .settings-from .ensures)
+returns c =
+    let after-settings-from : tie.After-settings-from = search in
+    rw (c .title-from2 .ensures, c .before .title-from .ensures, c .before .before .range-from .ensures, after-settings-from .settings-from .ensures)
 
 pub asked-from-spec : {M : Type 1} → statement M
 asked-from-spec =

@@ -33,7 +33,10 @@ margin-setting-requires c κs = search needs
 
 returns : tie.Need-returns
 unfolding marginsFrom
-returns c = c .margin-setting .ensures ∙ when-set (getD (c .before .before .before .before .before .before .before .before .before .args .asked .now) 3 0) _ _ (c .before .before .before .before .before .before .before .if1 .taken)
+returns c =
+    let start : tie.Start = search in
+    let then1 : tie.Then1 = search in
+    c .margin-setting .ensures ∙ when-set (getD (start .args .asked .now) 3 0) _ _ (then1 .if1 .taken)
 
 returns-2 : tie.Need-returns-2
 unfolding marginsFrom

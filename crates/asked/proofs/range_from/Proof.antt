@@ -30,7 +30,10 @@ u32-from-requires-4 c κs = search needs
 
 returns : tie.Need-returns
 unfolding rangeFrom
-returns c = rw (c .u32-from4 .ensures, c .before .before .u32-from3 .ensures, c .before .before .before .before .u32-from2 .ensures, c .before .before .before .before .before .before .u32-from .ensures)
+returns c =
+    let after-u32-from : tie.After-u32-from = search in
+    let after-u32-from2 : tie.After-u32-from2 = search in
+    rw (c .u32-from4 .ensures, c .before .before .u32-from3 .ensures, after-u32-from2 .u32-from2 .ensures, after-u32-from .u32-from .ensures)
 
 pub range-from-spec : {M : Type 1} → statement M
 range-from-spec =

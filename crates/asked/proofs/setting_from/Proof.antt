@@ -27,7 +27,8 @@ u16-from-requires c κs = search needs
 
 returns : tie.Need-returns
 returns c =
-    let a = c .before .before .before .before .args in
+    let start : tie.Start = search in
+    let a = start .args in
     ap Given (c .u16-from .ensures) ∙ when-set (getD (a .asked .now) (a .at) 0) _ _ (c .before .before .if1 .taken)
 
 returns-2 : tie.Need-returns-2

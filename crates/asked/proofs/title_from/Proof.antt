@@ -39,8 +39,10 @@ u32-from-requires-2 c κs = search needs
 
 returns : tie.Need-returns
 returns c =
-    let a = c .before .before .before .before .before .before .args in
-    ap₂ Pair (c .before .before .u32-from .ensures) (c .u32-from2 .ensures) ∙ when-set (getD (a .asked .now) (a .at) 0) _ _ (c .before .before .before .before .if1 .taken)
+    let start : tie.Start = search in
+    let then1 : tie.Then1 = search in
+    let a = start .args in
+    ap₂ Pair (c .before .before .u32-from .ensures) (c .u32-from2 .ensures) ∙ when-set (getD (a .asked .now) (a .at) 0) _ _ (then1 .if1 .taken)
 
 returns-2 : tie.Need-returns-2
 returns-2 c =

@@ -27,8 +27,10 @@ slots-below-requires c κs = search needs
 returns-2 : tie.Need-returns-2
 unfolding mergeStep merged
 returns-2 c =
-    let s = c .before .before .before .before .before .before .before .args in
-    step-start (s .held) _ _ (s .n) (s .indexes .now) (c .before .before .before .before .held .given .1) (c .before .slots-below .result)
+    let start : tie.Start = search in
+    let after-held : tie.After-held = search in
+    let s = start .args in
+    step-start (s .held) _ _ (s .n) (s .indexes .now) (after-held .held .given .1) (c .before .slots-below .result)
     (c .before .slots-below .ensures .0 ∙ ap (λ (k : ℕ). below k (s .indexes .now)) (c .before .before .wide .ensures)) (c .if1 .taken)
 
 slots-through-requires : tie.Need-slots-through-requires
@@ -37,18 +39,22 @@ slots-through-requires c κs = search needs
 returns-3 : tie.Need-returns-3
 unfolding mergeStep merged
 returns-3 c =
+    let start : tie.Start = search in
+    let after-held : tie.After-held = search in
     let b = c .before .before in
-    let s = b .before .before .before .before .before .before .before .args in
-    step-far (s .held) _ _ (s .n) (s .indexes .now) (b .before .before .before .before .held .given .1) (b .before .slots-below .result) (c .before .slots-through .result)
+    let s = start .args in
+    step-far (s .held) _ _ (s .n) (s .indexes .now) (after-held .held .given .1) (b .before .slots-below .result) (c .before .slots-through .result)
     (b .before .slots-below .ensures .0 ∙ ap (λ (k : ℕ). below k (s .indexes .now)) (b .before .before .wide .ensures)) (b .if1 .left)
     (c .before .slots-through .ensures .0) (c .if2 .taken)
 
 returns-4 : tie.Need-returns-4
 unfolding mergeStep merged
 returns-4 c =
+    let start : tie.Start = search in
+    let after-held : tie.After-held = search in
     let b = c .before .before in
-    let s = b .before .before .before .before .before .before .before .args in
-    step-stay (s .held) _ _ (s .n) (s .indexes .now) (b .before .before .before .before .held .given .1) (b .before .slots-below .result) (c .before .slots-through .result)
+    let s = start .args in
+    step-stay (s .held) _ _ (s .n) (s .indexes .now) (after-held .held .given .1) (b .before .slots-below .result) (c .before .slots-through .result)
     (b .before .slots-below .ensures .0 ∙ ap (λ (k : ℕ). below k (s .indexes .now)) (b .before .before .wide .ensures)) (b .if1 .left)
     (c .before .slots-through .ensures .0) (c .if2 .left)
 

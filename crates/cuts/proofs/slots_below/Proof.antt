@@ -30,9 +30,12 @@ wide-requires c κs = search needs
 
 returns : tie.Need-returns Inv-loop μ-loop
 returns c =
-    let l = c .before .before .before .before .loop in
-    let s = c .before .before .before .before .before .before .args in
-    omega (arith, below-no (s .limit) (l .n) (s .indexes .now) (c .before .before .before .loop-test .taken) (omega arith))
+    let start : tie.Start Inv-loop μ-loop = search in
+    let at-loop : tie.At-loop Inv-loop μ-loop = search in
+    let in-loop : tie.In-loop Inv-loop μ-loop = search in
+    let l = at-loop .loop in
+    let s = start .args in
+    omega (arith, below-no (s .limit) (l .n) (s .indexes .now) (in-loop .loop-test .taken) (omega arith))
 
 add-n : tie.Need-add-n Inv-loop μ-loop
 add-n c = search needs
@@ -42,14 +45,18 @@ loop-less c = search needs
 
 loop-again : tie.Need-loop-again Inv-loop μ-loop
 loop-again c =
-    let l = c .before .before .before .before .loop in
-    let s = c .before .before .before .before .before .before .args in
-    omega (arith, below-yes (s .limit) (l .n) (s .indexes .now) (c .before .before .before .loop-test .taken) (omega arith))
+    let start : tie.Start Inv-loop μ-loop = search in
+    let at-loop : tie.At-loop Inv-loop μ-loop = search in
+    let in-loop : tie.In-loop Inv-loop μ-loop = search in
+    let l = at-loop .loop in
+    let s = start .args in
+    omega (arith, below-yes (s .limit) (l .n) (s .indexes .now) (in-loop .loop-test .taken) (omega arith))
 
 returns-2 : tie.Need-returns-2 Inv-loop μ-loop
 returns-2 c =
+    let start : tie.Start Inv-loop μ-loop = search in
     let l = c .before .loop in
-    let s = c .before .before .before .args in
+    let s = start .args in
     omega (arith, below-end (s .limit) (l .n) (s .indexes .now) (c .loop-test .left))
 
 pub slots-below-spec : {M : Type 1} → statement M

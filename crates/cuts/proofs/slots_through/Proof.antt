@@ -29,7 +29,7 @@ shared-slice-read-if1 c = search needs
 
 returns : tie.Need-returns Inv-loop μ-loop
 returns c =
-    let s = c .before .before .before in
+    let s : tie.At-loop Inv-loop μ-loop = search in
     let i = s .loop .i in
     let l = s .before .args .indexes .now in
     let e : through (s .before .args .last) l ≡ i - 1 + 1 = through-front (s .before .args .last) (i - 1) 0 l (through-found (s .before .args .last) i l (c .before .before .loop-test .taken) (s .loop .inv .0) (s .loop .inv .1) (c .if1 .taken)) in
@@ -43,7 +43,7 @@ loop-less c = search needs
 
 loop-again : tie.Need-loop-again Inv-loop μ-loop
 loop-again c =
-    let s = c .before .before .before in (
+    let s : tie.At-loop Inv-loop μ-loop = search in (
       omega arith,
       through-passed (s .before .args .last) (s .loop .i) (s .before .args .indexes .now) (c .before .before .loop-test .taken) (s .loop .inv .0) (s .loop .inv .1) (c .if1 .left),
     )

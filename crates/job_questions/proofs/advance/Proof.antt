@@ -28,7 +28,13 @@ count-requires : tie.Need-count-requires
 count-requires c κs = search needs
 
 returns : tie.Need-returns
-returns c = rw (c .count .ensures, c .before .columns-after .ensures, c .before .before .rows-after .ensures, c .before .before .before .both .ensures, c .before .before .before .before .fine-of .ensures, c .before .before .before .before .before .before .before .follows-on .ensures, c .before .before .before .before .before .before .before .before .before .before .asked-of .ensures, c .before .before .before .before .before .before .before .before .before .before .before .rank-of .ensures)
+returns c =
+    let after-rank-of : tie.After-rank-of = search in
+    let after-asked-of : tie.After-asked-of = search in
+    let after-follows-on : tie.After-follows-on = search in
+    let after-fine-of : tie.After-fine-of = search in
+    let after-both : tie.After-both = search in
+    rw (c .count .ensures, c .before .columns-after .ensures, c .before .before .rows-after .ensures, after-both .both .ensures, after-fine-of .fine-of .ensures, after-follows-on .follows-on .ensures, after-asked-of .asked-of .ensures, after-rank-of .rank-of .ensures)
 
 pub advance-spec : {M : Type 1} → statement M
 advance-spec =

@@ -24,21 +24,29 @@ first-no-requires c κs = search needs
 returns : tie.Need-returns
 unfolding verdictLent
 returns c =
-    let a = c .before .before .before .before .before .before .before .args in
-    job-no (itemsOf (records (a .bytes .now))) (a .equally-long) [] (a .bytes .now) (c .before .before .before .before .before .survey-job .result) (c .before .before .before .before .before .survey-job .ensures) _ (c .before .before .before .found2 .given .1) (c .before .first-no .result) (c .before .first-no .ensures) (c .if1 .taken)
+    let start : tie.Start = search in
+    let after-survey-job : tie.After-survey-job = search in
+    let after-found2 : tie.After-found2 = search in
+    let a = start .args in
+    job-no (itemsOf (records (a .bytes .now))) (a .equally-long) [] (a .bytes .now) (after-survey-job .survey-job .result) (after-survey-job .survey-job .ensures) _ (after-found2 .found2 .given .1) (c .before .first-no .result) (c .before .first-no .ensures) (c .if1 .taken)
 
 returns-2 : tie.Need-returns-2
 unfolding verdictLent
 returns-2 c =
-    let a = c .before .before .before .before .before .args in
-    job-stopped (itemsOf (records (a .bytes .now))) (a .equally-long) [] (a .bytes .now) (c .before .before .before .survey-job .result) _ (c .before .before .before .survey-job .ensures) (c .before .found .given .1)
+    let start : tie.Start = search in
+    let after-survey-job : tie.After-survey-job = search in
+    let a = start .args in
+    job-stopped (itemsOf (records (a .bytes .now))) (a .equally-long) [] (a .bytes .now) (after-survey-job .survey-job .result) _ (after-survey-job .survey-job .ensures) (c .before .found .given .1)
 
 returns-3 : tie.Need-returns-3
 unfolding verdictLent
 returns-3 c =
-    let v = itemsOf (records (c .before .before .before .before .before .before .before .before .args .bytes .now)) in
-    ap given (job-items v (c .before .before .before .before .before .before .before .before .args .equally-long) [] (c .before .before .before .before .before .before .before .before .args .bytes .now) (c .before .before .before .before .before .before .survey-job .result) (c .before .before .before .before .before .before .survey-job .ensures) _ (c .before .before .before .before .found2 .given .1) (c .before .before .first-no .result) (c .before .before .first-no .ensures))
-    ∙ job-yes v (c .before .before .before .before .before .before .before .before .args .equally-long) [] (c .before .before .before .before .before .before .before .before .args .bytes .now) (c .before .before .before .before .before .before .survey-job .result) (c .before .before .before .before .before .before .survey-job .ensures) _ (c .before .before .before .before .found2 .given .1) (c .before .before .first-no .result) (c .before .before .first-no .ensures) (c .before .if1 .left)
+    let start : tie.Start = search in
+    let after-survey-job : tie.After-survey-job = search in
+    let after-found2 : tie.After-found2 = search in
+    let v = itemsOf (records (start .args .bytes .now)) in
+    ap given (job-items v (start .args .equally-long) [] (start .args .bytes .now) (after-survey-job .survey-job .result) (after-survey-job .survey-job .ensures) _ (after-found2 .found2 .given .1) (c .before .before .first-no .result) (c .before .before .first-no .ensures))
+    ∙ job-yes v (start .args .equally-long) [] (start .args .bytes .now) (after-survey-job .survey-job .result) (after-survey-job .survey-job .ensures) _ (after-found2 .found2 .given .1) (c .before .before .first-no .result) (c .before .before .first-no .ensures) (c .before .if1 .left)
 
 pub check-job-lent-spec : {M : Type 1} → statement M
 check-job-lent-spec =

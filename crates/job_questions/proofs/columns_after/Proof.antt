@@ -16,7 +16,10 @@ place-requires : tie.Need-place-requires
 place-requires c κs = search needs
 
 returns : tie.Need-returns
-returns c = c .place .ensures ∙ sym (ap (columnsAfter (c .before .before .before .before .before .args .next)) (c .before .before .before .what .given .1))
+returns c =
+    let start : tie.Start = search in
+    let after-what : tie.After-what = search in
+    c .place .ensures ∙ sym (ap (columnsAfter (start .args .next)) (after-what .what .given .1))
 
 returns-2 : tie.Need-returns-2
 returns-2 c = no-column (c .before .args .next) (c .before .args .what) (c .match .keys2)

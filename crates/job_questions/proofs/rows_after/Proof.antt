@@ -13,7 +13,9 @@ place-requires : tie.Need-place-requires
 place-requires c κs = search needs
 
 returns : tie.Need-returns
-returns c = c .place .ensures ∙ sym (ap (rowsAfter (c .before .before .before .before .args .next)) (c .before .before .what .given .1))
+returns c =
+    let start : tie.Start = search in
+    c .place .ensures ∙ sym (ap (rowsAfter (start .args .next)) (c .before .before .what .given .1))
 
 returns-2 : tie.Need-returns-2
 returns-2 c = no-row (c .before .args .next) (c .before .args .what) (c .match .keys2)

@@ -19,10 +19,14 @@ enum-known-fit : tie.Need-enum-known-fit
 enum-known-fit c = search needs
 
 returns : tie.Need-returns
-returns c = rw (c .is-given2 .ensures, c .before .is-given .ensures) (sym (ap (λ (x : FlagSetting). fitOn x (c .before .before .before .before .args .fit-width) (c .before .before .before .before .args .fit-height)) (c .before .before .enum-told .given .1)))
+returns c =
+    let start : tie.Start = search in
+    rw (c .is-given2 .ensures, c .before .is-given .ensures) (sym (ap (λ (x : FlagSetting). fitOn x (start .args .fit-width) (start .args .fit-height)) (c .before .before .enum-told .given .1)))
 
 returns-2 : tie.Need-returns-2
-returns-2 c = sym (ap (λ (x : FlagSetting). fitOn x (c .before .before .before .args .fit-width) (c .before .before .before .args .fit-height)) (c .before .fit .given .1))
+returns-2 c =
+    let start : tie.Start = search in
+    sym (ap (λ (x : FlagSetting). fitOn x (start .args .fit-width) (start .args .fit-height)) (c .before .fit .given .1))
 
 pub fit-on-spec : {M : Type 1} → statement M
 fit-on-spec =

@@ -33,7 +33,12 @@ float-requires-6 : tie.Need-float-requires-6
 float-requires-6 c κs = search needs
 
 returns-2 : tie.Need-returns-2
-returns-2 c = rw (c .float6 .ensures, c .before .float5 .ensures, c .before .before .float4 .ensures, c .before .before .before .float3 .ensures, c .before .before .before .before .float2 .ensures, c .before .before .before .before .before .float .ensures) (sym (ap marginSetting (c .before .before .before .before .before .before .before .margins .given .1)))
+returns-2 c =
+    let after-margins : tie.After-margins = search in
+    let after-float : tie.After-float = search in
+    let after-float2 : tie.After-float2 = search in
+    let after-float3 : tie.After-float3 = search in
+    rw (c .float6 .ensures, c .before .float5 .ensures, c .before .before .float4 .ensures, after-float3 .float3 .ensures, after-float2 .float2 .ensures, after-float .float .ensures) (sym (ap marginSetting (after-margins .margins .given .1)))
 
 pub margin-setting-spec : {M : Type 1} → statement M
 margin-setting-spec =

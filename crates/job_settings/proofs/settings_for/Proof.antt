@@ -16,7 +16,9 @@ page-limit-requires : tie.Need-page-limit-requires
 page-limit-requires c κs = search needs
 
 returns : tie.Need-returns
-returns c = rw (c .page-limit .ensures, c .before .order-for .ensures, c .before .before .fit-on .ensures, c .before .before .before .margin-setting .ensures)
+returns c =
+    let after-margin-setting : tie.After-margin-setting = search in
+    rw (c .page-limit .ensures, c .before .order-for .ensures, c .before .before .fit-on .ensures, after-margin-setting .margin-setting .ensures)
 
 pub settings-for-spec : {M : Type 1} → statement M
 settings-for-spec =

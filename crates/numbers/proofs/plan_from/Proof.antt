@@ -61,8 +61,9 @@ element-copy-out-t55 c = search needs
 returns : tie.Need-returns
 unfolding planFrom
 returns c =
-    let o = c .before .before .before .before .before .before .before .before .before in
-    rw (o .before .before .before .before .before .before .before .u16-from .ensures, o .order-from .ensures)
+    let after-u16-from : tie.After-u16-from = search in
+    let o : tie.After-order-from = search in
+    rw (after-u16-from .u16-from .ensures, o .order-from .ensures)
 
 pub plan-from-spec : {M : Type 1} → statement M
 plan-from-spec =

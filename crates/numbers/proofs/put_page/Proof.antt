@@ -38,7 +38,7 @@ enum-known-answer-2 c = search needs
 returns : tie.Need-returns
 unfolding pageNumbers
 returns c =
-    let a = c .before .before .before .before .before .before .before .before .before .before .before .before in
+    let a : tie.After-answer = search in
     let g = a .answer .given in
     let p = g .0 .0 in
     page-put (a .before .before .args .answer) p _ _ (g .1) (rw (as-bit (p .rows .«empty_body»), as-bit (p .rows .«manual_break»), as-bit (p .columns .«empty_body»), as-bit (p .columns .«manual_break»)))

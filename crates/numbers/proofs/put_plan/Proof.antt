@@ -20,7 +20,8 @@ order-number-requires c κs = search needs
 returns : tie.Need-returns
 unfolding planNumbers
 returns c =
-    let p = c .before .before .before .before .before .before .args .plan in
+    let start : tie.Start = search in
+    let p = start .args .plan in
     (rw (as-bit (p .«rows_empty»), as-bit (p .«columns_empty»), c .before .order-number .ensures), plan-back p (search needs))
 
 pub put-plan-spec : {M : Type 1} → statement M

@@ -17,7 +17,7 @@ enum-known-planning-2 c = search needs
 
 returns : tie.Need-returns
 returns c =
-    let p = c .before .before .before in
+    let p : tie.After-planning = search in
     let g = p .planning .given in
     let old = p .before .before .args .numbers .now in
     (ap answerOf (sym (g .1)), (c .put-plan .ensures .0 ∙ ap (λ (p : Planning). numbersOf p old) (sym (g .1)), subst HadBack (sym (g .1)) (c .put-plan .ensures .1)))

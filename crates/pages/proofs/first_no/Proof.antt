@@ -19,13 +19,13 @@ has-page-requires c κs = search needs
 
 returns-2 : tie.Need-returns-2
 returns-2 c =
-    let d = c .before .before .before in
+    let d : tie.After-lists-no = search in
     let a = d .before .args in
     no-no (a .plan) (a .number) (a .even) (a .row-room) (a .column-room) (d .lists-no .result) (d .lists-no .ensures) (c .before .before .if1 .left) (sym (c .before .has-page .ensures) ∙ c .if2 .taken)
 
 returns-3 : tie.Need-returns-3
 returns-3 c =
-    let d = c .before .before .before in
+    let d : tie.After-lists-no = search in
     let a = d .before .args in
     no-number (a .plan) (a .number) (a .even) (a .row-room) (a .column-room) (d .lists-no .result) (d .lists-no .ensures) (c .before .before .if1 .left) (sym (c .before .has-page .ensures) ∙ c .if2 .left)
 

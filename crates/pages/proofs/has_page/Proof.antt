@@ -12,17 +12,22 @@ sub-before : tie.Need-sub-before
 sub-before c = search needs
 
 returns-2 : tie.Need-returns-2
-returns-2 c = let a = c .before .before .before .args in no-count (a .plan) (a .number) (omega arith) (omega arith)
+returns-2 c =
+    let start : tie.Start = search in
+    let a = start .args in no-count (a .plan) (a .number) (omega arith) (omega arith)
 
 returns-3 : tie.Need-returns-3
-returns-3 c = let a = c .before .before .before .before .before .args in no-rows (a .plan) (a .number) (omega arith) (c .if3 .taken)
+returns-3 c =
+    let start : tie.Start = search in
+    let a = start .args in no-rows (a .plan) (a .number) (omega arith) (c .if3 .taken)
 
 div-result : tie.Need-div-result
 div-result c = search needs
 
 returns-4 : tie.Need-returns-4
 returns-4 c =
-    let a = c .before .before .before .before .before .before .before .args in
+    let start : tie.Start = search in
+    let a = start .args in
     by-division (a .plan) (a .number) (omega arith) (omega arith) (omega arith)
 
 pub has-page-spec : {M : Type 1} → statement M

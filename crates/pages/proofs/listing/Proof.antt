@@ -6,10 +6,14 @@ use Rattle.pages.proofs.listing.Statement.{statement}
 use Rattle.pages.proofs.listing.Tie as tie
 
 abbrev rows : tie.After-lists-no → RunLists
-rows f = let a = f .before .before .before .before .before .before .before .before .before .before .before .args in runLists (a .row-firsts .now) (a .row-lasts .now) (a .row-sizes .now) (a .row-marks .now)
+rows f =
+    let start : tie.Start = search in
+    let a = start .args in runLists (a .row-firsts .now) (a .row-lasts .now) (a .row-sizes .now) (a .row-marks .now)
 
 abbrev columns : tie.After-lists-no → RunLists
-columns f = let a = f .before .before .before .before .before .before .before .before .before .before .before .args in runLists (a .column-firsts .now) (a .column-lasts .now) (a .column-sizes .now) (a .column-marks .now)
+columns f =
+    let start : tie.Start = search in
+    let a = start .args in runLists (a .column-firsts .now) (a .column-lasts .now) (a .column-sizes .now) (a .column-marks .now)
 
 lists-even-requires : tie.Need-lists-even-requires
 lists-even-requires c κs = search needs
@@ -22,8 +26,9 @@ lists-no-requires c κs = search needs
 
 returns : tie.Need-returns
 returns c =
+    let start : tie.Start = search in
     let f = c .before in
-    let a = f .before .before .before .before .before .before .before .before .before .before .before .args in
+    let a = start .args in
     list-refused (a .plan) (a .room) (rows f) (columns f) (f .before .before .lists-even .result) (f .before .lists-even2 .result) (f .lists-no .result) (f .before .before .lists-even .ensures) (f .before .lists-even2 .ensures) (f .lists-no .ensures) (c .if1 .taken)
 
 page-count-requires : tie.Need-page-count-requires
@@ -31,15 +36,17 @@ page-count-requires c κs = search needs
 
 returns-2 : tie.Need-returns-2
 returns-2 c =
-    let f = c .before .before .before in
-    let a = f .before .before .before .before .before .before .before .before .before .before .before .args in
+    let start : tie.Start = search in
+    let f : tie.After-lists-no = search in
+    let a = start .args in
     list-long (a .plan) (a .room) (rows f) (columns f) (f .before .before .lists-even .result) (f .before .lists-even2 .result) (f .lists-no .result) (f .before .before .lists-even .ensures) (f .before .lists-even2 .ensures) (f .lists-no .ensures)
     (c .before .before .if1 .left) (c .before .page-count .result) (c .before .page-count .ensures) (c .if2 .taken)
 
 returns-3 : tie.Need-returns-3
 returns-3 c =
-    let f = c .before .before .before in
-    let a = f .before .before .before .before .before .before .before .before .before .before .before .args in
+    let start : tie.Start = search in
+    let f : tie.After-lists-no = search in
+    let a = start .args in
     list-fits (a .plan) (a .room) (rows f) (columns f) (f .before .before .lists-even .result) (f .before .lists-even2 .result) (f .lists-no .result) (f .before .before .lists-even .ensures) (f .before .lists-even2 .ensures) (f .lists-no .ensures)
     (c .before .before .if1 .left) (c .before .page-count .result) (c .before .page-count .ensures) (c .if2 .left)
 

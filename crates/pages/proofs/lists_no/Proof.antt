@@ -11,18 +11,23 @@ returns c =
 
 returns-2 : tie.Need-returns-2
 returns-2 c =
-    let a = c .before .before .before .args in
+    let start : tie.Start = search in
+    let a = start .args in
     lists-few-rows (a .plan) (a .even) (a .row-room) (a .column-room) (not-false (a .even) (c .before .before .if1 .left)) (c .if2 .taken)
 
 returns-3 : tie.Need-returns-3
 returns-3 c =
-    let a = c .before .before .before .before .before .args in
-    lists-few-columns (a .plan) (a .even) (a .row-room) (a .column-room) (not-false (a .even) (c .before .before .before .before .if1 .left)) (c .before .before .if2 .left) (c .if3 .taken)
+    let start : tie.Start = search in
+    let else1 : tie.Else1 = search in
+    let a = start .args in
+    lists-few-columns (a .plan) (a .even) (a .row-room) (a .column-room) (not-false (a .even) (else1 .if1 .left)) (c .before .before .if2 .left) (c .if3 .taken)
 
 returns-4 : tie.Need-returns-4
 returns-4 c =
-    let a = c .before .before .before .before .before .args in
-    lists-hold (a .plan) (a .even) (a .row-room) (a .column-room) (not-false (a .even) (c .before .before .before .before .if1 .left)) (c .before .before .if2 .left) (c .if3 .left)
+    let start : tie.Start = search in
+    let else1 : tie.Else1 = search in
+    let a = start .args in
+    lists-hold (a .plan) (a .even) (a .row-room) (a .column-room) (not-false (a .even) (else1 .if1 .left)) (c .before .before .if2 .left) (c .if3 .left)
 
 pub lists-no-spec : {M : Type 1} → statement M
 lists-no-spec = tie.close (tie.spec returns returns-2 returns-3 returns-4)

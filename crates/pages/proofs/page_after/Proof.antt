@@ -10,26 +10,27 @@ use Rattle.pages.proofs.page_after.Tie as tie
 
 place-of-requires : tie.Need-place-of-requires
 place-of-requires c κs =
-    let s = c .before .before .before .before .before .before .before .before in
+    let s : tie.Start = search in
     let p = s .args .plan in
     let h = s .pre .1 .1 .1 .1 in
     (some-rows (p .«row_runs») (p .«column_runs») (s .args .before) h, some-columns (p .«row_runs») (p .«column_runs») (s .args .before) h)
 
 run-at-requires : tie.Need-run-at-requires
 run-at-requires c κs =
-    let s = c .before .before .before .before .before .before .before .before .before in
+    let s : tie.Start = search in
     let p = s .args .plan in
     (s .pre .0, omega (arith, ap (λ (k : Place). k .vertical) (c .place-of .ensures), vertical-below (p .«row_runs») (p .«column_runs») (s .args .before) (s .pre .1 .1 .1 .1) (p .order), s .pre .1 .1 .0))
 
 run-at-requires-2 : tie.Need-run-at-requires-2
 run-at-requires-2 c κs =
-    let s = c .before .before .before .before .before .before .before .before .before .before in
+    let s : tie.Start = search in
     let p = s .args .plan in
     (s .pre .1 .0, omega (arith, ap (λ (k : Place). k .horizontal) (c .before .place-of .ensures), horizontal-below (p .«row_runs») (p .«column_runs») (s .args .before) (s .pre .1 .1 .1 .1) (p .order), s .pre .1 .1 .1 .0))
 
 returns : tie.Need-returns
 returns c =
-    let a = c .before .before .before .before .before .before .before .before .before .before .before .args in
+    let start : tie.Start = search in
+    let a = start .args in
     page-there (a .plan) (runLists (a .rfirsts .now) (a .rlasts .now) (a .rsizes .now) (a .rmarks .now)) (runLists (a .cfirsts .now) (a .clasts .now) (a .csizes .now) (a .cmarks .now)) (a .before) (c .before .before .place-of .result) (c .before .run-at .result) (c .run-at2 .result) (c .before .before .place-of .ensures) (c .before .run-at .ensures) (c .run-at2 .ensures)
 
 pub page-after-spec : {M : Type 1} → statement M

@@ -13,17 +13,20 @@ div-if2 c = search needs
 
 returns-2 : tie.Need-returns-2
 returns-2 c =
-    let a = c .before .before .before .before .before .args in
+    let start : tie.Start = search in
+    let a = start .args in
     count-pages (a .plan) (omega arith) (c .if2 .taken)
 
 mul-result : tie.Need-mul-result
 mul-result c =
-    let a = c .before .before .before .before .before .before .args in
+    let start : tie.Start = search in
+    let a = start .args in
     omega (arith, places-within (a .plan) (omega arith) (c .before .if2 .left))
 
 returns-3 : tie.Need-returns-3
 returns-3 c =
-    let a = c .before .before .before .before .before .before .args in
+    let start : tie.Start = search in
+    let a = start .args in
     count-places (a .plan) (omega arith) (c .before .if2 .left)
 
 pub page-count-spec : {M : Type 1} → statement M

@@ -10,21 +10,31 @@ use Rattle.pages.proofs.page_numbered.Statement.{statement}
 use Rattle.pages.proofs.page_numbered.Tie as tie
 
 abbrev rows : tie.After-first-no → RunLists
-rows f = let a = f .before .before .before .before .before .before .before .before .before .before .before .args in runLists (a .row-firsts .now) (a .row-lasts .now) (a .row-sizes .now) (a .row-marks .now)
+rows f =
+    let start : tie.Start = search in
+    let a = start .args in runLists (a .row-firsts .now) (a .row-lasts .now) (a .row-sizes .now) (a .row-marks .now)
 
 abbrev columns : tie.After-first-no → RunLists
-columns f = let a = f .before .before .before .before .before .before .before .before .before .before .before .args in runLists (a .column-firsts .now) (a .column-lasts .now) (a .column-sizes .now) (a .column-marks .now)
+columns f =
+    let start : tie.Start = search in
+    let a = start .args in runLists (a .column-firsts .now) (a .column-lasts .now) (a .column-sizes .now) (a .column-marks .now)
 
-refuses : (f : tie.After-first-no) → let a = f .before .before .before .before .before .before .before .before .before .before .before .args in
+refuses : (f : tie.After-first-no) →
+    let start : tie.Start = search in
+    let a = start .args in
     0 < f .first-no .result → refused (f .first-no .result) ≡ pageNumbered (a .plan) (rows f) (columns f) (a .number)
 refuses f =
-    let a = f .before .before .before .before .before .before .before .before .before .before .before .args in
+    let start : tie.Start = search in
+    let a = start .args in
     is-refused (a .plan) (a .number) (rows f) (columns f) (f .before .before .lists-even .result) (f .before .lists-even2 .result) (f .first-no .result) (f .before .before .lists-even .ensures) (f .before .lists-even2 .ensures) (f .first-no .ensures)
 
-answers : (f : tie.After-first-no) → let a = f .before .before .before .before .before .before .before .before .before .before .before .args in
+answers : (f : tie.After-first-no) →
+    let start : tie.Start = search in
+    let a = start .args in
     f .first-no .result ≤ 0 → Answers (a .plan) (a .number) (rows f) (columns f)
 answers f =
-    let a = f .before .before .before .before .before .before .before .before .before .before .before .args in
+    let start : tie.Start = search in
+    let a = start .args in
     is-answered (a .plan) (a .number) (rows f) (columns f) (f .before .before .lists-even .result) (f .before .lists-even2 .result) (f .first-no .result) (f .before .before .lists-even .ensures) (f .before .lists-even2 .ensures) (f .first-no .ensures)
 
 lists-even-requires : tie.Need-lists-even-requires

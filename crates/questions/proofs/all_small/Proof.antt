@@ -37,8 +37,9 @@ loop-less c = search needs
 
 loop-again : tie.Need-loop-again Inv-loop μ-loop
 loop-again c =
+    let start : tie.Start Inv-loop μ-loop = search in
     let l = c .before .before .loop in
-    (omega arith, small-back (l .i) (l .bits) (c .before .before .before .args .sizes .now) (omega arith) (l .inv .0) (l .inv .1))
+    (omega arith, small-back (l .i) (l .bits) (start .args .sizes .now) (omega arith) (l .inv .0) (l .inv .1))
 
 returns : tie.Need-returns Inv-loop μ-loop
 returns c =

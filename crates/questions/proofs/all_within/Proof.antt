@@ -26,8 +26,10 @@ shared-slice-read-if1 c = search needs
 
 returns : tie.Need-returns Inv-loop μ-loop
 returns c =
-    let l = c .before .before .before .loop in
-    let a = c .before .before .before .before .args in
+    let start : tie.Start Inv-loop μ-loop = search in
+    let at-loop : tie.At-loop Inv-loop μ-loop = search in
+    let l = at-loop .loop in
+    let a = start .args in
     sym (within-no (a .limit) (l .n) (a .indexes .now) (c .before .before .loop-test .taken) (c .if1 .taken)) ∙ l .inv .1
 
 add-n : tie.Need-add-n Inv-loop μ-loop
@@ -38,8 +40,10 @@ loop-less c = search needs
 
 loop-again : tie.Need-loop-again Inv-loop μ-loop
 loop-again c =
-    let l = c .before .before .before .loop in
-    let a = c .before .before .before .before .args in
+    let start : tie.Start Inv-loop μ-loop = search in
+    let at-loop : tie.At-loop Inv-loop μ-loop = search in
+    let l = at-loop .loop in
+    let a = start .args in
     (search needs, sym (within-yes (a .limit) (l .n) (a .indexes .now) (c .before .before .loop-test .taken) (c .if1 .left)) ∙ l .inv .1)
 
 returns-2 : tie.Need-returns-2 Inv-loop μ-loop

@@ -14,7 +14,8 @@ all-within-requires c κs = search needs
 
 returns-2 : tie.Need-returns-2
 returns-2 c =
-    let a = c .before .before .before .args in
+    let start : tie.Start = search in
+    let a = start .args in
     rw (le-leb (a .last) (a .limit) (c .before .if1 .left)) (c .all-within .ensures)
 
 pub in-grid-spec : {M : Type 1} → statement M

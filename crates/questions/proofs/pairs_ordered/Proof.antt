@@ -36,8 +36,10 @@ shared-slice-read-if1-2 c = search needs
 
 returns : tie.Need-returns Inv-loop μ-loop
 returns c =
-    let l = c .before .before .before .before .loop in
-    let a = c .before .before .before .before .before .before .before .before .args in
+    let start : tie.Start Inv-loop μ-loop = search in
+    let at-loop : tie.At-loop Inv-loop μ-loop = search in
+    let l = at-loop .loop in
+    let a = start .args in
     sym (ordered-no (l .n) (a .firsts .now) (a .lasts .now) (search needs) (search needs) (c .if1 .taken)) ∙ l .inv .2
 
 add-n : tie.Need-add-n Inv-loop μ-loop
@@ -48,14 +50,17 @@ loop-less c = search needs
 
 loop-again : tie.Need-loop-again Inv-loop μ-loop
 loop-again c =
-    let l = c .before .before .before .before .loop in
-    let a = c .before .before .before .before .before .before .before .before .args in
+    let start : tie.Start Inv-loop μ-loop = search in
+    let at-loop : tie.At-loop Inv-loop μ-loop = search in
+    let l = at-loop .loop in
+    let a = start .args in
     (search needs, search needs, sym (ordered-yes (l .n) (a .firsts .now) (a .lasts .now) (search needs) (search needs) (c .if1 .left)) ∙ l .inv .2)
 
 returns-2 : tie.Need-returns-2 Inv-loop μ-loop
 returns-2 c =
+    let start : tie.Start Inv-loop μ-loop = search in
     let l = c .before .loop in
-    let a = c .before .before .before .before .before .args in
+    let a = start .args in
     sym (ordered-end (l .n) (a .firsts .now) (a .lasts .now) (omega (arith, c .loop-test .left, c .before .before .shorter .ensures))) ∙ l .inv .2
 
 pub pairs-ordered-spec : {M : Type 1} → statement M

@@ -35,9 +35,14 @@ first-refused-requires c κs = search needs
 returns : tie.Need-returns
 unfolding formed inGrid firstNo
 returns c =
+    let after-formed : tie.After-formed = search in
+    let after-formed2 : tie.After-formed2 = search in
+    let after-in-grid : tie.After-in-grid = search in
+    let after-in-grid2 : tie.After-in-grid2 = search in
+    let after-rising-within : tie.After-rising-within = search in
     let f = c .before in
     c .first-refused .ensures
-    ∙ rw (f .all-small2 .ensures, f .before .all-small .ensures, f .before .before .rising-within2 .ensures, f .before .before .before .rising-within .ensures, f .before .before .before .before .in-grid2 .ensures, f .before .before .before .before .before .in-grid .ensures, f .before .before .before .before .before .before .formed2 .ensures, f .before .before .before .before .before .before .before .formed .ensures)
+    ∙ rw (f .all-small2 .ensures, f .before .all-small .ensures, f .before .before .rising-within2 .ensures, after-rising-within .rising-within .ensures, after-in-grid2 .in-grid2 .ensures, after-in-grid .in-grid .ensures, after-formed2 .formed2 .ensures, after-formed .formed .ensures)
 
 pub plan-refusal-spec : {M : Type 1} → statement M
 plan-refusal-spec =

@@ -25,7 +25,9 @@ none limit [] e = refl
 none limit (i ∷ is) e = absurd (omega arith)
 
 returns-2 : tie.Need-returns-2
-returns-2 c = let a = c .before .before .before .before .args in none (a .limit) (a .indexes .now) (c .if2 .taken)
+returns-2 c =
+    let start : tie.Start = search in
+    let a = start .args in none (a .limit) (a .indexes .now) (c .if2 .taken)
 
 sub-result : tie.Need-sub-result
 sub-result c = search needs
@@ -39,8 +41,10 @@ shared-slice-read-result c = search needs
 returns-3 : tie.Need-returns-3
 unfolding risingWithin
 returns-3 c =
-    let a = c .before .before .before .before .before .args in
-    let r = c .before .before .before .strictly-rising in
+    let start : tie.Start = search in
+    let after-strictly-rising : tie.After-strictly-rising = search in
+    let a = start .args in
+    let r = after-strictly-rising .strictly-rising in
     let rises : rising (a .indexes .now) ≡ true = sym (r .ensures) ∙ not-false (r .result) (c .before .before .if1 .left) in
     rw rises (within-last (a .limit) (a .indexes .now) rises (omega (arith, c .before .if2 .left)))
 

@@ -24,9 +24,11 @@ div-if4 c = search needs
 returns-3 : tie.Need-returns-3
 unfolding roomNo
 returns-3 c =
-    let a = c .before .before .before .before .args in
+    let start : tie.Start = search in
+    let else1 : tie.Else1 = search in
+    let a = start .args in
     rw (
-      le-leb (a .rows) (a .row-room) (c .before .before .before .if1 .left),
+      le-leb (a .rows) (a .row-room) (else1 .if1 .left),
       le-leb (a .columns) (a .column-room) (c .before .before .if2 .left),
       lt-leb (a .rows * a .columns) (a .limit) (omega (arith, div-lt-iff-lt-mul (c .before .if3 .taken) .0 (c .if4 .taken))),
     )
@@ -34,11 +36,13 @@ returns-3 c =
 returns-4 : tie.Need-returns-4
 unfolding roomNo
 returns-4 c =
-    let a = c .before .before .before .before .args in
+    let start : tie.Start = search in
+    let else1 : tie.Else1 = search in
+    let a = start .args in
     let few : a .rows * a .columns ≤ a .limit =
     split (a .rows * a .columns) (a .limit) (λ l. l) (λ l. absurd (omega (arith, c .if4 .left, div-lt-iff-lt-mul {x = a .limit} {y = a .columns} (c .before .if3 .taken) .1 (omega (arith, l))))) in
     rw (
-      le-leb (a .rows) (a .row-room) (c .before .before .before .if1 .left),
+      le-leb (a .rows) (a .row-room) (else1 .if1 .left),
       le-leb (a .columns) (a .column-room) (c .before .before .if2 .left),
       le-leb (a .rows * a .columns) (a .limit) few,
     )
@@ -46,7 +50,8 @@ returns-4 c =
 returns-5 : tie.Need-returns-5
 unfolding roomNo
 returns-5 c =
-    let a = c .before .before .before .args in
+    let start : tie.Start = search in
+    let a = start .args in
     let none : a .rows ≡ 0 = omega (arith, c .if3 .left) in
     let few : a .rows * a .columns ≤ a .limit = rw none (omega arith) in
     rw (

@@ -46,8 +46,10 @@ loop-less c = search needs
 
 loop-again : tie.Need-loop-again Inv-loop μ-loop
 loop-again c =
-    let l = c .before .before .before .loop in
-    let is = c .before .before .before .before .args .indexes .now in (
+    let start : tie.Start Inv-loop μ-loop = search in
+    let at-loop : tie.At-loop Inv-loop μ-loop = search in
+    let l = at-loop .loop in
+    let is = start .args .indexes .now in (
       omega arith,
       ap (λ (b : Bool). ltb (getD is (l .i - 1 - 1) 0) (getD is (l .i - 1) 0) && b) (l .inv .1) ∙ sym (rising-back (l .i) is (c .before .before .loop-test .taken) (l .inv .0)),
     )

@@ -19,12 +19,16 @@ enum-told c = search needs
 returns : tie.Need-returns
 unfolding contentSides
 returns c =
-    rw (← c .before .before .before .before .paper-geometry .ensures, ← c .before .before .content-geometry .ensures, c .enum-told .given .1)
+    let after-paper-geometry : tie.After-paper-geometry = search in
+    rw (← after-paper-geometry .paper-geometry .ensures, ← c .before .before .content-geometry .ensures, c .enum-told .given .1)
 
 returns-2 : tie.Need-returns-2
 unfolding contentSides
 returns-2 c =
-    rw (← c .before .before .before .before .before .before .before .before .paper-geometry .ensures, ← c .before .before .before .before .before .before .content-geometry .ensures, c .before .before .before .before .found .given .1)
+    let after-paper-geometry : tie.After-paper-geometry = search in
+    let after-content-geometry : tie.After-content-geometry = search in
+    let after-found : tie.After-found = search in
+    rw (← after-paper-geometry .paper-geometry .ensures, ← after-content-geometry .content-geometry .ensures, after-found .found .given .1)
 
 pub content-sides-spec : {M : Type 1} → statement M
 content-sides-spec =

@@ -27,7 +27,9 @@ add-result c = search needs
 
 returns-2 : tie.Need-returns-2
 unfolding bodyStart
-returns-2 c = rw (c .before .before .before .before .title .given .1, le-leb _ _ (c .before .before .if1 .taken), le-leb _ _ (c .before .if2 .taken), c .wide2 .ensures)
+returns-2 c =
+    let after-title : tie.After-title = search in
+    rw (after-title .title .given .1, le-leb _ _ (c .before .before .if1 .taken), le-leb _ _ (c .before .if2 .taken), c .wide2 .ensures)
 
 wide-requires-3 : tie.Need-wide-requires-3
 wide-requires-3 c κs = search needs
@@ -35,9 +37,10 @@ wide-requires-3 c κs = search needs
 returns-3 : tie.Need-returns-3
 unfolding bodyStart
 returns-3 c =
+    let after-title : tie.After-title = search in
     ⊎-elim
-    (λ w. rw (c .before .before .before .title .given .1, c .wide3 .ensures, le-leb _ _ (w .0 .taken), lt-leb _ _ (w .1 .left)))
-    (λ w. rw (c .before .before .before .title .given .1, c .wide3 .ensures, lt-leb _ _ (w .left)))
+    (λ w. rw (after-title .title .given .1, c .wide3 .ensures, le-leb _ _ (w .0 .taken), lt-leb _ _ (w .1 .left)))
+    (λ w. rw (after-title .title .given .1, c .wide3 .ensures, lt-leb _ _ (w .left)))
     (c .before .if1 .came)
 
 pub body-start-spec : {M : Type 1} → statement M

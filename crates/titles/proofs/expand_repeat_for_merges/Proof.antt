@@ -33,7 +33,8 @@ shorter-requires c κs = search needs
 loop-holds : tie.Need-loop-holds Inv-loop2 μ-loop2 Inv-loop μ-loop
 unfolding expand
 loop-holds c =
-    let a = c .before .before .before .args in
+    let start : tie.Start Inv-loop2 μ-loop2 Inv-loop μ-loop = search in
+    let a = start .args in
     let z : length (a .firsts .now) - 0 ≡ length (a .firsts .now) = omega arith in
     (search needs, rw z)
 
@@ -78,10 +79,14 @@ loop2-less c = search needs
 
 loop2-again : tie.Need-loop2-again Inv-loop2 μ-loop2 Inv-loop μ-loop
 loop2-again c =
-    let to = c .before .before .before .shorter2 in
-    let l = c .before .before .before .before .before .loop2 in
-    let n = c .before .before .before .before .before .before .before .shorter in
-    let a = c .before .before .before .before .before .before .before .before .before .before .args in
+    let start : tie.Start Inv-loop2 μ-loop2 Inv-loop μ-loop = search in
+    let after-shorter : tie.After-shorter Inv-loop2 μ-loop2 Inv-loop μ-loop = search in
+    let at-loop2 : tie.At-loop2 Inv-loop2 μ-loop2 Inv-loop μ-loop = search in
+    let after-shorter2 : tie.After-shorter2 Inv-loop2 μ-loop2 Inv-loop μ-loop = search in
+    let to = after-shorter2 .shorter2 in
+    let l = at-loop2 .loop2 in
+    let n = after-shorter .shorter in
+    let a = start .args in
     let f : to .result ≤ length (a .firsts .now) = omega (arith, to .ensures, n .ensures) in
     let t : to .result ≤ length (a .lasts .now) = omega (arith, to .ensures, n .ensures) in
     let on = pass-part (l .i) (to .result) (a .firsts .now) (a .lasts .now) (l .span) (omega (arith, to .ensures)) f t in
@@ -91,37 +96,51 @@ same-span-requires : tie.Need-same-span-requires Inv-loop2 μ-loop2 Inv-loop μ-
 same-span-requires c κs = search needs
 
 -- after a pass: what it made of the span, and what its test says of that
-passed :
-    (c : tie.After-same-span Inv-loop2 μ-loop2 Inv-loop μ-loop) →
-    c .before .before .loop2 .span ≡ pass (c .before .before .before .before .before .before .before .args .firsts .now) (c .before .before .before .before .before .before .before .args .lasts .now) (c .before .before .before .loop .span)
+passed : (c : tie.After-same-span Inv-loop2 μ-loop2 Inv-loop μ-loop) →
+    let start : tie.Start Inv-loop2 μ-loop2 Inv-loop μ-loop = search in
+    let at-loop : tie.At-loop Inv-loop2 μ-loop2 Inv-loop μ-loop = search in
+    let a = start .args in
+    c .before .before .loop2 .span ≡ pass (a .firsts .now) (a .lasts .now) (at-loop .loop .span)
 passed c =
+    let start : tie.Start Inv-loop2 μ-loop2 Inv-loop μ-loop = search in
+    let after-shorter : tie.After-shorter Inv-loop2 μ-loop2 Inv-loop μ-loop = search in
     let l = c .before .before .loop2 in
-    let a = c .before .before .before .before .before .before .before .args in
-    sym (pass-end (l .i) (a .firsts .now) (a .lasts .now) (l .span) (omega (arith, c .before .loop2-test .left, c .before .before .before .before .shorter .ensures))) ∙ l .inv .2
+    let a = start .args in
+    sym (pass-end (l .i) (a .firsts .now) (a .lasts .now) (l .span) (omega (arith, c .before .loop2-test .left, after-shorter .shorter .ensures))) ∙ l .inv .2
 
-said :
-    (c : tie.After-same-span Inv-loop2 μ-loop2 Inv-loop μ-loop) (b : Bool) → c .same-span .result ≡ b
-    → still (c .before .before .before .before .before .before .before .args .firsts .now) (c .before .before .before .before .before .before .before .args .lasts .now) (c .before .before .before .loop .span) ≡ b
+said : (c : tie.After-same-span Inv-loop2 μ-loop2 Inv-loop μ-loop) (b : Bool) → c .same-span .result ≡ b →
+    let start : tie.Start Inv-loop2 μ-loop2 Inv-loop μ-loop = search in
+    let at-loop : tie.At-loop Inv-loop2 μ-loop2 Inv-loop μ-loop = search in
+    let a = start .args in
+    still (a .firsts .now) (a .lasts .now) (at-loop .loop .span) ≡ b
 said c b h =
-    let a = c .before .before .before .before .before .before .before .args in
-    still-of (a .firsts .now) (a .lasts .now) (c .before .before .before .loop .span) _ (passed c) _ b (c .same-span .ensures) h
+    let start : tie.Start Inv-loop2 μ-loop2 Inv-loop μ-loop = search in
+    let at-loop : tie.At-loop Inv-loop2 μ-loop2 Inv-loop μ-loop = search in
+    let a = start .args in
+    still-of (a .firsts .now) (a .lasts .now) (at-loop .loop .span) _ (passed c) _ b (c .same-span .ensures) h
 
 add-expanded : tie.Need-add-expanded Inv-loop2 μ-loop2 Inv-loop μ-loop
 add-expanded c =
-    let a = c .before .before .before .before .before .before .before .before .args in
-    let l = c .before .before .before .before .loop in
-    omega (arith, inside-le (l .span) (a .firsts .now) (a .lasts .now), c .before .before .before .before .before .before .before .before .good)
+    let start : tie.Start Inv-loop2 μ-loop2 Inv-loop μ-loop = search in
+    let at-loop : tie.At-loop Inv-loop2 μ-loop2 Inv-loop μ-loop = search in
+    let a = start .args in
+    let l = at-loop .loop in
+    omega (arith, inside-le (l .span) (a .firsts .now) (a .lasts .now), start .good)
 
 loop-less : tie.Need-loop-less Inv-loop2 μ-loop2 Inv-loop μ-loop
 loop-less c =
-    let l = c .before .before .before .before .loop in
-    let a = c .before .before .before .before .before .before .before .before .args in
+    let start : tie.Start Inv-loop2 μ-loop2 Inv-loop μ-loop = search in
+    let at-loop : tie.At-loop Inv-loop2 μ-loop2 Inv-loop μ-loop = search in
+    let l = at-loop .loop in
+    let a = start .args in
     turn-less (a .firsts .now) (a .lasts .now) (l .span) _ (passed (c .before)) (said (c .before) false (c .if1 .left))
 
 loop-again : tie.Need-loop-again Inv-loop2 μ-loop2 Inv-loop μ-loop
 loop-again c =
-    let l = c .before .before .before .before .loop in
-    let a = c .before .before .before .before .before .before .before .before .args in
+    let start : tie.Start Inv-loop2 μ-loop2 Inv-loop μ-loop = search in
+    let at-loop : tie.At-loop Inv-loop2 μ-loop2 Inv-loop μ-loop = search in
+    let l = at-loop .loop in
+    let a = start .args in
     let f = said (c .before) false (c .if1 .left) in (
       turn-count (a .firsts .now) (a .lasts .now) (l .span) _ (passed (c .before)) (l .expanded) f (l .inv .0),
       turn-passes (a .firsts .now) (a .lasts .now) (l .span) _ (passed (c .before)) (l .expanded) f (l .inv .0) ∙ l .inv .1,
@@ -129,8 +148,10 @@ loop-again c =
 
 returns : tie.Need-returns Inv-loop2 μ-loop2 Inv-loop μ-loop
 returns c =
-    let l = c .before .before .before .before .loop in
-    let a = c .before .before .before .before .before .before .before .before .args in
+    let start : tie.Start Inv-loop2 μ-loop2 Inv-loop μ-loop = search in
+    let at-loop : tie.At-loop Inv-loop2 μ-loop2 Inv-loop μ-loop = search in
+    let l = at-loop .loop in
+    let a = start .args in
     turn-ends (a .firsts .now) (a .lasts .now) (l .span) _ (passed (c .before)) (length (a .firsts .now) - l .expanded) (l .expanded) (said (c .before) true (c .if1 .taken))
     ∙ l .inv .1
 

@@ -23,7 +23,8 @@ shorter-requires c κs = search needs
 
 loop-holds : tie.Need-loop-holds Inv-loop μ-loop
 loop-holds c =
-    let a = c .before .before .before .args in (
+    let start : tie.Start Inv-loop μ-loop = search in
+    let a = start .args in (
       omega (arith, c .shorter .ensures),
       omega (arith, c .shorter .ensures),
       sym (no-merge-end (widens (a .span)) (c .shorter .result) (a .firsts .now) (a .lasts .now) (omega (arith, c .shorter .ensures))),
@@ -49,8 +50,10 @@ loop-less c = search needs
 
 loop-again : tie.Need-loop-again Inv-loop μ-loop
 loop-again c =
-    let l = c .before .before .before .loop in
-    let a = c .before .before .before .before .before .before .before .args in
+    let start : tie.Start Inv-loop μ-loop = search in
+    let at-loop : tie.At-loop Inv-loop μ-loop = search in
+    let l = at-loop .loop in
+    let a = start .args in
     let free = widens (a .span) in (
       omega arith,
       omega arith,

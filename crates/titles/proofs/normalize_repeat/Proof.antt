@@ -17,11 +17,15 @@ returns c = rw (c .enum-told .given .1)
 
 returns-2 : tie.Need-returns-2
 unfolding normalized
-returns-2 c = rw (c .before .before .before .title .given .1, le-leb _ _ (c .before .if1 .taken), le-leb _ _ (c .if2 .taken))
+returns-2 c =
+    let after-title : tie.After-title = search in
+    rw (after-title .title .given .1, le-leb _ _ (c .before .if1 .taken), le-leb _ _ (c .if2 .taken))
 
 returns-3 : tie.Need-returns-3
 unfolding normalized
-returns-3 c = rw (c .before .before .before .title .given .1, le-leb _ _ (c .before .if1 .taken), lt-leb _ _ (c .if2 .left))
+returns-3 c =
+    let after-title : tie.After-title = search in
+    rw (after-title .title .given .1, le-leb _ _ (c .before .if1 .taken), lt-leb _ _ (c .if2 .left))
 
 returns-4 : tie.Need-returns-4
 unfolding normalized

@@ -6,11 +6,15 @@ use Rattle.titles.proofs.same_span.Tie as tie
 
 returns : tie.Need-returns
 unfolding sameSpan
-returns c = rw (eq-eqb _ _ (c .before .before .before .if1 .taken), eq-eqb _ _ (c .if2 .taken))
+returns c =
+    let then1 : tie.Then1 = search in
+    rw (eq-eqb _ _ (then1 .if1 .taken), eq-eqb _ _ (c .if2 .taken))
 
 returns-2 : tie.Need-returns-2
 unfolding sameSpan
-returns-2 c = rw (eq-eqb _ _ (c .before .before .before .if1 .taken), ne-eqb _ _ (c .if2 .left))
+returns-2 c =
+    let then1 : tie.Then1 = search in
+    rw (eq-eqb _ _ (then1 .if1 .taken), ne-eqb _ _ (c .if2 .left))
 
 returns-3 : tie.Need-returns-3
 unfolding sameSpan

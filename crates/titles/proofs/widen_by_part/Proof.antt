@@ -22,7 +22,8 @@ none-widens-requires c κs = search needs
 
 returns : tie.Need-returns Inv-loop μ-loop
 returns c =
-    let a = c .before .before .before .before .args in
+    let start : tie.Start Inv-loop μ-loop = search in
+    let a = start .args in
     let n = c .before .none-widens in
     sym (pass-none (a .span) (a .firsts .now) (a .lasts .now) (sym (n .ensures) ∙ c .if1 .taken))
 
@@ -55,15 +56,18 @@ loop-less c = search needs
 
 loop-again : tie.Need-loop-again Inv-loop μ-loop
 loop-again c =
-    let l = c .before .before .before .before .loop in
-    let a = c .before .before .before .before .before .before .before .before .before .before .args in
+    let start : tie.Start Inv-loop μ-loop = search in
+    let at-loop : tie.At-loop Inv-loop μ-loop = search in
+    let l = at-loop .loop in
+    let a = start .args in
     let step = pass-step (l .i) (a .firsts .now) (a .lasts .now) (l .wide) (search needs) (search needs) in
     (search needs, search needs, rw (c .widen-to .ensures) (sym step ∙ l .inv .2))
 
 returns-2 : tie.Need-returns-2 Inv-loop μ-loop
 returns-2 c =
+    let start : tie.Start Inv-loop μ-loop = search in
     let l = c .before .loop in
-    let a = c .before .before .before .before .before .before .before .args in
+    let a = start .args in
     sym (pass-end (l .i) (a .firsts .now) (a .lasts .now) (l .wide) (omega (arith, c .loop-test .left, c .before .before .shorter .ensures))) ∙ l .inv .2
 
 pub widen-by-part-spec : {M : Type 1} → statement M

@@ -13,7 +13,9 @@ greater-requires c κs = search needs
 
 returns : tie.Need-returns
 unfolding widenTo
-returns c = rw (le-leb _ _ (c .before .before .before .before .if1 .taken), le-leb _ _ (c .before .before .if2 .taken), c .greater .ensures, c .before .lesser .ensures)
+returns c =
+    let then1 : tie.Then1 = search in
+    rw (le-leb _ _ (then1 .if1 .taken), le-leb _ _ (c .before .before .if2 .taken), c .greater .ensures, c .before .lesser .ensures)
 
 returns-2 : tie.Need-returns-2
 unfolding widenTo

@@ -22,7 +22,9 @@ expand-repeat-for-merges-requires c κs = search needs
 
 returns-2 : tie.Need-returns-2
 unfolding widened widenedFrom
-returns-2 c = rw (← c .before .before .before .before .normalize-repeat .ensures, c .before .before .kept .given .1, c .expand-repeat-for-merges .ensures)
+returns-2 c =
+    let after-normalize-repeat : tie.After-normalize-repeat = search in
+    rw (← after-normalize-repeat .normalize-repeat .ensures, c .before .before .kept .given .1, c .expand-repeat-for-merges .ensures)
 
 pub widened-title-spec : {M : Type 1} → statement M
 widened-title-spec =

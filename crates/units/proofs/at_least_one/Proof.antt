@@ -23,7 +23,7 @@ returns c = search needs
 
 returns-2 : tie.Need-returns-2
 returns-2 c =
-    let s = c .before .before .before in
+    let s : tie.After-l = search in
     let a = s .l .given .0 .0 .0 in
     let A : SFits w64 a = search needs in
     toZ-ofZ w64 a A
@@ -32,7 +32,7 @@ returns-2 c =
 
 returns-3 : tie.Need-returns-3
 returns-3 c =
-    let s = c .before .before .before in
+    let s : tie.After-l = search in
     let a = s .l .given .0 .0 .0 in
     let A : SFits w64 a = search needs in
     sym (ap (λ (t : Bool). cond t a (pos 1)) (tested-at (pos 1) a A (c .if1 .left)))

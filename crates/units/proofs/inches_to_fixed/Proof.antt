@@ -48,9 +48,13 @@ cast-t12 : tie.Need-cast-t12
 cast-t12 c = search needs
 
 -- what the call gives
-got : (c : tie.After-truncating-f64-to-u64) → fromHalves (c .truncating-f64-to-u64 .result) ≡ inchesToFixed (c .before .before .before .args .inches)
+got : (c : tie.After-truncating-f64-to-u64) →
+    let start : tie.Start = search in
+    fromHalves (c .truncating-f64-to-u64 .result) ≡ inchesToFixed (start .args .inches)
 unfolding raw ofBits
-got c = ap fromHalves (c .truncating-f64-to-u64 .ensures) ∙ known (c .before) .2 ∙ raw-is (c .before .before .before .args .inches)
+got c =
+    let start : tie.Start = search in
+    ap fromHalves (c .truncating-f64-to-u64 .ensures) ∙ known (c .before) .2 ∙ raw-is (start .args .inches)
 
 returns : tie.Need-returns
 returns c =
@@ -71,13 +75,15 @@ returns-2 c =
 returns-3 : tie.Need-returns-3
 unfolding raw ofBits neg
 returns-3 c =
-    let x = c .before .before .before .args .inches in
+    let start : tie.Start = search in
+    let x = start .args .inches in
     sym (given-top (raw x) (c .before .before .if1 .taken) (c .if4 .taken)) ∙ raw-is x
 
 returns-4 : tie.Need-returns-4
 unfolding raw ofBits
 returns-4 c =
-    let x = c .before .before .before .args .inches in
+    let start : tie.Start = search in
+    let x = start .args .inches in
     sym (refused-high (raw x) (raw-fits x) (c .before .if2 .left) (c .if4 .left)) ∙ raw-is x
 
 returns-5 : tie.Need-returns-5

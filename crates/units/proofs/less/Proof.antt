@@ -34,8 +34,8 @@ minus-requires c κs = search needs
 
 returns-3 : tie.Need-returns-3
 returns-3 c =
-    let t = c .before .before .before .before in
-    let s = t .before .before .before in
+    let s : tie.After-a = search in
+    let t : tie.After-b = search in
     let x = s .a .given .0 .0 .0 in
     let y = t .b .given .0 .0 .0 in
     let X : SFits w64 x = search needs in

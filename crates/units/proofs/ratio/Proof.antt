@@ -67,13 +67,15 @@ add-n-2 c =
 
 returns-3 : tie.Need-returns-3
 returns-3 c =
-    let a = c .before .before .before .args in
-    omega (arith, apart (a .m) (a .k) (a .h) (a .d) (c .before .before .before .pre), c .if3 .taken)
+    let start : tie.Start = search in
+    let a = start .args in
+    omega (arith, apart (a .m) (a .k) (a .h) (a .d) (start .pre), c .if3 .taken)
 
 returns-4 : tie.Need-returns-4
 returns-4 c =
-    let a = c .before .before .before .args in
-    omega (arith, apart (a .m) (a .k) (a .h) (a .d) (c .before .before .before .pre), c .if3 .left)
+    let start : tie.Start = search in
+    let a = start .args in
+    omega (arith, apart (a .m) (a .k) (a .h) (a .d) (start .pre), c .if3 .left)
 
 pub ratio-spec : {M : Type 1} → statement M
 ratio-spec =

@@ -28,16 +28,20 @@ enum-told : tie.Need-enum-told
 enum-told c = search needs
 
 -- the quotient, of the side itself
-whole-is : (q : tie.After-signed-ratio) → let a = q .before .before .before .args in lengthOutcome (q .signed-ratio .result) ≡ inI64 (signedRatio (a .side .0) 1000 0 (a .permille))
+whole-is : (q : tie.After-signed-ratio) →
+    let start : tie.Start = search in
+    let a = start .args in lengthOutcome (q .signed-ratio .result) ≡ inI64 (signedRatio (a .side .0) 1000 0 (a .permille))
 whole-is q =
-    let a = q .before .before .before .args in
+    let start : tie.Start = search in
+    let a = start .args in
     let s : SFits w64 (a .side .0) = search needs in
     q .signed-ratio .ensures ∙ ap (λ (z : ℤ). inI64 (signedRatio z 1000 0 (a .permille))) (toZ-ofZ w64 (a .side .0) s)
 
 returns-2 : tie.Need-returns-2
 returns-2 c =
+    let start : tie.Start = search in
     let q = c .before .before in
-    let a = q .before .before .before .args in
+    let a = start .args in
     capacity-of (a .side .0) (a .permille) (a .titles .0) (a .headings .0) (refused 10) (q .before .before .if1 .left) (sym (ap lengthOutcome (c .enum-told .given .1)) ∙ whole-is q)
 
 less-requires : tie.Need-less-requires
@@ -51,9 +55,10 @@ at-least-one-requires c κs = search needs
 
 returns-3 : tie.Need-returns-3
 returns-3 c =
-    let s = c .before .before .before .before in
+    let start : tie.Start = search in
+    let s : tie.After-whole = search in
     let q = s .before .before in
-    let a = q .before .before .before .args in
+    let a = start .args in
     ap given (c .at-least-one .ensures ∙ ap atLeastOne (c .before .less2 .ensures ∙ ap (λ (o : Outcome ℤ). lessOf o (given (a .headings .0))) (c .before .before .less .ensures)))
     ∙ capacity-of (a .side .0) (a .permille) (a .titles .0) (a .headings .0) (given (s .whole .given .0 .0 .0)) (q .before .before .if1 .left) (sym (ap lengthOutcome (s .whole .given .1)) ∙ whole-is q)
 

@@ -21,14 +21,18 @@ returns-2 c = rw (c .before .before .held .given .1, lt-ltb _ _ (c .if1 .taken))
 
 returns-3 : tie.Need-returns-3
 unfolding earlier nearer
-returns-3 c = rw (c .before .before .before .held .given .1, le-ltb _ _ (c .before .if1 .left), lt-ltb _ _ (c .if2 .taken))
+returns-3 c =
+    let after-held : tie.After-held = search in
+    rw (after-held .held .given .1, le-ltb _ _ (c .before .if1 .left), lt-ltb _ _ (c .if2 .taken))
 
 lesser-requires : tie.Need-lesser-requires
 lesser-requires c κs = search needs
 
 returns-4 : tie.Need-returns-4
 unfolding earlier nearer
-returns-4 c = rw (c .before .before .before .before .held .given .1, le-ltb _ _ (c .before .before .if1 .left), le-ltb _ _ (c .before .if2 .left), c .lesser .ensures)
+returns-4 c =
+    let after-held : tie.After-held = search in
+    rw (after-held .held .given .1, le-ltb _ _ (c .before .before .if1 .left), le-ltb _ _ (c .before .if2 .left), c .lesser .ensures)
 
 pub earlier-of-spec : {M : Type 1} → statement M
 earlier-of-spec =

@@ -22,7 +22,8 @@ shorter-requires c κs = search needs
 
 loop-holds : tie.Need-loop-holds Inv-loop μ-loop
 loop-holds c =
-    let a = c .before .before .before .args in (
+    let start : tie.Start Inv-loop μ-loop = search in
+    let a = start .args in (
       omega (arith, c .shorter .ensures),
       omega (arith, c .shorter .ensures),
       sym (onto-end (a .lo) (a .hi) (a .b) (a .found) (c .shorter .result) (a .firsts .now) (a .lasts .now) (omega (arith, c .shorter .ensures))),
@@ -57,10 +58,13 @@ loop-less c = search needs
 
 loop-again : tie.Need-loop-again Inv-loop μ-loop
 loop-again c =
-    let l = c .before .before .before .before .before .before .loop in
-    let a = c .before .before .before .before .before .before .before .before .before .before .args in
+    let start : tie.Start Inv-loop μ-loop = search in
+    let at-loop : tie.At-loop Inv-loop μ-loop = search in
+    let after-greater : tie.After-greater Inv-loop μ-loop = search in
+    let l = at-loop .loop in
+    let a = start .args in
     let back = onto-back (a .lo) (a .hi) (a .b) (a .found) (l .i) (a .firsts .now) (a .lasts .now) (omega arith) (omega arith) (omega arith) in
-    (omega arith, omega arith, cc (back, l .inv .2, c .nearer-of .ensures, c .before .lesser .ensures, c .before .before .before .greater .ensures))
+    (omega arith, omega arith, cc (back, l .inv .2, c .nearer-of .ensures, c .before .lesser .ensures, after-greater .greater .ensures))
 
 returns : tie.Need-returns Inv-loop μ-loop
 returns c =

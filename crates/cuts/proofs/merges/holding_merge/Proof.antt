@@ -24,7 +24,8 @@ shorter-requires c κs = search needs
 
 loop-holds : tie.Need-loop-holds Inv-loop μ-loop
 loop-holds c =
-    let a = c .before .before .before .args in (
+    let start : tie.Start Inv-loop μ-loop = search in
+    let a = start .args in (
       omega (arith, c .shorter .ensures),
       omega (arith, c .shorter .ensures),
       holding-end (a .lo) (a .hi) (a .b) (c .shorter .result) (a .firsts .now) (a .lasts .now) (omega (arith, c .shorter .ensures)),
@@ -61,11 +62,14 @@ none-holds-requires : tie.Need-none-holds-requires Inv-loop μ-loop
 none-holds-requires c κs = search needs
 
 -- what a part does to what was found behind it
-part : (d : tie.After-part-before Inv-loop μ-loop) → let a = d .before .before .before .before .before .before .args in let l = d .before .before .loop in
+part : (d : tie.After-part-before Inv-loop μ-loop) →
+    let start : tie.Start Inv-loop μ-loop = search in
+    let a = start .args in let l = d .before .before .loop in
     holdingOnto (a .lo) (a .hi) (a .b) (mid (d .part-before .result) (l .i) (a .firsts .now)) (mid (d .part-before .result) (l .i) (a .lasts .now)) (l .held)
     ≡ holding (a .lo) (a .hi) (a .b) (drop (d .part-before .result) (a .firsts .now)) (drop (d .part-before .result) (a .lasts .now))
 part d =
-    let a = d .before .before .before .before .before .before .args in
+    let start : tie.Start Inv-loop μ-loop = search in
+    let a = start .args in
     let l = d .before .before .loop in
     ap (holdingOnto (a .lo) (a .hi) (a .b) (mid (d .part-before .result) (l .i) (a .firsts .now)) (mid (d .part-before .result) (l .i) (a .lasts .now))) (l .inv .2)
     ∙ holding-part (a .lo) (a .hi) (a .b) (d .part-before .result) (l .i) (a .firsts .now) (a .lasts .now) (omega (arith, d .part-before .ensures)) (l .inv .0) (l .inv .1)
@@ -78,7 +82,7 @@ loop-less c = search needs
 
 loop-again : tie.Need-loop-again Inv-loop μ-loop
 loop-again c =
-    let d = c .before .before .before .before .before in
+    let d : tie.After-part-before Inv-loop μ-loop = search in
     (omega (arith, d .part-before .ensures), omega (arith, d .part-before .ensures), c .earliest-of .ensures ∙ part d)
 
 loop-less-2 : tie.Need-loop-less-2 Inv-loop μ-loop
@@ -86,8 +90,9 @@ loop-less-2 c = search needs
 
 loop-again-2 : tie.Need-loop-again-2 Inv-loop μ-loop
 loop-again-2 c =
-    let d = c .before .before .before .before in
-    let a = d .before .before .before .before .before .before .args in
+    let start : tie.Start Inv-loop μ-loop = search in
+    let d : tie.After-part-before Inv-loop μ-loop = search in
+    let a = start .args in
     let n = c .before .none-holds in (
       omega (arith, d .part-before .ensures),
       omega (arith, d .part-before .ensures),

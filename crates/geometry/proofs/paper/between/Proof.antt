@@ -16,7 +16,9 @@ less-requires-2 : tie.Need-less-requires-2
 less-requires-2 c κs = search needs
 
 returns : tie.Need-returns
-returns c = rw (c .less2 .ensures, c .before .inches-to-fixed2 .ensures, c .before .before .less .ensures, c .before .before .before .inches-to-fixed .ensures)
+returns c =
+    let after-inches-to-fixed : tie.After-inches-to-fixed = search in
+    rw (c .less2 .ensures, c .before .inches-to-fixed2 .ensures, c .before .before .less .ensures, after-inches-to-fixed .inches-to-fixed .ensures)
 
 pub between-spec : {M : Type 1} → statement M
 between-spec =

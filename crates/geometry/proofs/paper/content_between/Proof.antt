@@ -27,7 +27,12 @@ placed-requires c κs = search needs
 
 returns : tie.Need-returns
 unfolding contentBetween
-returns c = rw (c .placed .ensures, c .before .footer-at .ensures, c .before .before .inches-to-fixed3 .ensures, c .before .before .before .between2 .ensures, c .before .before .before .before .between .ensures, c .before .before .before .before .before .inches-to-fixed2 .ensures, c .before .before .before .before .before .before .inches-to-fixed .ensures)
+returns c =
+    let after-inches-to-fixed : tie.After-inches-to-fixed = search in
+    let after-inches-to-fixed2 : tie.After-inches-to-fixed2 = search in
+    let after-between : tie.After-between = search in
+    let after-between2 : tie.After-between2 = search in
+    rw (c .placed .ensures, c .before .footer-at .ensures, c .before .before .inches-to-fixed3 .ensures, after-between2 .between2 .ensures, after-between .between .ensures, after-inches-to-fixed2 .inches-to-fixed2 .ensures, after-inches-to-fixed .inches-to-fixed .ensures)
 
 pub content-between-spec : {M : Type 1} → statement M
 content-between-spec =

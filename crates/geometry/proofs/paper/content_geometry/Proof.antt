@@ -19,7 +19,8 @@ content-between-requires c κs = search needs
 returns : tie.Need-returns
 unfolding contentGeometry
 returns c =
-    let paper = c .before .before .before .args .paper in
+    let start : tie.Start = search in
+    let paper = start .args .paper in
     c .content-between .ensures
     ∙ ap (λ (m : Margins). contentBetween (paper .width .0) (paper .height .0) m 0) defaults
     ∙ sym (ap (contentGeometry (paper .width .0) (paper .height .0)) (c .before .enum-told .given .1))
@@ -35,15 +36,19 @@ content-between-requires-3 c κs = search needs
 
 returns-2 : tie.Need-returns-2
 unfolding contentGeometry
-returns-2 c = rw (c .content-between2 .ensures, c .before .before .before .before .margins .given .1, ← c .before .before .margins-hold .ensures, c .before .if1 .taken)
+returns-2 c =
+    let after-margins : tie.After-margins = search in
+    rw (c .content-between2 .ensures, after-margins .margins .given .1, ← c .before .before .margins-hold .ensures, c .before .if1 .taken)
 
 returns-3 : tie.Need-returns-3
 unfolding contentGeometry
 returns-3 c =
-    let paper = c .before .before .before .before .before .before .args .paper in
+    let start : tie.Start = search in
+    let after-margins : tie.After-margins = search in
+    let paper = start .args .paper in
     c .content-between3 .ensures
     ∙ ap (λ (m : Margins). contentBetween (paper .width .0) (paper .height .0) m 1) defaults
-    ∙ rw (c .before .before .before .before .margins .given .1, ← c .before .before .margins-hold .ensures, c .before .if1 .left)
+    ∙ rw (after-margins .margins .given .1, ← c .before .before .margins-hold .ensures, c .before .if1 .left)
 
 pub content-geometry-spec : {M : Type 1} → statement M
 content-geometry-spec =

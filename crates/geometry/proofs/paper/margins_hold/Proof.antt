@@ -21,7 +21,10 @@ shorter-requires-4 c κs = search needs
 
 returns : tie.Need-returns
 unfolding marginsHold
-returns c = rw (c .before .before .before .before .before .before .all-usable .ensures, c .before .before .before .before .shorter .ensures, c .before .before .shorter2 .ensures, c .before .shorter3 .ensures, c .shorter4 .ensures)
+returns c =
+    let after-all-usable : tie.After-all-usable = search in
+    let after-shorter : tie.After-shorter = search in
+    rw (after-all-usable .all-usable .ensures, after-shorter .shorter .ensures, c .before .before .shorter2 .ensures, c .before .shorter3 .ensures, c .shorter4 .ensures)
 
 pub margins-hold-spec : {M : Type 1} → statement M
 margins-hold-spec =

@@ -37,7 +37,11 @@ enum-told-4 : tie.Need-enum-told-4
 enum-told-4 c = search needs
 
 returns-4 : tie.Need-returns-4
-returns-4 c = rw (c .before .before .before .before .before .before .before .before .before .x .given .1, c .before .before .before .before .before .before .y .given .1, c .before .before .before .width .given .1, c .enum-told4 .given .1)
+returns-4 c =
+    let after-x : tie.After-x = search in
+    let after-y : tie.After-y = search in
+    let after-width : tie.After-width = search in
+    rw (after-x .x .given .1, after-y .y .given .1, after-width .width .given .1, c .enum-told4 .given .1)
 
 enum-known-header-y : tie.Need-enum-known-header-y
 enum-known-header-y c = search needs
@@ -46,7 +50,12 @@ enum-told-5 : tie.Need-enum-told-5
 enum-told-5 c = search needs
 
 returns-5 : tie.Need-returns-5
-returns-5 c = rw (c .before .before .before .before .before .before .before .before .before .before .before .before .x .given .1, c .before .before .before .before .before .before .before .before .before .y .given .1, c .before .before .before .before .before .before .width .given .1, c .before .before .before .height .given .1, c .enum-told5 .given .1)
+returns-5 c =
+    let after-x : tie.After-x = search in
+    let after-y : tie.After-y = search in
+    let after-width : tie.After-width = search in
+    let after-height : tie.After-height = search in
+    rw (after-x .x .given .1, after-y .y .given .1, after-width .width .given .1, after-height .height .given .1, c .enum-told5 .given .1)
 
 enum-known-footer-y : tie.Need-enum-known-footer-y
 enum-known-footer-y c = search needs
@@ -55,10 +64,22 @@ enum-told-6 : tie.Need-enum-told-6
 enum-told-6 c = search needs
 
 returns-6 : tie.Need-returns-6
-returns-6 c = rw (c .before .before .before .before .before .before .before .before .before .before .before .before .before .before .before .x .given .1, c .before .before .before .before .before .before .before .before .before .before .before .before .y .given .1, c .before .before .before .before .before .before .before .before .before .width .given .1, c .before .before .before .before .before .before .height .given .1, c .before .before .before .header-y .given .1, c .enum-told6 .given .1)
+returns-6 c =
+    let after-x : tie.After-x = search in
+    let after-y : tie.After-y = search in
+    let after-width : tie.After-width = search in
+    let after-height : tie.After-height = search in
+    let after-header-y : tie.After-header-y = search in
+    rw (after-x .x .given .1, after-y .y .given .1, after-width .width .given .1, after-height .height .given .1, after-header-y .header-y .given .1, c .enum-told6 .given .1)
 
 returns-7 : tie.Need-returns-7
-returns-7 c = rw (c .before .before .before .before .before .before .before .before .before .before .before .before .before .before .before .before .x .given .1, c .before .before .before .before .before .before .before .before .before .before .before .before .before .y .given .1, c .before .before .before .before .before .before .before .before .before .before .width .given .1, c .before .before .before .before .before .before .before .height .given .1, c .before .before .before .before .header-y .given .1, c .before .footer-y .given .1)
+returns-7 c =
+    let after-x : tie.After-x = search in
+    let after-y : tie.After-y = search in
+    let after-width : tie.After-width = search in
+    let after-height : tie.After-height = search in
+    let after-header-y : tie.After-header-y = search in
+    rw (after-x .x .given .1, after-y .y .given .1, after-width .width .given .1, after-height .height .given .1, after-header-y .header-y .given .1, c .before .footer-y .given .1)
 
 pub placed-spec : {M : Type 1} → statement M
 placed-spec =

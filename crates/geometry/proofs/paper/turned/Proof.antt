@@ -3,7 +3,9 @@ use Rattle.geometry.proofs.paper.turned.Statement.{statement}
 use Rattle.geometry.proofs.paper.turned.Tie as tie
 
 returns : tie.Need-returns
-returns c = rw (c .before .before .before .if1 .taken)
+returns c =
+    let then1 : tie.Then1 = search in
+    rw (then1 .if1 .taken)
 
 returns-2 : tie.Need-returns-2
 returns-2 c = rw (c .if1 .left)

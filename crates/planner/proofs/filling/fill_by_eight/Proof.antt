@@ -43,15 +43,19 @@ part-sum-of-eight-end c = search needs
 
 sum-of-eight-requires : tie.Need-sum-of-eight-requires Inv-loop μ-loop
 sum-of-eight-requires c κs =
+    let s : tie.Start Inv-loop μ-loop = search in
     let l = c .before .before .loop in
-    let s = c .before .before .before .before .before in
     (small-mid (l .n) (l .n + 8) (s .args .sizes .now) (omega arith) (s .pre .0), length-mid (l .n) (l .n + 8) (s .args .sizes .now) (omega arith) ∙ omega arith)
 
 add-next : tie.Need-add-next Inv-loop μ-loop
-add-next c = omega (arith, c .sum-of-eight .ensures .1, c .before .before .before .before .before .before .pre .0 .few)
+add-next c =
+    let start : tie.Start Inv-loop μ-loop = search in
+    omega (arith, c .sum-of-eight .ensures .1, start .pre .0 .few)
 
 returns : tie.Need-returns Inv-loop μ-loop
-returns c = let l = c .before .before .before .before .loop in (l .inv .3, (l .inv .0, l .inv .1, l .inv .2))
+returns c =
+    let at-loop : tie.At-loop Inv-loop μ-loop = search in
+    let l = at-loop .loop in (l .inv .3, (l .inv .0, l .inv .1, l .inv .2))
 
 add-n : tie.Need-add-n Inv-loop μ-loop
 add-n c = search needs
@@ -61,9 +65,10 @@ loop-less c = search needs
 
 loop-again : tie.Need-loop-again Inv-loop μ-loop
 loop-again c =
+    let s : tie.Start Inv-loop μ-loop = search in
+    let at-loop : tie.At-loop Inv-loop μ-loop = search in
     let e = c .before .sum-of-eight .ensures in
-    let l = c .before .before .before .before .loop in
-    let s = c .before .before .before .before .before .before .before in (
+    let l = at-loop .loop in (
       omega arith,
       omega arith,
       omega (arith, e .1),

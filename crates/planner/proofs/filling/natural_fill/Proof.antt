@@ -30,12 +30,15 @@ shared-slice-read-next : tie.Need-shared-slice-read-next Inv-loop μ-loop
 shared-slice-read-next c = search needs
 
 add-next : tie.Need-add-next Inv-loop μ-loop
-add-next c = omega (arith, c .before .before .before .before .before .pre .0 .each (c .before .before .loop .n))
+add-next c =
+    let start : tie.Start Inv-loop μ-loop = search in
+    omega (arith, start .pre .0 .each (c .before .before .loop .n))
 
 returns : tie.Need-returns Inv-loop μ-loop
 returns c =
-    let l = c .before .before .before .loop in
-    let s = c .before .before .before .before .before .before in
+    let s : tie.Start Inv-loop μ-loop = search in
+    let at-loop : tie.At-loop Inv-loop μ-loop = search in
+    let l = at-loop .loop in
     omega (arith, more-no (s .args .capacity) (l .sum) (l .n) (s .args .sizes .now) (c .before .before .loop-test .taken) (c .if1 .taken))
 
 add-n : tie.Need-add-n Inv-loop μ-loop
@@ -46,8 +49,9 @@ loop-less c = search needs
 
 loop-again : tie.Need-loop-again Inv-loop μ-loop
 loop-again c =
-    let l = c .before .before .before .loop in
-    let s = c .before .before .before .before .before .before in (
+    let s : tie.Start Inv-loop μ-loop = search in
+    let at-loop : tie.At-loop Inv-loop μ-loop = search in
+    let l = at-loop .loop in (
       search needs,
       search needs,
       omega (arith, s .pre .0 .each (l .n)),
@@ -56,8 +60,8 @@ loop-again c =
 
 returns-2 : tie.Need-returns-2 Inv-loop μ-loop
 returns-2 c =
+    let s : tie.Start Inv-loop μ-loop = search in
     let l = c .before .loop in
-    let s = c .before .before .before .before in
     omega (arith, more-end (s .args .capacity) (l .sum) (l .n) (s .args .sizes .now) (c .loop-test .left))
 
 pub natural-fill-spec : {M : Type 1} → statement M

@@ -30,15 +30,17 @@ shared-slice-read-t : tie.Need-shared-slice-read-t Inv-loop μ-loop
 shared-slice-read-t c = search needs
 
 add-t : tie.Need-add-t Inv-loop μ-loop
-add-t c = omega (arith, c .before .before .before .pre .each (c .before .before .loop .i - 1))
+add-t c =
+    let start : tie.Start Inv-loop μ-loop = search in
+    omega (arith, start .pre .each (c .before .before .loop .i - 1))
 
 loop-less : tie.Need-loop-less Inv-loop μ-loop
 loop-less c = search needs
 
 loop-again : tie.Need-loop-again Inv-loop μ-loop
 loop-again c =
-    let l = c .before .before .loop in
-    let s = c .before .before .before in (
+    let s : tie.Start Inv-loop μ-loop = search in
+    let l = c .before .before .loop in (
       search needs,
       omega (arith, s .pre .each (l .i - 1)),
       omega (arith, sum-back (s .args .sizes .now) (l .i) (c .before .loop-test .taken) (l .inv .0)),

@@ -38,8 +38,9 @@ shared-slice-read-printed-2 c = search needs
 
 printed-requires : tie.Need-printed-requires Inv-loop μ-loop
 printed-requires c κs =
-    let s = c .before .before .before .before .before .before in
-    (s .pre .0, s .pre .1 .1 (c .before .before .before .loop .i))
+    let s : tie.Start Inv-loop μ-loop = search in
+    let at-loop : tie.At-loop Inv-loop μ-loop = search in
+    (s .pre .0, s .pre .1 .1 (at-loop .loop .i))
 
 fits-side-requires : tie.Need-fits-side-requires Inv-loop μ-loop
 fits-side-requires c κs = c .printed .ensures .1
@@ -55,10 +56,10 @@ loop-less c = search needs
 
 loop-again : tie.Need-loop-again Inv-loop μ-loop
 loop-again c =
+    let s : tie.Start Inv-loop μ-loop = search in
+    let t : tie.In-loop Inv-loop μ-loop = search in
     let f = c .before .fits-side in
-    let t = c .before .before .before .before .before in
     let l = t .before .loop in
-    let s = t .before .before .before .before in
     let a = s .args in
     let taken : l .i < length (a .firsts .now) = t .loop-test .taken in
     let other : l .i < length (a .sizes .now) = omega (arith, s .pre .1 .0) in
@@ -72,8 +73,9 @@ loop-again c =
 
 returns : tie.Need-returns Inv-loop μ-loop
 returns c =
+    let start : tie.Start Inv-loop μ-loop = search in
     let l = c .before .loop in
-    let a = c .before .before .before .before .args in
+    let a = start .args in
     omega (arith, l .inv .2, overflow-end (spaceOf (a .page)) (a .title) (a .permille) (a .empty) (l .i) (a .firsts .now) (a .sizes .now) (c .loop-test .left))
 
 pub overflowing-runs-spec : {M : Type 1} → statement M

@@ -28,8 +28,10 @@ place-of-requires c κs = search needs
 
 returns-2 : tie.Need-returns-2
 returns-2 c =
-    let a = c .before .before .before .before .before .before .before .args in
-    moved-start (a .held) _ _ (a .prev) (a .p) (a .indexes .now) (c .before .before .before .before .held .given .1) (c .before .place-of .result)
+    let start : tie.Start = search in
+    let after-held : tie.After-held = search in
+    let a = start .args in
+    moved-start (a .held) _ _ (a .prev) (a .p) (a .indexes .now) (after-held .held .given .1) (c .before .place-of .result)
     (c .before .place-of .ensures .0 ∙ ap (λ (k : ℕ). below k (a .indexes .now)) (c .before .before .wide .ensures)) (c .if1 .taken)
 
 wide-requires-2 : tie.Need-wide-requires-2
@@ -43,11 +45,12 @@ place-of-requires-2 c κs = search needs
 
 returns-3 : tie.Need-returns-3
 returns-3 c =
+    let s : tie.Start = search in
+    let after-held : tie.After-held = search in
     let b = c .before .before in
-    let s = b .before .before .before .before .before .before .before in
     let a = s .args in
     let is = a .indexes .now in
-    moved-past (a .held) _ _ (a .prev) (a .p) is (b .before .before .before .before .held .given .1) (b .before .place-of .result)
+    moved-past (a .held) _ _ (a .prev) (a .p) is (after-held .held .given .1) (b .before .place-of .result)
     (b .before .place-of .ensures .0 ∙ ap (λ (k : ℕ). below k is) (b .before .before .wide .ensures)) (b .if1 .left) (c .place-of2 .result)
     (c .place-of2 .ensures .0 ∙ ap (λ (k : ℕ). below k is) (ap (λ (k : ℕ). k + 1) (c .before .wide2 .ensures) ∙ add-one _) ∙ sym (through-below _ is (s .pre)))
 

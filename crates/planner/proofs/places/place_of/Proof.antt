@@ -39,8 +39,9 @@ loop-less c = search needs
 
 loop-again : tie.Need-loop-again Inv-loop μ-loop
 loop-again c =
-    let l = c .before .before .before .before .loop in
-    let s = c .before .before .before .before .before .before in
+    let s : tie.Start Inv-loop μ-loop = search in
+    let at-loop : tie.At-loop Inv-loop μ-loop = search in
+    let l = at-loop .loop in
     let m = l .low + l .size / 2 in
     (omega (arith, below-past-it (s .args .limit) (s .args .indexes .now) (s .pre) m (omega arith) (omega arith)), omega arith, omega arith)
 
@@ -49,8 +50,10 @@ loop-less-2 c = search needs
 
 loop-again-2 : tie.Need-loop-again-2 Inv-loop μ-loop
 loop-again-2 c =
-    let l = c .before .before .before .before .loop in
-    let a = c .before .before .before .before .before .before .args in
+    let start : tie.Start Inv-loop μ-loop = search in
+    let at-loop : tie.At-loop Inv-loop μ-loop = search in
+    let l = at-loop .loop in
+    let a = start .args in
     let m = l .low + l .size / 2 in
     (omega arith, omega (arith, below-up-to (a .limit) (a .indexes .now) m (omega arith) (omega arith)), omega arith)
 
@@ -68,15 +71,18 @@ add-result c = search needs
 
 returns : tie.Need-returns Inv-loop μ-loop
 returns c =
-    let l = c .before .before .before .before .before .loop in
-    let s = c .before .before .before .before .before .before .before in
+    let s : tie.Start Inv-loop μ-loop = search in
+    let at-loop : tie.At-loop Inv-loop μ-loop = search in
+    let l = at-loop .loop in
     let after = below-past-it (s .args .limit) (s .args .indexes .now) (s .pre) (l .low) (omega arith) (omega arith) in
     (omega (arith, after), omega (arith, after))
 
 returns-2 : tie.Need-returns-2 Inv-loop μ-loop
 returns-2 c =
-    let l = c .before .before .before .before .before .loop in
-    let a = c .before .before .before .before .before .before .before .args in
+    let start : tie.Start Inv-loop μ-loop = search in
+    let at-loop : tie.At-loop Inv-loop μ-loop = search in
+    let l = at-loop .loop in
+    let a = start .args in
     (omega (arith, below-up-to (a .limit) (a .indexes .now) (l .low) (omega arith) (omega arith)), omega arith)
 
 returns-3 : tie.Need-returns-3 Inv-loop μ-loop

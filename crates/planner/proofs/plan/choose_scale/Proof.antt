@@ -55,13 +55,14 @@ part-fit-scale-end-4 c = search needs
 
 fit-scale-requires : tie.Need-fit-scale-requires
 fit-scale-requires c κs =
-    let s = c .before .before .before .before .before .before .before .before .before .before .before .before .before .before .before in
+    let s : tie.Start = search in
     let a = s .args in
     (let q = s .pre .0 in record { low = q .low; slots = slots-mid (a .rows .from) (a .rows .to) (a .row-indexes .now) (a .row-sizes .now) (omega (arith, q .inside, q .slots .even)) (q .slots) }, let q = s .pre .1 in record { low = q .low; slots = slots-mid (a .columns .from) (a .columns .to) (a .column-indexes .now) (a .column-sizes .now) (omega (arith, q .inside, q .slots .even)) (q .slots) })
 
 returns : tie.Need-returns
 returns c =
-    rw (c .before .before .before .before .before .before .before .if1 .taken) (c .fit-scale .ensures)
+    let then1 : tie.Then1 = search in
+    rw (then1 .if1 .taken) (c .fit-scale .ensures)
 
 fixed-scale-requires : tie.Need-fixed-scale-requires
 fixed-scale-requires c κs = search needs

@@ -12,17 +12,22 @@ use Rattle.planner.proofs.plan.count_cut.Statement.{statement}
 use Rattle.planner.proofs.plan.count_cut.Tie as tie
 
 -- what was counted is of the body's runs
-counted : (t : tie.After-count-axis) → let a = t .before .before .before .before .before .before .before .before .before .before .args in
+counted : (t : tie.After-count-axis) →
+    let start : tie.Start = search in
+    let a = start .args in
     t .count-axis .result ≡ tallies (length (readyRuns (a .ready) (a .permille) (a .indexes .now) (a .sizes .now) (a .merge-firsts .now) (a .merge-lasts .now) (a .breaks .now))) (expansions (readyRuns (a .ready) (a .permille) (a .indexes .now) (a .sizes .now) (a .merge-firsts .now) (a .merge-lasts .now) (a .breaks .now))) (readyShifts (a .ready) (a .permille) (a .indexes .now) (a .merge-firsts .now) (a .merge-lasts .now) (a .breaks .now))
 unfolding axisTally
 counted t =
-    let a = t .before .before .before .before .before .before .before .before .before .before .args in
+    let start : tie.Start = search in
+    let after-frame-at : tie.After-frame-at = search in
+    let a = start .args in
     t .count-axis .ensures .0
-    ∙ ap (λ (f : Frame). axisTally f (a .merge-firsts .now) (a .merge-lasts .now) (within (a .ready) (a .indexes .now)) (within (a .ready) (a .sizes .now)) (a .breaks .now)) (t .before .before .before .frame-at .ensures)
+    ∙ ap (λ (f : Frame). axisTally f (a .merge-firsts .now) (a .merge-lasts .now) (within (a .ready) (a .indexes .now)) (within (a .ready) (a .sizes .now)) (a .breaks .now)) (after-frame-at .frame-at .ensures)
 
 frame-at-requires : tie.Need-frame-at-requires
 frame-at-requires c κs =
-    c .before .before .before .before .before .before .pre .low
+    let start : tie.Start = search in
+    start .pre .low
 
 mul-count-axis : tie.Need-mul-count-axis
 mul-count-axis c = search needs
@@ -50,7 +55,7 @@ part-count-axis-end-2 c = search needs
 
 count-axis-requires : tie.Need-count-axis-requires
 count-axis-requires c κs =
-    let s = c .before .before .before .before .before .before .before .before .before in
+    let s : tie.Start = search in
     let p = s .pre in
     slots-mid (s .args .ready .from) (s .args .ready .to) (s .args .indexes .now) (s .args .sizes .now) (omega (arith, p .inside, p .slots .even)) (p .slots)
 
@@ -59,9 +64,10 @@ final-cut-requires c κs = search needs
 
 returns : tie.Need-returns
 returns c =
+    let start : tie.Start = search in
     let t = c .before in
-    let a = t .before .before .before .before .before .before .before .before .before .before .args in
-    let q = t .before .before .before .before .before .before .before .before .before .before .pre in
+    let a = start .args in
+    let q = start .pre in
     let rs = readyRuns (a .ready) (a .permille) (a .indexes .now) (a .sizes .now) (a .merge-firsts .now) (a .merge-lasts .now) (a .breaks .now) in
     let few = slots-mid (a .ready .from) (a .ready .to) (a .indexes .now) (a .sizes .now) (omega (arith, q .inside, q .slots .even)) (q .slots) .small .few in
     let made = c .final-cut .ensures in (

@@ -18,7 +18,8 @@ widened-title-requires c κs = search needs
 
 title-total-requires : tie.Need-title-total-requires
 title-total-requires c κs =
-    c .before .before .before .before .before .pre .slots
+    let start : tie.Start = search in
+    start .pre .slots
 
 body-start-requires : tie.Need-body-start-requires
 body-start-requires c κs = search needs
@@ -37,10 +38,12 @@ place-of-requires-2 c κs = search needs
 
 cast-t17 : tie.Need-cast-t17
 cast-t17 c =
-    let s = c .before .before .before .before .before .before .before .before .before .before in
+    let s : tie.Start = search in
+    let after-widened-title : tie.After-widened-title = search in
+    let after-body-start : tie.After-body-start = search in
     let q = s .pre in
-    let st = c .before .before .before .body-start .ensures in
-    omega (arith, st, start-small (s .args .axis) (s .args .indexes .now) (s .args .sizes .now) (s .args .merge-firsts .now) (s .args .merge-lasts .now) q _ (ap (λ (w : Widened). w .title) (sym (c .before .before .before .before .before .widened-title .ensures))), q .limit-small)
+    let st = after-body-start .body-start .ensures in
+    omega (arith, st, start-small (s .args .axis) (s .args .indexes .now) (s .args .sizes .now) (s .args .merge-firsts .now) (s .args .merge-lasts .now) q _ (ap (λ (w : Widened). w .title) (sym (after-widened-title .widened-title .ensures))), q .limit-small)
 
 later-requires : tie.Need-later-requires
 later-requires c κs = search needs
@@ -48,22 +51,26 @@ later-requires c κs = search needs
 returns : tie.Need-returns
 unfolding spaceOn
 returns c =
-    let w = c .before .before .before .before .before .before .widened-title .ensures in
-    let s = c .before .before .before .before .before .before .before .before .before .before .before in
+    let s : tie.Start = search in
+    let after-widened-title : tie.After-widened-title = search in
+    let after-title-total : tie.After-title-total = search in
+    let after-body-start : tie.After-body-start = search in
+    let after-place-of : tie.After-place-of = search in
+    let w = after-widened-title .widened-title .ensures in
     let is = s .args .indexes .now in
     let t = ap (λ (x : Widened). x .title) w in
-    let st = c .before .before .before .before .body-start .ensures ∙ ap (λ (x : Title). bodyStart x (s .args .axis .first)) t in
+    let st = after-body-start .body-start .ensures ∙ ap (λ (x : Title). bodyStart x (s .args .axis .first)) t in
     λ bs. record {
-      space-is = rw (c .before .before .before .before .before .title-total .ensures, t);
+      space-is = rw (after-title-total .title-total .ensures, t);
       title-is = t;
       lo-is = st;
       hi-is = refl;
       target-is = refl;
-      from-is = c .before .before .before .place-of .ensures .0 ∙ ap (λ (x : ℕ). below x is) st;
-      to-is = c .later .ensures ∙ ap (λ (x : ℕ). max (c .before .before .before .place-of .result) x) (c .before .place-of2 .ensures .0 ∙ ap (λ (x : ℕ). below (x + 1) is) (c .before .before .wide .ensures));
+      from-is = after-place-of .place-of .ensures .0 ∙ ap (λ (x : ℕ). below x is) st;
+      to-is = c .later .ensures ∙ ap (λ (x : ℕ). max (after-place-of .place-of .result) x) (c .before .place-of2 .ensures .0 ∙ ap (λ (x : ℕ). below (x + 1) is) (c .before .before .wide .ensures));
       ignored-is = ap (λ (x : Widened). x .ignored) w;
       expanded-is = ap (λ (x : Widened). x .expanded) w;
-      low = record { headings-low = s .pre .headings-low; titles-low = rw (c .before .before .before .before .before .title-total .ensures) (title-total-le _ is (s .args .sizes .now) (s .pre .slots)) };
+      low = record { headings-low = s .pre .headings-low; titles-low = rw (after-title-total .title-total .ensures) (title-total-le _ is (s .args .sizes .now) (s .pre .slots)) };
     }
 
 pub ready-axis-spec : {M : Type 1} → statement M

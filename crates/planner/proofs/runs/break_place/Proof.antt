@@ -24,8 +24,9 @@ shared-slice-read-if3 c = search needs
 
 returns : tie.Need-returns
 returns c =
-    let s = c .before .before .before .before .before .before in
-    below-at (s .args .b) (s .args .indexes .now) (s .pre .0) (s .args .prev) (c .before .before .before .before .if1 .taken) (c .before .before .if2 .taken) (c .if3 .taken)
+    let s : tie.Start = search in
+    let then1 : tie.Then1 = search in
+    below-at (s .args .b) (s .args .indexes .now) (s .pre .0) (s .args .prev) (then1 .if1 .taken) (c .before .before .if2 .taken) (c .if3 .taken)
 
 wide-requires : tie.Need-wide-requires
 wide-requires c κs = search needs
@@ -34,7 +35,9 @@ place-of-requires : tie.Need-place-of-requires
 place-of-requires c κs = search needs
 
 returns-2 : tie.Need-returns-2
-returns-2 c = c .place-of .ensures .0 ∙ ap (λ (n : ℕ). below n (c .before .before .before .before .args .indexes .now)) (c .before .wide .ensures)
+returns-2 c =
+    let start : tie.Start = search in
+    c .place-of .ensures .0 ∙ ap (λ (n : ℕ). below n (start .args .indexes .now)) (c .before .wide .ensures)
 
 pub break-place-spec : {M : Type 1} → statement M
 break-place-spec =

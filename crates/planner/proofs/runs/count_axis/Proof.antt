@@ -34,7 +34,7 @@ shared-slice-read-next-cut c = search needs
 
 next-cut-requires : tie.Need-next-cut-requires Inv-loop μ-loop
 next-cut-requires c κs =
-    let s = c .before .before .before .before .before .before .before .before in
+    let s : tie.Start Inv-loop μ-loop = search in
     (s .pre .rising, omega (arith, s .pre .even))
 
 mul-count-runs : tie.Need-mul-count-runs Inv-loop μ-loop
@@ -63,9 +63,10 @@ part-count-runs-end-2 c = search needs
 
 count-runs-requires : tie.Need-count-runs-requires Inv-loop μ-loop
 count-runs-requires c κs =
+    let s : tie.Start Inv-loop μ-loop = search in
+    let at-loop : tie.At-loop Inv-loop μ-loop = search in
     let cut = c .before .before .next-cut in
-    let l = c .before .before .before .before .before .loop in
-    let s = c .before .before .before .before .before .before .before .before .before .before .before in
+    let l = at-loop .loop in
     slots-mid (l .prev) (cut .result .place) (s .args .indexes .now) (s .args .sizes .now) (omega (arith, cut .ensures .1 .1, s .pre .even)) (s .pre)
 
 add-count : tie.Need-add-count Inv-loop μ-loop
@@ -76,30 +77,39 @@ add-grown c = search needs
 
 add-shifts : tie.Need-add-shifts Inv-loop μ-loop
 add-shifts c =
-    let l = c .before .before .before .before .before .before .before .before .before in
+    let start : tie.Start Inv-loop μ-loop = search in
+    let l : tie.At-loop Inv-loop μ-loop = search in
+    let in-loop : tie.In-loop Inv-loop μ-loop = search in
+    let after-next-cut : tie.After-next-cut Inv-loop μ-loop = search in
     omega (
       arith,
-      c .before .before .before .before .before .before .next-cut .ensures .1 .2,
+      after-next-cut .next-cut .ensures .1 .2,
       l .loop .inv .4,
-      c .before .before .before .before .before .before .before .before .loop-test .taken,
-      l .before .before .before .before .before .before .good,
+      in-loop .loop-test .taken,
+      start .good,
     )
 
 add-j : tie.Need-add-j Inv-loop μ-loop
 add-j c =
-    let l = c .before .before .before .before .before .before .before .before .before in
-    omega (arith, c .before .before .before .before .before .before .before .before .loop-test .taken, l .before .before .before .before .before .before .good)
+    let start : tie.Start Inv-loop μ-loop = search in
+    let l : tie.At-loop Inv-loop μ-loop = search in
+    let in-loop : tie.In-loop Inv-loop μ-loop = search in
+    omega (arith, in-loop .loop-test .taken, start .good)
 
 loop-less : tie.Need-loop-less Inv-loop μ-loop
 loop-less c = search needs
 
 loop-again : tie.Need-loop-again Inv-loop μ-loop
 loop-again c =
-    let t = c .before .before .before .count-runs in
-    let cut = c .before .before .before .before .before .before .next-cut in
-    let taken = c .before .before .before .before .before .before .before .before .loop-test .taken in
-    let l = c .before .before .before .before .before .before .before .before .before .loop in
-    let s = c .before .before .before .before .before .before .before .before .before .before .before .before .before .before .before in
+    let s : tie.Start Inv-loop μ-loop = search in
+    let at-loop : tie.At-loop Inv-loop μ-loop = search in
+    let in-loop : tie.In-loop Inv-loop μ-loop = search in
+    let after-next-cut : tie.After-next-cut Inv-loop μ-loop = search in
+    let after-count-runs : tie.After-count-runs Inv-loop μ-loop = search in
+    let t = after-count-runs .count-runs in
+    let cut = after-next-cut .next-cut in
+    let taken = in-loop .loop-test .taken in
+    let l = at-loop .loop in
     let a = s .args in
     let p = cut .result .place in
     let even = s .pre .even in
@@ -145,8 +155,9 @@ part-count-runs-end-4 c = search needs
 
 count-runs-requires-2 : tie.Need-count-runs-requires-2 Inv-loop μ-loop
 count-runs-requires-2 c κs =
-    let l = c .before .before .before .loop in
-    let s = c .before .before .before .before .before .before .before .before .before in
+    let s : tie.Start Inv-loop μ-loop = search in
+    let at-loop : tie.At-loop Inv-loop μ-loop = search in
+    let l = at-loop .loop in
     slots-mid (l .prev) (length (s .args .sizes .now)) (s .args .indexes .now) (s .args .sizes .now) (omega arith) (s .pre)
 
 add-t30 : tie.Need-add-t30 Inv-loop μ-loop
@@ -158,10 +169,13 @@ add-t40 c = search needs
 returns : tie.Need-returns Inv-loop μ-loop
 unfolding axisTally
 returns c =
+    let start : tie.Start Inv-loop μ-loop = search in
+    let at-loop : tie.At-loop Inv-loop μ-loop = search in
+    let after-loop : tie.After-loop Inv-loop μ-loop = search in
     let t = c .before .before .count-runs2 in
-    let l = c .before .before .before .before .before .before .loop in
-    let a = c .before .before .before .before .before .before .before .before .before .before .before .before .args in
-    let left = c .before .before .before .before .before .loop-test .left in
+    let l = at-loop .loop in
+    let a = start .args in
+    let left = after-loop .loop-test .left in
     let stop = axis-end (a .k) (a .mfirsts .now) (a .mlasts .now) (a .indexes .now) (a .sizes .now) (l .prev) (l .j) (a .breaks .now) left in
     let len = length-mid (l .prev) (length (a .sizes .now)) (a .sizes .now) (omega arith) in (
       (λ i. tallies

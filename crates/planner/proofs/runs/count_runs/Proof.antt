@@ -65,10 +65,12 @@ loop-less c = search needs
 loop-again : tie.Need-loop-again Inv-loop μ-loop
 unfolding runs run expansions
 loop-again c =
-    let e = c .before .before .before .run-end in
-    let turning = c .before .before .before .before in
+    let start : tie.Start Inv-loop μ-loop = search in
+    let turning : tie.In-loop Inv-loop μ-loop = search in
+    let after-run-end : tie.After-run-end Inv-loop μ-loop = search in
+    let e = after-run-end .run-end in
     let l = turning .before .loop in
-    let a = turning .before .before .before .before .before .before .args in
+    let a = start .args in
     let n = e .result .slots in
     let t = turn (run (a .k) (a .mfirsts .now) (a .mlasts .now)) n (l .is .now) (l .ss .now) (l .inv .0) (turning .loop-test .taken)
     (ap (λ (r : RunEnd). r .slots) (e .ensures .0)) (e .ensures .1 .0) in (
@@ -82,8 +84,9 @@ loop-again c =
 returns : tie.Need-returns Inv-loop μ-loop
 unfolding runs expansions
 returns c =
+    let start : tie.Start Inv-loop μ-loop = search in
     let l = c .before .loop in
-    let a = c .before .before .before .before .before .before .args in
+    let a = start .args in
     let z = none (run (a .k) (a .mfirsts .now) (a .mlasts .now)) (l .is .now) (l .ss .now) (c .loop-test .left) in
     (ap₂ counts (omega (arith, ap length z)) (omega (arith, ap expansions z)), search needs)
 

@@ -23,7 +23,9 @@ merge-step-requires c κs = search needs
 
 returns-2 : tie.Need-returns-2
 unfolding mergeStep merged
-returns-2 c = rw (lt-ltb _ _ (c .before .before .before .if1 .left)) (rw (c .before .holding-merge .ensures) at (c .merge-step .ensures))
+returns-2 c =
+    let else1 : tie.Else1 = search in
+    rw (lt-ltb _ _ (else1 .if1 .left)) (rw (c .before .holding-merge .ensures) at (c .merge-step .ensures))
 
 pub merged-end-spec : {M : Type 1} → statement M
 merged-end-spec =

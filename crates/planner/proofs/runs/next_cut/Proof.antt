@@ -18,8 +18,10 @@ shared-slice-read-if3 c = search needs
 
 returns : tie.Need-returns
 returns c =
-    let a = c .before .before .before .before .before .before .before .args in (
-      next-stays (a .k) (a .mfirsts .now) (a .mlasts .now) (a .indexes .now) (a .prev) (a .b) (c .before .before .before .if1 .taken) (c .before .before .if2 .taken) (c .if3 .taken),
+    let start : tie.Start = search in
+    let then1 : tie.Then1 = search in
+    let a = start .args in (
+      next-stays (a .k) (a .mfirsts .now) (a .mlasts .now) (a .indexes .now) (a .prev) (a .b) (then1 .if1 .taken) (c .before .before .if2 .taken) (c .if3 .taken),
       (omega arith, omega arith, omega arith),
     )
 
@@ -30,11 +32,14 @@ placed-cut-requires : tie.Need-placed-cut-requires
 placed-cut-requires c κs = search needs
 
 -- once the break is placed
-so : (d : tie.After-placed-cut) → let a = d .before .before .before .before .before .before .args in
+so : (d : tie.After-placed-cut) →
+    let start : tie.Start = search in
+    let a = start .args in
     (kept (length (a .indexes .now)) (a .prev) (d .placed-cut .result) ≡ nextCut (a .k) (a .mfirsts .now) (a .mlasts .now) (a .indexes .now) (a .prev) (a .b))
     × (d .placed-cut .result .shifted ≤ 1)
 so d =
-    let a = d .before .before .before .before .before .before .args in
+    let start : tie.Start = search in
+    let a = start .args in
     let p = d .before .break-place in (
       next-is (a .k) (a .mfirsts .now) (a .mlasts .now) (a .indexes .now) (a .prev) (a .b) (p .result) (d .placed-cut .result) (p .ensures) (d .placed-cut .ensures),
       subst (λ (c : Cut). c .shifted ≤ 1) (sym (d .placed-cut .ensures)) (placed-shifted (a .k) (a .mfirsts .now) (a .mlasts .now) (a .indexes .now) (a .prev) (p .result)),
@@ -42,20 +47,23 @@ so d =
 
 returns-2 : tie.Need-returns-2
 returns-2 c =
+    let start : tie.Start = search in
     let d = c .before .before in
-    let a = d .before .before .before .before .before .before .args in
+    let a = start .args in
     (kept-yes (length (a .indexes .now)) (a .prev) (d .placed-cut .result) (c .before .if4 .taken) (c .if5 .taken) ∙ so d .0, (omega arith, omega arith, so d .1))
 
 returns-3 : tie.Need-returns-3
 returns-3 c =
+    let start : tie.Start = search in
     let d = c .before .before in
-    let a = d .before .before .before .before .before .before .args in
+    let a = start .args in
     (kept-past (length (a .indexes .now)) (a .prev) (d .placed-cut .result) (c .before .if4 .taken) (c .if5 .left) ∙ so d .0, (omega arith, omega arith, so d .1))
 
 returns-4 : tie.Need-returns-4
 returns-4 c =
+    let start : tie.Start = search in
     let d = c .before in
-    let a = d .before .before .before .before .before .before .args in
+    let a = start .args in
     (kept-low (length (a .indexes .now)) (a .prev) (d .placed-cut .result) (c .if4 .left) ∙ so d .0, (omega arith, omega arith, so d .1))
 
 pub next-cut-spec : {M : Type 1} → statement M

@@ -10,12 +10,14 @@ use Rattle.rules.specs.Runs.{moved}
 
 returns : tie.Need-returns
 returns c =
-    let a = c .before .before .before .before .args in
+    let start : tie.Start = search in
+    let a = start .args in
     placed-zero (a .k) (a .mfirsts .now) (a .mlasts .now) (a .indexes .now) (a .prev) (a .p) (omega arith)
 
 returns-2 : tie.Need-returns-2
 returns-2 c =
-    let a = c .before .before .before .before .before .args in
+    let start : tie.Start = search in
+    let a = start .args in
     placed-past (a .k) (a .mfirsts .now) (a .mlasts .now) (a .indexes .now) (a .prev) (a .p) (omega arith) (c .if2 .taken)
 
 mul-b : tie.Need-mul-b
@@ -29,7 +31,8 @@ title-holds-requires c κs = search needs
 
 returns-3 : tie.Need-returns-3
 returns-3 c =
-    let a = c .before .before .before .before .before .before .before .before .args in
+    let start : tie.Start = search in
+    let a = start .args in
     placed-title (a .k) (a .mfirsts .now) (a .mlasts .now) (a .indexes .now) (a .prev) (a .p) (omega arith) (omega arith)
     (sym (c .before .title-holds .ensures) ∙ c .if3 .taken)
 
@@ -41,11 +44,13 @@ moved-cut-requires c κs = search needs
 
 returns-4 : tie.Need-returns-4
 returns-4 c =
-    let a = c .before .before .before .before .before .before .before .before .before .before .args in
+    let start : tie.Start = search in
+    let after-title-holds : tie.After-title-holds = search in
+    let a = start .args in
     c .moved-cut .ensures
     ∙ ap (λ (h : Held). moved h (a .prev) (a .p) (a .indexes .now)) (c .before .holding-merge .ensures)
     ∙ placed-moved (a .k) (a .mfirsts .now) (a .mlasts .now) (a .indexes .now) (a .prev) (a .p) (omega arith) (omega arith)
-    (sym (c .before .before .before .title-holds .ensures) ∙ c .before .before .if3 .left)
+    (sym (after-title-holds .title-holds .ensures) ∙ c .before .before .if3 .left)
 
 pub placed-cut-spec : {M : Type 1} → statement M
 placed-cut-spec =

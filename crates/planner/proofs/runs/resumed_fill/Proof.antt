@@ -37,7 +37,9 @@ shared-slice-read-size : tie.Need-shared-slice-read-size Inv-loop μ-loop
 shared-slice-read-size c = search needs
 
 add-next : tie.Need-add-next Inv-loop μ-loop
-add-next c = omega (arith, c .before .before .before .before .pre .0 .small .each (c .before .before .loop .n))
+add-next c =
+    let start : tie.Start Inv-loop μ-loop = search in
+    omega (arith, start .pre .0 .small .each (c .before .before .loop .n))
 
 add-n : tie.Need-add-n Inv-loop μ-loop
 add-n c = search needs
@@ -47,8 +49,9 @@ loop-less c = search needs
 
 loop-again : tie.Need-loop-again Inv-loop μ-loop
 loop-again c =
-    let l = c .before .before .before .loop in
-    let s = c .before .before .before .before .before in (
+    let s : tie.Start Inv-loop μ-loop = search in
+    let at-loop : tie.At-loop Inv-loop μ-loop = search in
+    let l = at-loop .loop in (
       search needs,
       search needs,
       omega (arith, s .pre .0 .small .each (l .n)),
@@ -63,8 +66,9 @@ shared-slice-read-if2 c = search needs
 
 returns : tie.Need-returns Inv-loop μ-loop
 returns c =
-    let l = c .before .before .before .before .before .loop in
-    let s = c .before .before .before .before .before .before .before in
+    let s : tie.Start Inv-loop μ-loop = search in
+    let at-loop : tie.At-loop Inv-loop μ-loop = search in
+    let l = at-loop .loop in
     omega (arith, again-stops (s .args .capacity) (s .args .last) (l .sum) (l .n) (s .args .indexes .now) (s .args .sizes .now) (search needs) (search needs) (c .before .before .if1 .left) (c .if2 .taken))
 
 add-n-2 : tie.Need-add-n-2 Inv-loop μ-loop
@@ -75,8 +79,9 @@ loop-less-2 c = search needs
 
 loop-again-2 : tie.Need-loop-again-2 Inv-loop μ-loop
 loop-again-2 c =
-    let l = c .before .before .before .before .before .loop in
-    let s = c .before .before .before .before .before .before .before in (
+    let s : tie.Start Inv-loop μ-loop = search in
+    let at-loop : tie.At-loop Inv-loop μ-loop = search in
+    let l = at-loop .loop in (
       search needs,
       search needs,
       omega (arith, s .pre .0 .small .each (l .n)),
@@ -85,8 +90,8 @@ loop-again-2 c =
 
 returns-2 : tie.Need-returns-2 Inv-loop μ-loop
 returns-2 c =
+    let s : tie.Start Inv-loop μ-loop = search in
     let l = c .before .loop in
-    let s = c .before .before .before in
     omega (arith, again-end (s .args .capacity) (s .args .last) (l .sum) (l .n) (s .args .indexes .now) (s .args .sizes .now) (omega arith))
 
 pub resumed-fill-spec : {M : Type 1} → statement M

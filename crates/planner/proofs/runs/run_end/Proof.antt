@@ -17,8 +17,8 @@ merged-end-requires c κs = search needs
 returns : tie.Need-returns
 unfolding runEnd
 returns c =
+    let s : tie.Start = search in
     let t = c .before .taken-slots in
-    let s = c .before .before .before .before .before .before in
     let a = s .args in
     let n = t .result in
     let w = subst (Within (a .indexes .now)) (sym (c .merged-end .ensures)) (merged-within (a .k .lo) (a .k .hi) (a .firsts .now) (a .lasts .now) n (a .indexes .now) (search needs) (omega arith)) in (

@@ -19,7 +19,8 @@ natural-fill-requires c κs = search needs
 returns : tie.Need-returns
 unfolding filled
 returns c =
-    let a = c .before .before .before .before .before .before .args in (
+    let start : tie.Start = search in
+    let a = start .args in (
       taken-all (a .k) (a .indexes .now) (a .sizes .now) (c .before .natural-fill .result)
           (c .before .natural-fill .ensures .0 ∙ ap (λ (q : ℕ). natural q (a .sizes .now)) (c .before .before .capacity-for .ensures)) (c .if1 .taken),
       search needs,
@@ -31,10 +32,12 @@ title-end-requires c κs = search needs
 returns-2 : tie.Need-returns-2
 unfolding filled
 returns-2 c =
-    let a = c .before .before .before .before .before .before .before .args in (
+    let start : tie.Start = search in
+    let after-capacity-for : tie.After-capacity-for = search in
+    let a = start .args in (
       c .title-end .ensures .0
           ∙ taken-more (a .k) (a .indexes .now) (a .sizes .now) (c .before .before .natural-fill .result)
-          (c .before .before .natural-fill .ensures .0 ∙ ap (λ (q : ℕ). natural q (a .sizes .now)) (c .before .before .before .capacity-for .ensures)) (c .before .if1 .left),
+          (c .before .before .natural-fill .ensures .0 ∙ ap (λ (q : ℕ). natural q (a .sizes .now)) (after-capacity-for .capacity-for .ensures)) (c .before .if1 .left),
       search needs,
     )
 

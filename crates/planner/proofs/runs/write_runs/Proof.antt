@@ -27,8 +27,8 @@ abbrev μ-loop : tie.MeasureT-loop
 room : (c : tie.In-loop Inv-loop μ-loop) → let l = c .before .loop in
     (l .at < length (l .firsts)) × (l .at < length (l .lasts)) × (l .at < length (l .totals)) × (l .at < length (l .marks))
 room c =
+    let s : tie.Start Inv-loop μ-loop = search in
     let l = c .before .loop in
-    let s = c .before .before .before .before .before .before .before .before .before .before in
     let a = s .args in
     let h = some-marked (a .k) (a .mfirsts .now) (a .mlasts .now) (l .manual) (l .is .now) (l .ss .now) (c .loop-test .taken) (l .inv .0 .even) in
     omega arith
@@ -36,12 +36,14 @@ room c =
 -- far from the largest number
 low : (c : tie.In-loop Inv-loop μ-loop) → c .before .loop .at < 2 ^ 60
 low c =
+    let s : tie.Start Inv-loop μ-loop = search in
     let l = c .before .loop in
-    let s = c .before .before .before .before .before .before .before .before .before .before in
     omega (arith, room c .2, l .inv .1 .sizes-so .long, s .good)
 
 loop-holds : tie.Need-loop-holds Inv-loop μ-loop
-loop-holds c = (c .before .before .before .before .before .before .before .before .pre .0, lists-start _ _ _ _ _)
+loop-holds c =
+    let start : tie.Start Inv-loop μ-loop = search in
+    (start .pre .0, lists-start _ _ _ _ _)
 
 run-end-requires : tie.Need-run-end-requires Inv-loop μ-loop
 run-end-requires c κs = search needs
@@ -50,16 +52,22 @@ slice-aggregate-total : tie.Need-slice-aggregate-total Inv-loop μ-loop
 slice-aggregate-total c = sym (length-take-le _ _ (c .before .run-end .ensures .1 .1))
 
 total-requires : tie.Need-total-requires Inv-loop μ-loop
-total-requires c κs = small-take _ _ (c .before .run-end .ensures .1 .1) (c .before .before .before .loop .inv .0 .small)
+total-requires c κs =
+    let at-loop : tie.At-loop Inv-loop μ-loop = search in
+    small-take _ _ (c .before .run-end .ensures .1 .1) (at-loop .loop .inv .0 .small)
 
 shared-slice-read-firsts : tie.Need-shared-slice-read-firsts Inv-loop μ-loop
 shared-slice-read-firsts c = search needs
 
 mul-firsts : tie.Need-mul-firsts Inv-loop μ-loop
-mul-firsts c = omega (arith, low (c .before .before .before .before))
+mul-firsts c =
+    let in-loop : tie.In-loop Inv-loop μ-loop = search in
+    omega (arith, low (in-loop))
 
 slice-write-firsts : tie.Need-slice-write-firsts Inv-loop μ-loop
-slice-write-firsts c = room (c .before .before .before .before) .0
+slice-write-firsts c =
+    let in-loop : tie.In-loop Inv-loop μ-loop = search in
+    room (in-loop) .0
 
 sub-lasts : tie.Need-sub-lasts Inv-loop μ-loop
 sub-lasts c = search needs
@@ -71,19 +79,29 @@ shared-slice-read-lasts : tie.Need-shared-slice-read-lasts Inv-loop μ-loop
 shared-slice-read-lasts c = search needs
 
 mul-lasts-2 : tie.Need-mul-lasts-2 Inv-loop μ-loop
-mul-lasts-2 c = omega (arith, low (c .before .before .before .before .before))
+mul-lasts-2 c =
+    let in-loop : tie.In-loop Inv-loop μ-loop = search in
+    omega (arith, low (in-loop))
 
 slice-write-lasts : tie.Need-slice-write-lasts Inv-loop μ-loop
-slice-write-lasts c = room (c .before .before .before .before .before) .1
+slice-write-lasts c =
+    let in-loop : tie.In-loop Inv-loop μ-loop = search in
+    room (in-loop) .1
 
 mul-totals : tie.Need-mul-totals Inv-loop μ-loop
-mul-totals c = omega (arith, low (c .before .before .before .before .before))
+mul-totals c =
+    let in-loop : tie.In-loop Inv-loop μ-loop = search in
+    omega (arith, low (in-loop))
 
 slice-write-totals : tie.Need-slice-write-totals Inv-loop μ-loop
-slice-write-totals c = room (c .before .before .before .before .before) .2
+slice-write-totals c =
+    let in-loop : tie.In-loop Inv-loop μ-loop = search in
+    room (in-loop) .2
 
 slice-write-marks : tie.Need-slice-write-marks Inv-loop μ-loop
-slice-write-marks c = room (c .before .before .before .before .before) .3
+slice-write-marks c =
+    let in-loop : tie.In-loop Inv-loop μ-loop = search in
+    room (in-loop) .3
 
 mul-is : tie.Need-mul-is Inv-loop μ-loop
 mul-is c = search needs
@@ -110,7 +128,9 @@ part-ss-end : tie.Need-part-ss-end Inv-loop μ-loop
 part-ss-end c = search needs
 
 add-at : tie.Need-add-at Inv-loop μ-loop
-add-at c = omega (arith, low (c .before .before .before .before .before .before .before))
+add-at c =
+    let in-loop : tie.In-loop Inv-loop μ-loop = search in
+    omega (arith, low (in-loop))
 
 loop-less : tie.Need-loop-less Inv-loop μ-loop
 loop-less c = search needs
@@ -118,10 +138,13 @@ loop-less c = search needs
 loop-again : tie.Need-loop-again Inv-loop μ-loop
 unfolding run
 loop-again c =
-    let turning = c .before .before .before .before .before .before .before in
+    let start : tie.Start Inv-loop μ-loop = search in
+    let turning : tie.In-loop Inv-loop μ-loop = search in
+    let after-run-end : tie.After-run-end Inv-loop μ-loop = search in
+    let after-total : tie.After-total Inv-loop μ-loop = search in
     let l = turning .before .loop in
-    let a = turning .before .before .before .before .before .before .before .before .before .before .args in
-    let e = c .before .before .before .before .before .before .run-end in
+    let a = start .args in
+    let e = after-run-end .run-end in
     let n = e .result .slots in
     let slots-are = ap (λ (r : RunEnd). r .slots) (e .ensures .0) in
     let is = l .is .now in
@@ -133,7 +156,7 @@ loop-again c =
       slots-part n is ss (l .inv .0),
       lists-store whole (a .firsts .now) (a .lasts .now) (a .totals .now) (a .marks .now) (l .at) here left (l .firsts) (l .lasts) (l .totals) (l .marks) _ _ _ _
           refl (ap (λ (m : ℕ). getD is (m - 1) 0) slots-are)
-          (c .before .before .before .before .total .ensures ∙ ap (λ (m : ℕ). sum (take m ss)) slots-are) refl
+          (after-total .total .ensures ∙ ap (λ (m : ℕ). sum (take m ss)) slots-are) refl
           (room-is .0) (room-is .1) (room-is .2) (room-is .3)
           (subst (λ (rs : List Run). Lists whole (a .firsts .now) (a .lasts .now) (a .totals .now) (a .marks .now) (l .at) rs (l .firsts) (l .lasts) (l .totals) (l .marks))
           (turn-marked (a .k) (a .mfirsts .now) (a .mlasts .now) (l .manual) n is ss (l .inv .0) (turning .loop-test .taken) slots-are (e .ensures .1 .0)) (l .inv .1)),
@@ -153,8 +176,9 @@ same-length-4 c = search needs
 
 returns : tie.Need-returns Inv-loop μ-loop
 returns c =
+    let start : tie.Start Inv-loop μ-loop = search in
     let l = c .before .loop in
-    let a = c .before .before .before .before .before .before .before .before .before .before .args in
+    let a = start .args in
     let z = none-marked (a .k) (a .mfirsts .now) (a .mlasts .now) (l .manual) (l .is .now) (l .ss .now) (c .loop-test .left) in
     lists-done _ _ _ _ _ (l .at) (l .firsts) (l .lasts) (l .totals) (l .marks) (rw z at (l .inv .1))
 

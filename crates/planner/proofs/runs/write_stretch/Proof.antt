@@ -86,7 +86,8 @@ part-write-runs-end-6 c = search needs
 write-runs-requires : tie.Need-write-runs-requires
 unfolding stretch
 write-runs-requires c κs =
-    let s = c .before .before .before .before .before .before .before .before .before .before .before .before .before .before .before in
+    let s : tie.Start = search in
+    let after-mark-of : tie.After-mark-of = search in
     let a = s .args in
     let r = s .pre .1 .1 in
     let f = length-part (a .at) (a .firsts .now) in
@@ -95,7 +96,7 @@ write-runs-requires c κs =
     let m = length-part (a .at) (a .marks .now) in (
       slots-mid (a .a) (a .e) (a .indexes .now) (a .sizes .now) (s .pre .1 .0 .1) (s .pre .0),
       subst (λ (mark : ℕ). Room (firstMarked mark (runs (a .k) (a .mfirsts .now) (a .mlasts .now) (mid (a .a) (a .e) (a .indexes .now)) (mid (a .a) (a .e) (a .sizes .now)))) (part (a .at) (a .firsts .now)) (part (a .at) (a .lasts .now)) (part (a .at) (a .totals .now)) (part (a .at) (a .marks .now)))
-          (sym (c .before .before .before .before .mark-of .ensures))
+          (sym (after-mark-of .mark-of .ensures))
           (record {
             room = omega (arith, r .room, f);
             lasts-even = omega (arith, r .lasts-even, f, l);
@@ -119,10 +120,13 @@ same-length-4 c = search needs
 returns : tie.Need-returns
 unfolding stretch
 returns c =
-    let w = c .before .before .before .before .before .before .before .before .write-runs in
-    let a = c .before .before .before .before .before .before .before .before .before .before .before .before .before .before .before .before .before .before .before .before .before .before .before .before .args in
+    let start : tie.Start = search in
+    let after-mark-of : tie.After-mark-of = search in
+    let after-write-runs : tie.After-write-runs = search in
+    let w = after-write-runs .write-runs in
+    let a = start .args in
     let here = stretch (a .k) (a .mfirsts .now) (a .mlasts .now) (a .indexes .now) (a .sizes .now) (a .a) (a .e) in
-    let r : Written here (w .result) (part (a .at) (a .firsts .now)) (part (a .at) (a .lasts .now)) (part (a .at) (a .totals .now)) (part (a .at) (a .marks .now)) _ _ _ _ = rw (c .before .before .before .before .before .before .before .before .before .before .before .before .before .mark-of .ensures) at (w .ensures) in
+    let r : Written here (w .result) (part (a .at) (a .firsts .now)) (part (a .at) (a .lasts .now)) (part (a .at) (a .totals .now)) (part (a .at) (a .marks .now)) _ _ _ _ = rw (after-mark-of .mark-of .ensures) at (w .ensures) in
     record {
       count = r .count;
       firsts-are = put-rest (a .at) (firsts here) (a .firsts .now) _ (r .firsts-are);

@@ -12,15 +12,18 @@ use borrow.Author.Needs.{needs}
 use Rattle.planner.proofs.scale.capacity_at.Statement.{statement}
 use Rattle.planner.proofs.scale.capacity_at.Tie as tie
 
-whole : (u : tie.After-unscaled-capacity) → let s = u .before .before .before .before .before in let a = s .args in
+whole : (u : tie.After-unscaled-capacity) →
+    let start : tie.Start = search in
+    let s = start in let a = s .args in
     lengthOutcome (u .unscaled-capacity .result) ≡ unscaledCapacity (a .page .side .0) (a .permille) (pos (a .titles)) (pos (a .page .headings))
 whole u =
-    let s = u .before .before .before .before .before in
+    let s : tie.Start = search in
+    let after-from-raw : tie.After-from-raw = search in
     let a = s .args in
     let t : a .titles < 2 ^ 63 = omega (arith, s .pre .1) in
     let h : a .page .headings < 2 ^ 63 = omega (arith, s .pre .0 .headings-low) in
     u .unscaled-capacity .ensures
-    ∙ ap (λ (z : ℤ). unscaledCapacity (a .page .side .0) (a .permille) z (u .before .from-raw2 .result .0)) (u .before .before .before .from-raw .ensures ∙ toZ-pos w64 (a .titles) t)
+    ∙ ap (λ (z : ℤ). unscaledCapacity (a .page .side .0) (a .permille) z (u .before .from-raw2 .result .0)) (after-from-raw .from-raw .ensures ∙ toZ-pos w64 (a .titles) t)
     ∙ ap (λ (z : ℤ). unscaledCapacity (a .page .side .0) (a .permille) (pos (a .titles)) z) (u .before .from-raw2 .ensures ∙ toZ-pos w64 (a .page .headings) h)
 
 cast-from-raw : tie.Need-cast-from-raw
@@ -30,7 +33,9 @@ from-raw-requires : tie.Need-from-raw-requires
 from-raw-requires c κs = search needs
 
 cast-from-raw-2 : tie.Need-cast-from-raw-2
-cast-from-raw-2 c = record { sfits = omega (arith, c .before .before .before .pre .0 .headings-low) }
+cast-from-raw-2 c =
+    let start : tie.Start = search in
+    record { sfits = omega (arith, start .pre .0 .headings-low) }
 
 from-raw-requires-2 : tie.Need-from-raw-requires-2
 from-raw-requires-2 c κs = search needs
@@ -49,7 +54,7 @@ enum-told c = search needs
 
 returns : tie.Need-returns
 returns c =
-    let u = c .before .before .before .before in
+    let u : tie.After-unscaled-capacity = search in
     c .magnitude .ensures ∙ sym (ap (λ (l : Length). units (lengthOutcome l)) (c .before .before .answer .given .1)) ∙ ap units (whole u)
 
 returns-2 : tie.Need-returns-2

@@ -22,7 +22,8 @@ fits-side-requires c κs = search needs
 returns : tie.Need-returns
 unfolding runsAt runs
 returns c =
-    let a = c .before .before .before .before .before .before .before .before .args in
+    let start : tie.Start = search in
+    let a = start .args in
     let b = bodyFor (a .fit .stretch) (a .mfirsts .now) (a .mlasts .now) (a .indexes .now) (a .sizes .now) in
     c .fits-side .ensures ∙ no-runs (spaceOf (a .fit .page)) b (a .fit .target) (a .permille) (none (run (readyFrame (a .fit) (a .permille)) (a .mfirsts .now) (a .mlasts .now)) (a .indexes .now) (a .sizes .now) (omega (arith, c .before .before .if1 .taken)))
 
@@ -35,7 +36,7 @@ runs-pass-requires c κs = search needs
 returns-2 : tie.Need-returns-2
 unfolding runsAt runs
 returns-2 c =
-    let s = c .before .before .before .before .before .before .before .before in
+    let s : tie.Start = search in
     let a = s .args in
     let b = bodyFor (a .fit .stretch) (a .mfirsts .now) (a .mlasts .now) (a .indexes .now) (a .sizes .now) in
     let passes : Frame → Bool = λ f. let rs = runs f (a .mfirsts .now) (a .mlasts .now) (a .indexes .now) (a .sizes .now) in allFit (spaceOf (a .fit .page)) (titled (f .title)) (a .permille) rs && meets (a .fit .target) (length rs) in

@@ -13,8 +13,9 @@ both-pass-requires c κs = search needs
 
 returns : tie.Need-returns
 returns c =
+    let start : tie.Start = search in
     let b = c .before in
-    let a = b .before .before .before .before .before .before .before .before .before .args in
+    let a = start .args in
     fit-none (λ p. fitPasses (a .rows) (a .rfirsts .now) (a .rlasts .now) (a .rindexes .now) (a .rsizes .now) p && fitPasses (a .columns) (a .cfirsts .now) (a .clasts .now) (a .cindexes .now) (a .csizes .now) p) (sym (b .both-pass .ensures) ∙ not-true (b .both-pass .result) (c .if1 .taken))
 
 halved-permille-requires : tie.Need-halved-permille-requires
@@ -22,8 +23,9 @@ halved-permille-requires c κs = search needs
 
 returns-2 : tie.Need-returns-2
 returns-2 c =
+    let start : tie.Start = search in
     let b = c .before .before in
-    let a = b .before .before .before .before .before .before .before .before .before .args in
+    let a = start .args in
     fit-found (λ p. fitPasses (a .rows) (a .rfirsts .now) (a .rlasts .now) (a .rindexes .now) (a .rsizes .now) p && fitPasses (a .columns) (a .cfirsts .now) (a .clasts .now) (a .cindexes .now) (a .csizes .now) p) (c .halved-permille .result) (sym (b .both-pass .ensures) ∙ not-false (b .both-pass .result) (c .before .if1 .left)) (c .halved-permille .ensures)
 
 pub fit-scale-spec : {M : Type 1} → statement M

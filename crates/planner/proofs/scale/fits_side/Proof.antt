@@ -45,15 +45,16 @@ enum-told c = search needs
 returns : tie.Need-returns
 unfolding fitsSide
 returns c =
-    let f = c .before .before .before .before .before in
+    let f : tie.After-scale-fixed = search in
+    let after-answer : tie.After-answer = search in
     let a = f .before .before .args in
     let x = c .before .raw .result in
     let y = c .raw2 .result in
     let X : SFits w64 x = search needs in
     let Y : SFits w64 y = search needs in
     ap (λ (z : ℤ). leZ z (toZ w64 (ofZ w64 y))) (toZ-ofZ w64 x X ∙ c .before .raw .ensures)
-    ∙ ap (λ (z : ℤ). leZ (c .before .before .before .answer .given .0 .0 .0) z) (toZ-ofZ w64 y Y ∙ c .raw2 .ensures)
-    ∙ sym (ap (λ (l : Length). atMost (lengthOutcome l) (a .page .side .0)) (c .before .before .before .answer .given .1)) ∙ ap (λ o. atMost o (a .page .side .0)) (whole f)
+    ∙ ap (λ (z : ℤ). leZ (after-answer .answer .given .0 .0 .0) z) (toZ-ofZ w64 y Y ∙ c .raw2 .ensures)
+    ∙ sym (ap (λ (l : Length). atMost (lengthOutcome l) (a .page .side .0)) (after-answer .answer .given .1)) ∙ ap (λ o. atMost o (a .page .side .0)) (whole f)
 
 returns-2 : tie.Need-returns-2
 unfolding fitsSide

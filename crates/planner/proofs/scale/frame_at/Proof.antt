@@ -9,7 +9,8 @@ capacity-at-requires c κs =
 
 capacity-at-requires-2 : tie.Need-capacity-at-requires-2
 capacity-at-requires-2 c κs =
-    let p = c .before .before .before .pre in (p, p .titles-low)
+    let start : tie.Start = search in
+    let p = start .pre in (p, p .titles-low)
 
 returns : tie.Need-returns
 returns c =

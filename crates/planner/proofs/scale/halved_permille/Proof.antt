@@ -35,16 +35,21 @@ both-pass-requires c κs = search needs
 loop-less : tie.Need-loop-less Inv-loop μ-loop
 unfolding middle
 loop-less c =
-    let l = c .before .before .before .before .loop in
+    let at-loop : tie.At-loop Inv-loop μ-loop = search in
+    let in-loop : tie.In-loop Inv-loop μ-loop = search in
+    let l = at-loop .loop in
     let m : c .before .before .middle-of .result ≡ l .low + (l .high - l .low + 1) / 2 = c .before .before .middle-of .ensures in
-    omega (arith, m, c .before .before .before .loop-test .taken)
+    omega (arith, m, in-loop .loop-test .taken)
 
 loop-again : tie.Need-loop-again Inv-loop μ-loop
 unfolding middle
 loop-again c =
-    let l = c .before .before .before .before .loop in
-    let a = c .before .before .before .before .before .before .before .before .before .before .before .before .before .args in
-    let taken = c .before .before .before .loop-test .taken in
+    let start : tie.Start Inv-loop μ-loop = search in
+    let at-loop : tie.At-loop Inv-loop μ-loop = search in
+    let in-loop : tie.In-loop Inv-loop μ-loop = search in
+    let l = at-loop .loop in
+    let a = start .args in
+    let taken = in-loop .loop-test .taken in
     let e = c .before .before .middle-of .ensures in
     let m : c .before .before .middle-of .result ≡ l .low + (l .high - l .low + 1) / 2 = e in (
       omega (arith, taken, m, l .inv .0),
@@ -56,23 +61,30 @@ loop-again c =
 sub-high : tie.Need-sub-high Inv-loop μ-loop
 unfolding middle
 sub-high c =
-    let l = c .before .before .before .before .loop in
+    let at-loop : tie.At-loop Inv-loop μ-loop = search in
+    let in-loop : tie.In-loop Inv-loop μ-loop = search in
+    let l = at-loop .loop in
     let m : c .before .before .middle-of .result ≡ l .low + (l .high - l .low + 1) / 2 = c .before .before .middle-of .ensures in
-    omega (arith, m, c .before .before .before .loop-test .taken)
+    omega (arith, m, in-loop .loop-test .taken)
 
 loop-less-2 : tie.Need-loop-less-2 Inv-loop μ-loop
 unfolding middle
 loop-less-2 c =
-    let l = c .before .before .before .before .loop in
+    let at-loop : tie.At-loop Inv-loop μ-loop = search in
+    let in-loop : tie.In-loop Inv-loop μ-loop = search in
+    let l = at-loop .loop in
     let m : c .before .before .middle-of .result ≡ l .low + (l .high - l .low + 1) / 2 = c .before .before .middle-of .ensures in
-    omega (arith, m, c .before .before .before .loop-test .taken)
+    omega (arith, m, in-loop .loop-test .taken)
 
 loop-again-2 : tie.Need-loop-again-2 Inv-loop μ-loop
 unfolding middle
 loop-again-2 c =
-    let l = c .before .before .before .before .loop in
-    let a = c .before .before .before .before .before .before .before .before .before .before .before .before .before .args in
-    let taken = c .before .before .before .loop-test .taken in
+    let start : tie.Start Inv-loop μ-loop = search in
+    let at-loop : tie.At-loop Inv-loop μ-loop = search in
+    let in-loop : tie.In-loop Inv-loop μ-loop = search in
+    let l = at-loop .loop in
+    let a = start .args in
+    let taken = in-loop .loop-test .taken in
     let e = c .before .before .middle-of .ensures in
     let m : c .before .before .middle-of .result ≡ l .low + (l .high - l .low + 1) / 2 = e in (
       l .inv .0,
@@ -83,8 +95,9 @@ loop-again-2 c =
 
 returns : tie.Need-returns Inv-loop μ-loop
 returns c =
+    let start : tie.Start Inv-loop μ-loop = search in
     let l = c .before .loop in
-    let a = c .before .before .before .before .before .before .before .before .before .before .args in
+    let a = start .args in
     halving-stop (test (a .rows) (a .columns) (a .rfirsts .now) (a .rlasts .now) (a .rindexes .now) (a .rsizes .now) (a .cfirsts .now) (a .clasts .now) (a .cindexes .now) (a .csizes .now)) (halve (test (a .rows) (a .columns) (a .rfirsts .now) (a .rlasts .now) (a .rindexes .now) (a .rsizes .now) (a .cfirsts .now) (a .clasts .now) (a .cindexes .now) (a .csizes .now)) 10 100 1000) (l .low) (l .high) (c .loop-test .left) (l .inv .3)
 
 pub halved-permille-spec : {M : Type 1} → statement M

@@ -14,7 +14,7 @@ add-result-2 c = search needs
 
 returns : tie.Need-returns
 returns c =
-    let s = c .before .before .before in
+    let s : tie.Start = search in
     let a = s .args in
     (printed-empty (spaceOf (a .page)) (a .title) (a .empty) (a .first) (a .size) (c .before .before .if1 .taken), omega (arith, s .pre .0 .titles-low, s .pre .0 .headings-low, s .pre .1))
 
@@ -29,9 +29,10 @@ add-result-3 c = search needs
 
 returns-2 : tie.Need-returns-2
 returns-2 c =
-    let s = c .before .before .before .before in
+    let s : tie.Start = search in
+    let else1 : tie.Else1 = search in
     let a = s .args in
-    (printed-absent (spaceOf (a .page)) (a .title) (a .empty) (a .first) (a .size) (c .before .before .before .if1 .left) (c .before .enum-told .given .1), omega (arith, s .pre .0 .headings-low, s .pre .1))
+    (printed-absent (spaceOf (a .page)) (a .title) (a .empty) (a .first) (a .size) (else1 .if1 .left) (c .before .enum-told .given .1), omega (arith, s .pre .0 .headings-low, s .pre .1))
 
 add-result-4 : tie.Need-add-result-4
 add-result-4 c = search needs
@@ -41,18 +42,22 @@ add-result-5 c = search needs
 
 returns-3 : tie.Need-returns-3
 returns-3 c =
-    let s = c .before .before .before .before .before .before .before in
+    let s : tie.Start = search in
+    let else1 : tie.Else1 = search in
+    let after-title : tie.After-title = search in
     let a = s .args in
-    (printed-past (spaceOf (a .page)) (a .title) (a .empty) (a .first) (a .size) (c .before .before .before .before .before .before .if1 .left) _ _ (c .before .before .before .before .title .given .1) (c .before .before .if2 .taken), omega (arith, s .pre .0 .titles-low, s .pre .0 .headings-low, s .pre .1))
+    (printed-past (spaceOf (a .page)) (a .title) (a .empty) (a .first) (a .size) (else1 .if1 .left) _ _ (after-title .title .given .1) (c .before .before .if2 .taken), omega (arith, s .pre .0 .titles-low, s .pre .0 .headings-low, s .pre .1))
 
 add-result-6 : tie.Need-add-result-6
 add-result-6 c = search needs
 
 returns-4 : tie.Need-returns-4
 returns-4 c =
-    let s = c .before .before .before .before .before .before in
+    let s : tie.Start = search in
+    let else1 : tie.Else1 = search in
+    let after-title : tie.After-title = search in
     let a = s .args in
-    (printed-before (spaceOf (a .page)) (a .title) (a .empty) (a .first) (a .size) (c .before .before .before .before .before .if1 .left) _ _ (c .before .before .before .title .given .1) (c .before .if2 .left), omega (arith, s .pre .0 .headings-low, s .pre .1))
+    (printed-before (spaceOf (a .page)) (a .title) (a .empty) (a .first) (a .size) (else1 .if1 .left) _ _ (after-title .title .given .1) (c .before .if2 .left), omega (arith, s .pre .0 .headings-low, s .pre .1))
 
 pub printed-spec : {M : Type 1} → statement M
 printed-spec =

@@ -28,28 +28,41 @@ abbrev μ-loop : tie.MeasureT-loop
 μ-loop page frame target permille mfirsts mlasts indexes sizes title is₀ ss₀ count₀ is ss count = length ss
 
 -- the runs that were left are that of this turn and those after it
-turned : (e : tie.After-run-end Inv-loop μ-loop) → let l = e .before .before .before .before .loop in let a = e .before .before .before .before .before .before .before .before .before .args in let n = e .run-end .result .slots in
+turned : (e : tie.After-run-end Inv-loop μ-loop) →
+    let start : tie.Start Inv-loop μ-loop = search in
+    let at-loop : tie.At-loop Inv-loop μ-loop = search in
+    let l = at-loop .loop in let a = start .args in let n = e .run-end .result .slots in
     runs (a .frame) (a .mfirsts .now) (a .mlasts .now) (l .is .now) (l .ss .now) ≡ run (a .frame) (a .mfirsts .now) (a .mlasts .now) (l .is .now) (l .ss .now) ∷ runs (a .frame) (a .mfirsts .now) (a .mlasts .now) (part n (l .is .now)) (part n (l .ss .now))
 unfolding runs run
 turned e =
-    let l = e .before .before .before .before .loop in
-    let a = e .before .before .before .before .before .before .before .before .before .args in
-    turn (run (a .frame) (a .mfirsts .now) (a .mlasts .now)) (e .run-end .result .slots) (l .is .now) (l .ss .now) (l .inv .0) (e .before .before .before .loop-test .taken) (ap (λ (r : RunEnd). r .slots) (e .run-end .ensures .0)) (e .run-end .ensures .1 .0)
+    let start : tie.Start Inv-loop μ-loop = search in
+    let at-loop : tie.At-loop Inv-loop μ-loop = search in
+    let in-loop : tie.In-loop Inv-loop μ-loop = search in
+    let l = at-loop .loop in
+    let a = start .args in
+    turn (run (a .frame) (a .mfirsts .now) (a .mlasts .now)) (e .run-end .result .slots) (l .is .now) (l .ss .now) (l .inv .0) (in-loop .loop-test .taken) (ap (λ (r : RunEnd). r .slots) (e .run-end .ensures .0)) (e .run-end .ensures .1 .0)
 
 -- what was asked of this turn's run
-fits-here : (f : tie.After-fits-side Inv-loop μ-loop) → let e = f .before .before .before .before .before in let l = e .before .before .before .before .loop in let a = e .before .before .before .before .before .before .before .before .before .args in
+fits-here : (f : tie.After-fits-side Inv-loop μ-loop) →
+    let start : tie.Start Inv-loop μ-loop = search in
+    let at-loop : tie.At-loop Inv-loop μ-loop = search in
+    let l = at-loop .loop in
+    let a = start .args in
     f .fits-side .result ≡ fitsSide (spaceOf (a .page)) (a .permille) (rendered (spaceOf (a .page)) (titled (a .frame .title)) (run (a .frame) (a .mfirsts .now) (a .mlasts .now) (l .is .now) (l .ss .now)))
 unfolding run
 fits-here f =
-    let e = f .before .before .before .before .before in
-    let l = e .before .before .before .before .loop in
-    let a = e .before .before .before .before .before .before .before .before .before .args in
-    let size-is = f .before .before .before .total .ensures ∙ ap (λ (r : RunEnd). sum (take (r .slots) (l .ss .now))) (e .run-end .ensures .0) in
+    let start : tie.Start Inv-loop μ-loop = search in
+    let at-loop : tie.At-loop Inv-loop μ-loop = search in
+    let e : tie.After-run-end Inv-loop μ-loop = search in
+    let after-total : tie.After-total Inv-loop μ-loop = search in
+    let l = at-loop .loop in
+    let a = start .args in
+    let size-is = after-total .total .ensures ∙ ap (λ (r : RunEnd). sum (take (r .slots) (l .ss .now))) (e .run-end .ensures .0) in
     f .fits-side .ensures ∙ ap (fitsSide (spaceOf (a .page)) (a .permille)) (f .before .printed .ensures .0 ∙ ap (printed (spaceOf (a .page)) (a .frame .title) false (getD (l .is .now) 0 0)) size-is)
 
 loop-holds : tie.Need-loop-holds Inv-loop μ-loop
 loop-holds c =
-    let s = c .before .before .before .before in
+    let s : tie.Start Inv-loop μ-loop = search in
     let a = s .args in
     (s .pre .1, from-none (spaceOf (a .page)) (titled (a .frame .title)) (a .target) (a .permille) _, meets-none (a .target), omega arith)
 
@@ -62,9 +75,10 @@ meets-target-requires c κs = search needs
 returns : tie.Need-returns Inv-loop μ-loop
 unfolding runs
 returns c =
+    let start : tie.Start Inv-loop μ-loop = search in
     let t = c .before .before in
     let l = t .before .loop in
-    let a = t .before .before .before .before .before .before .args in
+    let a = start .args in
     too-many (spaceOf (a .page)) (titled (a .frame .title)) (a .target) (a .permille) (l .count) _ (some (run (a .frame) (a .mfirsts .now) (a .mlasts .now)) (l .is .now) (l .ss .now) (t .loop-test .taken) (l .inv .0 .even)) (sym (c .before .meets-target .ensures) ∙ not-true _ (c .if1 .taken)) ∙ l .inv .1
 
 run-end-requires : tie.Need-run-end-requires Inv-loop μ-loop
@@ -74,26 +88,32 @@ slice-aggregate-total : tie.Need-slice-aggregate-total Inv-loop μ-loop
 slice-aggregate-total c = sym (length-take-le _ _ (c .before .run-end .ensures .1 .1))
 
 total-requires : tie.Need-total-requires Inv-loop μ-loop
-total-requires c κs = small-take _ _ (c .before .run-end .ensures .1 .1) (c .before .before .before .before .before .loop .inv .0 .small)
+total-requires c κs =
+    let at-loop : tie.At-loop Inv-loop μ-loop = search in
+    small-take _ _ (c .before .run-end .ensures .1 .1) (at-loop .loop .inv .0 .small)
 
 shared-slice-read-printed : tie.Need-shared-slice-read-printed Inv-loop μ-loop
 shared-slice-read-printed c = search needs
 
 printed-requires : tie.Need-printed-requires Inv-loop μ-loop
 printed-requires c κs =
-    let e = c .before .before .before in
+    let start : tie.Start Inv-loop μ-loop = search in
+    let at-loop : tie.At-loop Inv-loop μ-loop = search in
+    let e : tie.After-run-end Inv-loop μ-loop = search in
     let n = e .run-end .result .slots in
-    let l = e .before .before .before .before .loop in
-    (e .before .before .before .before .before .before .before .before .before .pre .0, omega (arith, c .before .total .ensures, small-sum (take n (l .ss .now)) (small-take n (l .ss .now) (e .run-end .ensures .1 .1) (l .inv .0 .small))))
+    let l = at-loop .loop in
+    (start .pre .0, omega (arith, c .before .total .ensures, small-sum (take n (l .ss .now)) (small-take n (l .ss .now) (e .run-end .ensures .1 .1) (l .inv .0 .small))))
 
 fits-side-requires : tie.Need-fits-side-requires Inv-loop μ-loop
 fits-side-requires c κs = c .printed .ensures .1
 
 returns-2 : tie.Need-returns-2 Inv-loop μ-loop
 returns-2 c =
-    let e = c .before .before .before .before .before .before in
-    let l = e .before .before .before .before .loop in
-    let a = e .before .before .before .before .before .before .before .before .before .args in
+    let start : tie.Start Inv-loop μ-loop = search in
+    let at-loop : tie.At-loop Inv-loop μ-loop = search in
+    let e : tie.After-run-end Inv-loop μ-loop = search in
+    let l = at-loop .loop in
+    let a = start .args in
     one-out (spaceOf (a .page)) (titled (a .frame .title)) (a .target) (a .permille) (l .count) _ _ (sym (fits-here (c .before)) ∙ not-true _ (c .if2 .taken))
     ∙ ap (passFrom (spaceOf (a .page)) (titled (a .frame .title)) (a .target) (a .permille) (l .count)) (sym (turned e)) ∙ l .inv .1
 
@@ -126,11 +146,13 @@ loop-less c = search needs
 
 loop-again : tie.Need-loop-again Inv-loop μ-loop
 loop-again c =
-    let f = c .before .before .before in
-    let e = f .before .before .before .before .before in
+    let start : tie.Start Inv-loop μ-loop = search in
+    let at-loop : tie.At-loop Inv-loop μ-loop = search in
+    let e : tie.After-run-end Inv-loop μ-loop = search in
+    let f : tie.After-fits-side Inv-loop μ-loop = search in
     let n = e .run-end .result .slots in
-    let l = e .before .before .before .before .loop in
-    let a = e .before .before .before .before .before .before .before .before .before .args in (
+    let l = at-loop .loop in
+    let a = start .args in (
       slots-part n (l .is .now) (l .ss .now) (l .inv .0),
       one-in (spaceOf (a .page)) (titled (a .frame .title)) (a .target) (a .permille) (l .count) _ _ (sym (fits-here f) ∙ not-false _ (c .before .before .if2 .left))
           ∙ ap (passFrom (spaceOf (a .page)) (titled (a .frame .title)) (a .target) (a .permille) (l .count)) (sym (turned e)) ∙ l .inv .1,
@@ -141,8 +163,9 @@ loop-again c =
 returns-3 : tie.Need-returns-3 Inv-loop μ-loop
 unfolding runs
 returns-3 c =
+    let start : tie.Start Inv-loop μ-loop = search in
     let l = c .before .loop in
-    let a = c .before .before .before .before .before .before .args in
+    let a = start .args in
     all-in (spaceOf (a .page)) (titled (a .frame .title)) (a .target) (a .permille) (l .count) (l .inv .2)
     ∙ ap (passFrom (spaceOf (a .page)) (titled (a .frame .title)) (a .target) (a .permille) (l .count)) (sym (none (run (a .frame) (a .mfirsts .now) (a .mlasts .now)) (l .is .now) (l .ss .now) (c .loop-test .left))) ∙ l .inv .1
 

@@ -36,11 +36,13 @@ place-of-requires-2 c κs = search needs
 
 returns-2 : tie.Need-returns-2
 returns-2 c =
-    let a = c .before .before .before .before .before .before .before .before .before .before .args in
+    let start : tie.Start = search in
+    let low : tie.After-wide = search in
+    let after-place-of : tie.After-place-of = search in
+    let a = start .args in
     let is = a .indexes .now in
-    let low = c .before .before .before .before in
     total-none (a .title) _ _ is (a .sizes .now) (low .before .before .title .given .1) _ _
-    (c .before .before .before .place-of .ensures .0 ∙ ap (λ (x : ℕ). below x is) (low .wide .ensures))
+    (after-place-of .place-of .ensures .0 ∙ ap (λ (x : ℕ). below x is) (low .wide .ensures))
     (c .before .place-of2 .ensures .0 ∙ ap (λ (x : ℕ). below (x + 1) is) (c .before .before .wide2 .ensures)) (c .if1 .taken)
 
 mul-total : tie.Need-mul-total
@@ -57,17 +59,22 @@ part-total-end c = search needs
 
 total-requires : tie.Need-total-requires
 total-requires c κs =
-    let s = c .before .before .before .before .before .before .before .before .before .before .before in
-    slots-mid (c .before .before .before .before .place-of .result) (c .before .before .place-of2 .result) (s .args .indexes .now) (s .args .sizes .now) (search needs) (s .pre) .small
+    let s : tie.Start = search in
+    let after-place-of : tie.After-place-of = search in
+    slots-mid (after-place-of .place-of .result) (c .before .before .place-of2 .result) (s .args .indexes .now) (s .args .sizes .now) (search needs) (s .pre) .small
 
 returns-3 : tie.Need-returns-3
 returns-3 c =
-    let a = c .before .before .before .before .before .before .before .before .before .before .before .before .args in
+    let start : tie.Start = search in
+    let low : tie.After-wide = search in
+    let after-place-of : tie.After-place-of = search in
+    let after-wide2 : tie.After-wide2 = search in
+    let after-place-of2 : tie.After-place-of2 = search in
+    let a = start .args in
     let is = a .indexes .now in
-    let low = c .before .before .before .before .before .before in
     c .total .ensures ∙ total-some (a .title) _ _ is (a .sizes .now) (low .before .before .title .given .1) _ _
-    (c .before .before .before .before .before .place-of .ensures .0 ∙ ap (λ (x : ℕ). below x is) (low .wide .ensures))
-    (c .before .before .before .place-of2 .ensures .0 ∙ ap (λ (x : ℕ). below (x + 1) is) (c .before .before .before .before .wide2 .ensures))
+    (after-place-of .place-of .ensures .0 ∙ ap (λ (x : ℕ). below x is) (low .wide .ensures))
+    (after-place-of2 .place-of2 .ensures .0 ∙ ap (λ (x : ℕ). below (x + 1) is) (after-wide2 .wide2 .ensures))
 
 pub title-total-spec : {M : Type 1} → statement M
 title-total-spec =

@@ -18,18 +18,26 @@ fit-in-requires c κs = search needs
 
 returns : tie.Need-returns
 returns c =
-    let a = c .before .before .before .before .before .args in
-    admit-no (a .equally-long) (a .bytes .now) (a .room) (c .before .before .before .check-job-lent .result) (c .before .before .before .check-job-lent .ensures) _ (c .before .checked .given .1)
+    let start : tie.Start = search in
+    let after-check-job-lent : tie.After-check-job-lent = search in
+    let a = start .args in
+    admit-no (a .equally-long) (a .bytes .now) (a .room) (after-check-job-lent .check-job-lent .result) (after-check-job-lent .check-job-lent .ensures) _ (c .before .checked .given .1)
 
 returns-2 : tie.Need-returns-2
 returns-2 c =
-    let a = c .before .before .before .before .before .before .before .args in
-    admit-yes (a .equally-long) (a .bytes .now) (a .room) (c .before .before .before .before .before .check-job-lent .result) (c .before .before .before .before .before .check-job-lent .ensures) _ (c .before .before .before .checked2 .given .1) _ (c .before .fit-in .ensures) (c .if1 .taken)
+    let start : tie.Start = search in
+    let after-check-job-lent : tie.After-check-job-lent = search in
+    let after-checked2 : tie.After-checked2 = search in
+    let a = start .args in
+    admit-yes (a .equally-long) (a .bytes .now) (a .room) (after-check-job-lent .check-job-lent .result) (after-check-job-lent .check-job-lent .ensures) _ (after-checked2 .checked2 .given .1) _ (c .before .fit-in .ensures) (c .if1 .taken)
 
 returns-3 : tie.Need-returns-3
 returns-3 c =
-    let a = c .before .before .before .before .before .before .before .args in
-    admit-full (a .equally-long) (a .bytes .now) (a .room) (c .before .before .before .before .before .check-job-lent .result) (c .before .before .before .before .before .check-job-lent .ensures) _ (c .before .before .before .checked2 .given .1) _ (c .before .fit-in .ensures) (c .if1 .left)
+    let start : tie.Start = search in
+    let after-check-job-lent : tie.After-check-job-lent = search in
+    let after-checked2 : tie.After-checked2 = search in
+    let a = start .args in
+    admit-full (a .equally-long) (a .bytes .now) (a .room) (after-check-job-lent .check-job-lent .result) (after-check-job-lent .check-job-lent .ensures) _ (after-checked2 .checked2 .given .1) _ (c .before .fit-in .ensures) (c .if1 .left)
 
 pub admit-spec : {M : Type 1} → statement M
 admit-spec =

@@ -14,16 +14,26 @@ enum-told : tie.Need-enum-told
 enum-told c = search needs
 
 returns : tie.Need-returns
-returns c = kind-none (c .before .before .before .before .args .wanted) _ _ (c .before .before .next-record .ensures) (c .enum-told .given .1)
+returns c =
+    let start : tie.Start = search in
+    kind-none (start .args .wanted) _ _ (c .before .before .next-record .ensures) (c .enum-told .given .1)
 
 rank-of-requires : tie.Need-rank-of-requires
 rank-of-requires c κs = search needs
 
 returns-2 : tie.Need-returns-2
-returns-2 c = kind-some (c .before .before .before .before .before .before .before .args .wanted) _ _ (c .before .before .before .before .before .next-record .ensures) _ _ _ (c .before .before .before .found .given .1) (c .before .rank-of .ensures) (c .if1 .taken)
+returns-2 c =
+    let start : tie.Start = search in
+    let after-next-record : tie.After-next-record = search in
+    let after-found : tie.After-found = search in
+    kind-some (start .args .wanted) _ _ (after-next-record .next-record .ensures) _ _ _ (after-found .found .given .1) (c .before .rank-of .ensures) (c .if1 .taken)
 
 returns-3 : tie.Need-returns-3
-returns-3 c = kind-other (c .before .before .before .before .before .before .before .args .wanted) _ _ (c .before .before .before .before .before .next-record .ensures) _ _ _ (c .before .before .before .found .given .1) (c .before .rank-of .ensures) (c .if1 .left)
+returns-3 c =
+    let start : tie.Start = search in
+    let after-next-record : tie.After-next-record = search in
+    let after-found : tie.After-found = search in
+    kind-other (start .args .wanted) _ _ (after-next-record .next-record .ensures) _ _ _ (after-found .found .given .1) (c .before .rank-of .ensures) (c .if1 .left)
 
 pub next-of-spec : {M : Type 1} → statement M
 next-of-spec =

@@ -13,7 +13,9 @@ magnitude-requires : tie.Need-magnitude-requires
 magnitude-requires c κs = search needs
 
 returns : tie.Need-returns
-returns c = rw (c .magnitude .ensures, c .before .from-raw .ensures, toZ-ofZ {w = w64} {z = c .before .before .before .args .slot .size} (record { sfits = omega arith }))
+returns c =
+    let start : tie.Start = search in
+    rw (c .magnitude .ensures, c .before .from-raw .ensures, toZ-ofZ {w = w64} {z = start .args .slot .size} (record { sfits = omega arith }))
 
 pub row-measured-spec : {M : Type 1} → statement M
 row-measured-spec = tie.close (tie.spec from-raw-requires magnitude-requires returns)

@@ -29,44 +29,90 @@ enum-told : tie.Need-enum-told Inv-loop μ-loop
 enum-told c = search needs
 
 sub-result : tie.Need-sub-result Inv-loop μ-loop
-sub-result c = c .before .before .before .loop .inv .0 .suffix .long
+sub-result c =
+    let at-loop : tie.At-loop Inv-loop μ-loop = search in
+    at-loop .loop .inv .0 .suffix .long
 
 same-length : tie.Need-same-length Inv-loop μ-loop
-same-length c = c .before .before .before .loop .inv .1 .wrote .long
+same-length c =
+    let at-loop : tie.At-loop Inv-loop μ-loop = search in
+    at-loop .loop .inv .1 .wrote .long
 
 returns : tie.Need-returns Inv-loop μ-loop
 returns c =
-    let a = c .before .before .before .before .before .before .args in
-    (kind-past (a .wanted) (a .bytes .now) (c .before .before .before .loop .s .now) (c .before .before .before .loop .inv .0) (c .before .before .next-of .result) (c .before .before .next-of .ensures) (c .enum-told .given .1), one-done _ _ _ _ _ _ (c .before .before .before .loop .inv .1) (kind-end (a .wanted) (a .bytes .now) (c .before .before .before .loop .s .now) (c .before .before .before .loop .inv .0) (c .before .before .next-of .result) (c .before .before .next-of .ensures) (c .enum-told .given .1)))
+    let start : tie.Start Inv-loop μ-loop = search in
+    let at-loop : tie.At-loop Inv-loop μ-loop = search in
+    let a = start .args in
+    (kind-past (a .wanted) (a .bytes .now) (at-loop .loop .s .now) (at-loop .loop .inv .0) (c .before .before .next-of .result) (c .before .before .next-of .ensures) (c .enum-told .given .1), one-done _ _ _ _ _ _ (at-loop .loop .inv .1) (kind-end (a .wanted) (a .bytes .now) (at-loop .loop .s .now) (at-loop .loop .inv .0) (c .before .before .next-of .result) (c .before .before .next-of .ensures) (c .enum-told .given .1)))
 
 sub-s : tie.Need-sub-s Inv-loop μ-loop
-sub-s c = omega (arith, kind-used (c .before .before .before .before .before .before .before .args .wanted) (c .before .before .before .before .before .before .before .args .bytes .now) (c .before .before .before .before .loop .s .now) (c .before .before .before .before .loop .inv .0) (c .before .before .before .next-of .result) (c .before .before .before .next-of .ensures) _ _ (c .before .found .given .1))
+sub-s c =
+    let start : tie.Start Inv-loop μ-loop = search in
+    let at-loop : tie.At-loop Inv-loop μ-loop = search in
+    let after-next-of : tie.After-next-of Inv-loop μ-loop = search in
+    omega (arith, kind-used (start .args .wanted) (start .args .bytes .now) (at-loop .loop .s .now) (at-loop .loop .inv .0) (after-next-of .next-of .result) (after-next-of .next-of .ensures) _ _ (c .before .found .given .1))
 
 part-s-start : tie.Need-part-s-start Inv-loop μ-loop
-part-s-start c = omega (arith, kind-used (c .before .before .before .before .before .before .before .args .wanted) (c .before .before .before .before .before .before .before .args .bytes .now) (c .before .before .before .before .loop .s .now) (c .before .before .before .before .loop .inv .0) (c .before .before .before .next-of .result) (c .before .before .before .next-of .ensures) _ _ (c .before .found .given .1))
+part-s-start c =
+    let start : tie.Start Inv-loop μ-loop = search in
+    let at-loop : tie.At-loop Inv-loop μ-loop = search in
+    let after-next-of : tie.After-next-of Inv-loop μ-loop = search in
+    omega (arith, kind-used (start .args .wanted) (start .args .bytes .now) (at-loop .loop .s .now) (at-loop .loop .inv .0) (after-next-of .next-of .result) (after-next-of .next-of .ensures) _ _ (c .before .found .given .1))
 
 part-s-end : tie.Need-part-s-end Inv-loop μ-loop
-part-s-end c = omega (arith, kind-used (c .before .before .before .before .before .before .before .args .wanted) (c .before .before .before .before .before .before .before .args .bytes .now) (c .before .before .before .before .loop .s .now) (c .before .before .before .before .loop .inv .0) (c .before .before .before .next-of .result) (c .before .before .before .next-of .ensures) _ _ (c .before .found .given .1))
+part-s-end c =
+    let start : tie.Start Inv-loop μ-loop = search in
+    let at-loop : tie.At-loop Inv-loop μ-loop = search in
+    let after-next-of : tie.After-next-of Inv-loop μ-loop = search in
+    omega (arith, kind-used (start .args .wanted) (start .args .bytes .now) (at-loop .loop .s .now) (at-loop .loop .inv .0) (after-next-of .next-of .result) (after-next-of .next-of .ensures) _ _ (c .before .found .given .1))
 
 break-of-requires : tie.Need-break-of-requires Inv-loop μ-loop
-break-of-requires c κs = rw (kind-rank (c .before .before .before .before .before .before .before .before .args .wanted) (c .before .before .before .before .before .before .before .before .args .bytes .now) (c .before .before .before .before .before .loop .s .now) (c .before .before .before .before .before .loop .inv .0) (c .before .before .before .before .next-of .result) (c .before .before .before .before .next-of .ensures) _ _ (c .before .before .found .given .1)) (c .before .before .before .before .before .before .before .before .pre .1 .0)
+break-of-requires c κs =
+    let start : tie.Start Inv-loop μ-loop = search in
+    let at-loop : tie.At-loop Inv-loop μ-loop = search in
+    let after-next-of : tie.After-next-of Inv-loop μ-loop = search in
+    rw (kind-rank (start .args .wanted) (start .args .bytes .now) (at-loop .loop .s .now) (at-loop .loop .inv .0) (after-next-of .next-of .result) (after-next-of .next-of .ensures) _ _ (c .before .before .found .given .1)) (start .pre .1 .0)
 
 mul-breaks : tie.Need-mul-breaks Inv-loop μ-loop
-mul-breaks c = omega (arith, one-room _ _ _ _ _ _ (c .before .before .before .before .before .before .loop .inv .1) _ _ (kind-head (c .before .before .before .before .before .before .before .before .before .args .wanted) (c .before .before .before .before .before .before .before .before .before .args .bytes .now) (c .before .before .before .before .before .before .loop .s .now) (c .before .before .before .before .before .before .loop .inv .0) (c .before .before .before .before .before .next-of .result) (c .before .before .before .before .before .next-of .ensures) _ _ (c .before .before .before .found .given .1)) (c .before .before .before .before .before .before .before .before .before .pre .1 .1))
+mul-breaks c =
+    let start : tie.Start Inv-loop μ-loop = search in
+    let at-loop : tie.At-loop Inv-loop μ-loop = search in
+    let after-next-of : tie.After-next-of Inv-loop μ-loop = search in
+    let after-found : tie.After-found Inv-loop μ-loop = search in
+    omega (arith, one-room _ _ _ _ _ _ (at-loop .loop .inv .1) _ _ (kind-head (start .args .wanted) (start .args .bytes .now) (at-loop .loop .s .now) (at-loop .loop .inv .0) (after-next-of .next-of .result) (after-next-of .next-of .ensures) _ _ (after-found .found .given .1)) (start .pre .1 .1))
 
 slice-write-breaks : tie.Need-slice-write-breaks Inv-loop μ-loop
-slice-write-breaks c = one-room _ _ _ _ _ _ (c .before .before .before .before .before .before .loop .inv .1) _ _ (kind-head (c .before .before .before .before .before .before .before .before .before .args .wanted) (c .before .before .before .before .before .before .before .before .before .args .bytes .now) (c .before .before .before .before .before .before .loop .s .now) (c .before .before .before .before .before .before .loop .inv .0) (c .before .before .before .before .before .next-of .result) (c .before .before .before .before .before .next-of .ensures) _ _ (c .before .before .before .found .given .1)) (c .before .before .before .before .before .before .before .before .before .pre .1 .1)
+slice-write-breaks c =
+    let start : tie.Start Inv-loop μ-loop = search in
+    let at-loop : tie.At-loop Inv-loop μ-loop = search in
+    let after-next-of : tie.After-next-of Inv-loop μ-loop = search in
+    let after-found : tie.After-found Inv-loop μ-loop = search in
+    one-room _ _ _ _ _ _ (at-loop .loop .inv .1) _ _ (kind-head (start .args .wanted) (start .args .bytes .now) (at-loop .loop .s .now) (at-loop .loop .inv .0) (after-next-of .next-of .result) (after-next-of .next-of .ensures) _ _ (after-found .found .given .1)) (start .pre .1 .1)
 
 add-k : tie.Need-add-k Inv-loop μ-loop
-add-k c = omega (arith, one-room _ _ _ _ _ _ (c .before .before .before .before .before .before .loop .inv .1) _ _ (kind-head (c .before .before .before .before .before .before .before .before .before .args .wanted) (c .before .before .before .before .before .before .before .before .before .args .bytes .now) (c .before .before .before .before .before .before .loop .s .now) (c .before .before .before .before .before .before .loop .inv .0) (c .before .before .before .before .before .next-of .result) (c .before .before .before .before .before .next-of .ensures) _ _ (c .before .before .before .found .given .1)) (c .before .before .before .before .before .before .before .before .before .pre .1 .1))
+add-k c =
+    let start : tie.Start Inv-loop μ-loop = search in
+    let at-loop : tie.At-loop Inv-loop μ-loop = search in
+    let after-next-of : tie.After-next-of Inv-loop μ-loop = search in
+    let after-found : tie.After-found Inv-loop μ-loop = search in
+    omega (arith, one-room _ _ _ _ _ _ (at-loop .loop .inv .1) _ _ (kind-head (start .args .wanted) (start .args .bytes .now) (at-loop .loop .s .now) (at-loop .loop .inv .0) (after-next-of .next-of .result) (after-next-of .next-of .ensures) _ _ (after-found .found .given .1)) (start .pre .1 .1))
 
 loop-less : tie.Need-loop-less Inv-loop μ-loop
-loop-less c = omega (arith, kind-used (c .before .before .before .before .before .before .before .before .before .args .wanted) (c .before .before .before .before .before .before .before .before .before .args .bytes .now) (c .before .before .before .before .before .before .loop .s .now) (c .before .before .before .before .before .before .loop .inv .0) (c .before .before .before .before .before .next-of .result) (c .before .before .before .before .before .next-of .ensures) _ _ (c .before .before .before .found .given .1), length-part (c .before .before .before .found .given .0 .1 .0) (c .before .before .before .before .before .before .loop .s .now))
+loop-less c =
+    let start : tie.Start Inv-loop μ-loop = search in
+    let at-loop : tie.At-loop Inv-loop μ-loop = search in
+    let after-next-of : tie.After-next-of Inv-loop μ-loop = search in
+    let after-found : tie.After-found Inv-loop μ-loop = search in
+    omega (arith, kind-used (start .args .wanted) (start .args .bytes .now) (at-loop .loop .s .now) (at-loop .loop .inv .0) (after-next-of .next-of .result) (after-next-of .next-of .ensures) _ _ (after-found .found .given .1), length-part (after-found .found .given .0 .1 .0) (at-loop .loop .s .now))
 
 loop-again : tie.Need-loop-again Inv-loop μ-loop
 loop-again c =
-    let a = c .before .before .before .before .before .before .before .before .before .args in
-    (kind-on (a .wanted) (a .bytes .now) (c .before .before .before .before .before .before .loop .s .now) (c .before .before .before .before .before .before .loop .inv .0) (c .before .before .before .before .before .next-of .result) (c .before .before .before .before .before .next-of .ensures) _ _ (c .before .before .before .found .given .1), one-store _ _ _ _ _ _ (c .before .before .before .before .before .before .loop .inv .1) _ _ (c .break-of .result) (kind-head (a .wanted) (a .bytes .now) (c .before .before .before .before .before .before .loop .s .now) (c .before .before .before .before .before .before .loop .inv .0) (c .before .before .before .before .before .next-of .result) (c .before .before .before .before .before .next-of .ensures) _ _ (c .before .before .before .found .given .1)) (c .before .before .before .before .before .before .before .before .before .pre .1 .1) (c .break-of .ensures))
+    let start : tie.Start Inv-loop μ-loop = search in
+    let at-loop : tie.At-loop Inv-loop μ-loop = search in
+    let after-next-of : tie.After-next-of Inv-loop μ-loop = search in
+    let after-found : tie.After-found Inv-loop μ-loop = search in
+    let a = start .args in
+    (kind-on (a .wanted) (a .bytes .now) (at-loop .loop .s .now) (at-loop .loop .inv .0) (after-next-of .next-of .result) (after-next-of .next-of .ensures) _ _ (after-found .found .given .1), one-store _ _ _ _ _ _ (at-loop .loop .inv .1) _ _ (c .break-of .result) (kind-head (a .wanted) (a .bytes .now) (at-loop .loop .s .now) (at-loop .loop .inv .0) (after-next-of .next-of .result) (after-next-of .next-of .ensures) _ _ (after-found .found .given .1)) (start .pre .1 .1) (c .break-of .ensures))
 
 pub write-breaks-spec : {M : Type 1} → statement M
 write-breaks-spec =

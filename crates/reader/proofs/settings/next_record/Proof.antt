@@ -20,10 +20,16 @@ rank-of-requires : tie.Need-rank-of-requires
 rank-of-requires c κs = search needs
 
 returns-2 : tie.Need-returns-2
-returns-2 c = next-end _ _ (c .before .before .before .before .before .read-record .ensures) _ _ _ (c .before .before .before .found .given .1) (c .before .rank-of .ensures) (c .if1 .taken)
+returns-2 c =
+    let after-read-record : tie.After-read-record = search in
+    let after-found : tie.After-found = search in
+    next-end _ _ (after-read-record .read-record .ensures) _ _ _ (after-found .found .given .1) (c .before .rank-of .ensures) (c .if1 .taken)
 
 returns-3 : tie.Need-returns-3
-returns-3 c = next-kind _ _ (c .before .before .before .before .before .read-record .ensures) _ _ _ (c .before .before .before .found .given .1) (c .before .rank-of .ensures) (c .if1 .left)
+returns-3 c =
+    let after-read-record : tie.After-read-record = search in
+    let after-found : tie.After-found = search in
+    next-kind _ _ (after-read-record .read-record .ensures) _ _ _ (after-found .found .given .1) (c .before .rank-of .ensures) (c .if1 .left)
 
 pub next-record-spec : {M : Type 1} → statement M
 next-record-spec =

@@ -21,7 +21,10 @@ nowhere-requires : tie.Need-nowhere-requires
 nowhere-requires c κs = search needs
 
 returns : tie.Need-returns
-returns c = from-none 11 (records (c .before .before .before .before .before .args .bytes .now)) (c .before .before .before .find-record .result) (c .before .before .before .find-record .ensures) rangeFrom _ (c .before .enum-told .given .1) (sym (c .nowhere .ensures))
+returns c =
+    let start : tie.Start = search in
+    let after-find-record : tie.After-find-record = search in
+    from-none 11 (records (start .args .bytes .now)) (after-find-record .find-record .result) (after-find-record .find-record .ensures) rangeFrom _ (c .before .enum-told .given .1) (sym (c .nowhere .ensures))
 
 enum-known-found-2 : tie.Need-enum-known-found-2
 enum-known-found-2 c = search needs
@@ -30,10 +33,18 @@ nowhere-requires-2 : tie.Need-nowhere-requires-2
 nowhere-requires-2 c κs = search needs
 
 returns-2 : tie.Need-returns-2
-returns-2 c = absurd (no-other 10 (0 ∷ 1 ∷ 2 ∷ 3 ∷ 4 ∷ 5 ∷ 6 ∷ 7 ∷ 8 ∷ 9 ∷ 11 ∷ 12 ∷ 13 ∷ 14 ∷ 15 ∷ 16 ∷ 17 ∷ 18 ∷ []) (c .before .before .before .found .given .0 .0) tt (found-rank 11 (records (c .before .before .before .before .before .before .before .args .bytes .now)) (c .before .before .before .before .before .find-record .result) (c .before .before .before .before .before .find-record .ensures) _ (c .before .before .before .found .given .1)) (c .before .match2 .keys2))
+returns-2 c =
+    let start : tie.Start = search in
+    let after-find-record : tie.After-find-record = search in
+    let after-found : tie.After-found = search in
+    absurd (no-other 10 (0 ∷ 1 ∷ 2 ∷ 3 ∷ 4 ∷ 5 ∷ 6 ∷ 7 ∷ 8 ∷ 9 ∷ 11 ∷ 12 ∷ 13 ∷ 14 ∷ 15 ∷ 16 ∷ 17 ∷ 18 ∷ []) (after-found .found .given .0 .0) tt (found-rank 11 (records (start .args .bytes .now)) (after-find-record .find-record .result) (after-find-record .find-record .ensures) _ (after-found .found .given .1)) (c .before .match2 .keys2))
 
 returns-3 : tie.Need-returns-3
-returns-3 c = from-one 11 (records (c .before .before .before .before .before .before .before .before .args .bytes .now)) (c .before .before .before .before .before .before .find-record .result) (c .before .before .before .before .before .before .find-record .ensures) rangeFrom _ _ _ (c .before .before .before .before .found .given .1) (c .before .found2 .given .1) (λ t. refl)
+returns-3 c =
+    let start : tie.Start = search in
+    let after-find-record : tie.After-find-record = search in
+    let after-found : tie.After-found = search in
+    from-one 11 (records (start .args .bytes .now)) (after-find-record .find-record .result) (after-find-record .find-record .ensures) rangeFrom _ _ _ (after-found .found .given .1) (c .before .found2 .given .1) (λ t. refl)
 
 pub range-of-spec : {M : Type 1} → statement M
 range-of-spec =

@@ -32,23 +32,33 @@ setting-at-requires c κs = le-trans (size-front 13 formats _) (c .before .befor
 
 returns : tie.Need-returns
 unfolding find formats
-returns c = rw (c .row-at .ensures) (at-mark formats (c .before .before .before .args .s .now) _ _ (c .before .match .keys1))
+returns c =
+    let start : tie.Start = search in
+    rw (c .row-at .ensures) (at-mark formats (start .args .s .now) _ _ (c .before .match .keys1))
 
 returns-2 : tie.Need-returns-2
 unfolding find formats
-returns-2 c = rw (c .column-at .ensures) (at-mark formats (c .before .before .before .args .s .now) _ _ (c .before .match .keys2))
+returns-2 c =
+    let start : tie.Start = search in
+    rw (c .column-at .ensures) (at-mark formats (start .args .s .now) _ _ (c .before .match .keys2))
 
 returns-3 : tie.Need-returns-3
 unfolding find formats
-returns-3 c = rw (c .range-at .ensures) (at-mark formats (c .before .before .before .args .s .now) _ _ (c .before .match .keys3))
+returns-3 c =
+    let start : tie.Start = search in
+    rw (c .range-at .ensures) (at-mark formats (start .args .s .now) _ _ (c .before .match .keys3))
 
 returns-4 : tie.Need-returns-4
 unfolding find formats
-returns-4 c = rw (c .u32-at .ensures) (at-mark formats (c .before .before .before .args .s .now) _ _ (c .before .match .keys4))
+returns-4 c =
+    let start : tie.Start = search in
+    rw (c .u32-at .ensures) (at-mark formats (start .args .s .now) _ _ (c .before .match .keys4))
 
 returns-5 : tie.Need-returns-5
 unfolding find formats
-returns-5 c = rw (c .u16-at .ensures) (at-mark formats (c .before .before .before .args .s .now) _ _ (c .before .match .keys5))
+returns-5 c =
+    let start : tie.Start = search in
+    rw (c .u16-at .ensures) (at-mark formats (start .args .s .now) _ _ (c .before .match .keys5))
 
 returns-6 : tie.Need-returns-6
 unfolding find formats
@@ -56,7 +66,9 @@ returns-6 c = at-mark formats (c .before .before .args .s .now) _ _ (c .match .k
 
 returns-7 : tie.Need-returns-7
 unfolding formats
-returns-7 c = c .setting-at .ensures ∙ find-front 13 formats (c .before .before .before .args .s .now) _ (c .before .match .rest)
+returns-7 c =
+    let start : tie.Start = search in
+    c .setting-at .ensures ∙ find-front 13 formats (start .args .s .now) _ (c .before .match .rest)
 
 pub known-at-spec : {M : Type 1} → statement M
 known-at-spec =

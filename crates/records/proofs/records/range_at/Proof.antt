@@ -10,13 +10,19 @@ u16-at-requires : tie.Need-u16-at-requires
 u16-at-requires c κs = within _ 14 _ tt (c .before .before .pre)
 
 u32-at-requires-2 : tie.Need-u32-at-requires-2
-u32-at-requires-2 c κs = within _ 14 _ tt (c .before .before .before .pre)
+u32-at-requires-2 c κs =
+    let start : tie.Start = search in
+    within _ 14 _ tt (start .pre)
 
 u16-at-requires-2 : tie.Need-u16-at-requires-2
-u16-at-requires-2 c κs = within _ 14 _ tt (c .before .before .before .before .pre)
+u16-at-requires-2 c κs =
+    let start : tie.Start = search in
+    within _ 14 _ tt (start .pre)
 
 returns : tie.Need-returns
-returns c = rw (c .u16-at2 .ensures, c .before .u32-at2 .ensures, c .before .before .u16-at .ensures, c .before .before .before .u32-at .ensures)
+returns c =
+    let after-u32-at : tie.After-u32-at = search in
+    rw (c .u16-at2 .ensures, c .before .u32-at2 .ensures, c .before .before .u16-at .ensures, after-u32-at .u32-at .ensures)
 
 pub range-at-spec : {M : Type 1} → statement M
 range-at-spec =

@@ -20,7 +20,9 @@ known-at-requires : tie.Need-known-at-requires
 known-at-requires c κs = rw (← c .before .size-of .ensures) (c .if2 .left)
 
 returns-3 : tie.Need-returns-3
-returns-3 c = step-whole _ _ _ _ (c .before .before .before .u16-at .ensures) (c .before .before .size-of .ensures) (c .before .if2 .left) (c .known-at .ensures)
+returns-3 c =
+    let after-u16-at : tie.After-u16-at = search in
+    step-whole _ _ _ _ (after-u16-at .u16-at .ensures) (c .before .before .size-of .ensures) (c .before .if2 .left) (c .known-at .ensures)
 
 pub read-record-spec : {M : Type 1} → statement M
 read-record-spec =

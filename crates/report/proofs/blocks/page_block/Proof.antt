@@ -34,30 +34,31 @@ returns c =
 
 page-at-requires : tie.Need-page-at-requires Inv-loop μ-loop
 page-at-requires c κs =
-    let t = c .before .before .before .before .before in
+    let t : tie.In-loop Inv-loop μ-loop = search in
     let l = t .before in
     let o = open-told (l .loop .next) (l .loop .end) _ _ (t .loop-test .taken) in
     omega (arith, o .0)
 
 add-next : tie.Need-add-next Inv-loop μ-loop
 add-next c =
-    let t = c .before .before .before .before .before .before in
+    let t : tie.In-loop Inv-loop μ-loop = search in
     let l = t .before in
     omega (arith, open-told (l .loop .next) (l .loop .end) _ _ (t .loop-test .taken) .1)
 
 loop-less : tie.Need-loop-less Inv-loop μ-loop
 loop-less c =
-    let t = c .before .before .before .before .before .before in
+    let t : tie.In-loop Inv-loop μ-loop = search in
     let l = t .before in
     omega (arith, open-told (l .loop .next) (l .loop .end) _ _ (t .loop-test .taken) .1)
 
 loop-again : tie.Need-loop-again Inv-loop μ-loop
 loop-again c =
-    let t = c .before .before .before .before .before .before in
+    let t : tie.In-loop Inv-loop μ-loop = search in
+    let n : tie.After-page-numbered Inv-loop μ-loop = search in
+    let after-answer : tie.After-answer Inv-loop μ-loop = search in
     let l = t .before in
-    let n = c .before .before .before .before .before in
     let o = open-told (l .loop .next) (l .loop .end) _ _ (t .loop-test .taken) in
-    telling-more _ _ _ _ _ _ _ (l .loop .inv) (n .page-numbered .result) (n .page-numbered .ensures) _ _ _ (c .before .before .before .answer .given .1) (omega (arith, o .0)) (c .page-at .ensures .1) (omega arith) (c .page-at .kept .0) (c .page-at .ensures .0)
+    telling-more _ _ _ _ _ _ _ (l .loop .inv) (n .page-numbered .result) (n .page-numbered .ensures) _ _ _ (after-answer .answer .given .1) (omega (arith, o .0)) (c .page-at .ensures .1) (omega arith) (c .page-at .kept .0) (c .page-at .ensures .0)
 
 returns-2 : tie.Need-returns-2 Inv-loop μ-loop
 returns-2 c =

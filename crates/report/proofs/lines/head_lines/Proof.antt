@@ -29,16 +29,18 @@ refusal-line-requires c κs = search needs
 returns : tie.Need-returns
 unfolding headLines
 returns c =
+    let after-planning : tie.After-planning = search in
+    let p : tie.After-plan-line = search in
     let n = c .notes-line in
-    let p = c .before .before .before in
-    let g = p .before .before .before .planning .given in
+    let g = after-planning .planning .given in
     (and-then [] (take (p .plan-line .result) (p .plan-line .last .0)) _ _ _ (p .plan-line .ensures .0) (n .ensures .0) ∙ ap (λ (l : Planning). headLines (planOutcome l)) (sym (g .1)), counts (n .result) (n .last .0) (omega arith))
 
 returns-2 : tie.Need-returns-2
 unfolding headLines
 returns-2 c =
+    let after-planning2 : tie.After-planning2 = search in
     let n = c .refusal-line in
-    let g = c .before .before .before .planning2 .given in
+    let g = after-planning2 .planning2 .given in
     (n .ensures .0 ∙ ap (λ (l : Planning). headLines (planOutcome l)) (sym (g .1)), counts (n .result) (n .last .0) (omega arith))
 
 pub head-lines-spec : {M : Type 1} → statement M

@@ -19,10 +19,11 @@ same-length c = search needs
 
 returns : tie.Need-returns
 returns c =
+    let start : tie.Start = search in
+    let t : tie.After-text = search in
+    let n : tie.After-numbers = search in
     let b = c .before .before in
-    let n = b .before .before .before .before in
-    let t = n .before .before .before .before in
-    let a = t .before .before .before .before .before .args in
+    let a = start .args in
     (line-put (a .out .now) (t .text .last .0) (n .numbers .last .0) (b .byte .last .0) (a .at) (t .text .result) (n .numbers .result) (b .byte .result) (a .word .now) (a .list .now) (t .text .ensures .0) (n .numbers .ensures .0) (b .byte .ensures .0), omega arith)
 
 pub line-spec : {M : Type 1} → statement M

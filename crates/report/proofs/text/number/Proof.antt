@@ -22,9 +22,9 @@ slice-aggregate-text c = search needs
 
 text-requires : tie.Need-text-requires
 text-requires c κs =
-    let b = c .before .before .before .before in
+    let s : tie.Start = search in
+    let b : tie.After-byte = search in
     let d = b .before .before in
-    let s = d .before .before .before in
     let same : length (b .byte .last .0) ≡ length (s .args .out .now) = b .byte .kept .0 in
     let few = fewest-twenty (s .args .n) (d .decimal .result) (s .fits .n .fits) (d .decimal .ensures .1 .0) in
     omega arith
@@ -34,10 +34,10 @@ same-length c = search needs
 
 returns : tie.Need-returns
 returns c =
+    let s : tie.Start = search in
+    let b : tie.After-byte = search in
     let t = c .before .before in
-    let b = t .before .before .before .before .before in
     let d = b .before .before in
-    let s = d .before .before .before in
     let few = fewest-twenty (s .args .n) (d .decimal .result) (s .fits .n .fits) (d .decimal .ensures .1 .0) in
     (number-put (s .args .out .now) (b .byte .last .0) (t .text .last .0) (s .args .at) (b .byte .result) (t .text .result) (s .args .n) (d .decimal .result) (d .decimal .last .1 .0) (d .decimal .ensures .1) (b .byte .ensures .0) (t .text .ensures .0), omega arith)
 

@@ -24,7 +24,8 @@ shared-slice-read-number c = search needs
 
 number-requires : tie.Need-number-requires Inv-loop μ-loop
 number-requires c κs =
-    let w = c .before .before .before .loop .inv in
+    let at-loop : tie.At-loop Inv-loop μ-loop = search in
+    let w = at-loop .loop .inv in
     omega (arith, w .short, w .same)
 
 add-i : tie.Need-add-i Inv-loop μ-loop
@@ -35,9 +36,10 @@ loop-less c = search needs
 
 loop-again : tie.Need-loop-again Inv-loop μ-loop
 loop-again c =
+    let l : tie.At-loop Inv-loop μ-loop = search in
+    let in-loop : tie.In-loop Inv-loop μ-loop = search in
     let n = c .before .before in
-    let l = n .before .before .before .before in
-    told-more _ _ _ _ _ _ _ _ (n .before .before .before .loop-test .taken) (l .loop .inv) (n .number .ensures .0) (n .number .ensures .1) (n .number .kept .0)
+    told-more _ _ _ _ _ _ _ _ (in-loop .loop-test .taken) (l .loop .inv) (n .number .ensures .0) (n .number .ensures .1) (n .number .kept .0)
 
 same-length : tie.Need-same-length Inv-loop μ-loop
 same-length c = c .before .loop .inv .same

@@ -31,7 +31,9 @@ loop-less : tie.Need-loop-less Inv-loop μ-loop
 loop-less c = search needs
 
 loop-again : tie.Need-loop-again Inv-loop μ-loop
-loop-again c = copied-more _ _ _ _ _ (c .before .before .before .pre) (c .before .loop-test .taken) (c .before .before .loop .inv)
+loop-again c =
+    let start : tie.Start Inv-loop μ-loop = search in
+    copied-more _ _ _ _ _ (start .pre) (c .before .loop-test .taken) (c .before .before .loop .inv)
 
 add-result : tie.Need-add-result Inv-loop μ-loop
 add-result c = search needs
