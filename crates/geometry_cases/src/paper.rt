@@ -8,7 +8,7 @@ use geometry::Margins;
 use geometry::Paper;
 use geometry::PaperGeometry;
 use geometry::Setting;
-use records::float;
+use job_records::float;
 
 fn upright(code: u16) -> Paper {
     geometry::paper_geometry(Setting::Given(code), false)

@@ -5,23 +5,23 @@ use mathlib.Core.List.{List}
 use Prim.Native.Nat.{ℕ}
 use lib.ListN.{take}
 use Rattle.units.specs.Outcome.{Outcome, given, refused, andThen}
-use Rattle.rules.specs.declared.plan.Settings.{Settings}
-use Rattle.rules.specs.Questions.{ask, equallyLong}
-use Rattle.rules.specs.Pages.{RunLists, evenLists}
-use Rattle.rules.specs.Plan.{AxisInput, Layout, formed, planned}
-use Rattle.rules.proofs.QuestionLaws.{both}
-use Rattle.rules.proofs.PlanLaws.{formed-of}
+use Rattle.planner_rules.specs.declared.planning.Settings.{Settings}
+use Rattle.planner_rules.specs.Questions.{ask, equallyLong}
+use Rattle.planner_rules.specs.Pages.{RunLists, evenLists}
+use Rattle.planner_rules.specs.Plan.{AxisInput, Layout, formed, planned}
+use Rattle.planner_rules.proofs.QuestionLaws.{both}
+use Rattle.planner_rules.proofs.PlanLaws.{formed-of}
 use Rattle.job_questions.specs.declared.Items.{Items}
-use Rattle.reader.specs.declared.lists.Job.{Job}
-use Rattle.reader.specs.declared.lists.Reading.the-variants.{Value}
-use Rattle.records.specs.Records.{RW, CL, MR, BR, BC, records}
+use Rattle.job_reader.specs.declared.lists.Job.{Job}
+use Rattle.job_reader.specs.declared.lists.Reading.the-variants.{Value}
+use Rattle.job_records.specs.Records.{RW, CL, MR, BR, BC, records}
 use Rattle.job_questions.specs.Verdict.{questions, question6, inOrder, itemsOf, verdictLent}
-use Rattle.reader.specs.Reading.{Lists, evenLists as itemsEven, roomIn, asked, jobOf, readJob, JobRead}
+use Rattle.job_reader.specs.Reading.{Lists, evenLists as itemsEven, roomIn, asked, jobOf, readJob, JobRead}
 use Rattle.job_questions.proofs.PassLaws.{All}
-use Rattle.reader.proofs.ReadingLaws.{in-order-given, all-given}
-use Rattle.reader.proofs.ItemRoom.{all-in-order}
+use Rattle.job_reader.proofs.ReadingLaws.{in-order-given, all-given}
+use Rattle.job_reader.proofs.ItemRoom.{all-in-order}
 use Rattle.job_settings.specs.Meaning.{settingsFor}
-use Rattle.job.specs.Plan.{rowsRead, columnsRead, jobSettings, jobRows, jobColumns, planJob}
+use Rattle.job.specs.PlanJob.{rowsRead, columnsRead, jobSettings, jobRows, jobColumns, planJob}
 use Rattle.job.proofs.JobLaws.{front, settings-for, rows-for, columns-for}
 
 -- run lists that are not equally long are refused with 6, by the questions of a job

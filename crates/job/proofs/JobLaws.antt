@@ -8,31 +8,31 @@ use lib.ListN.{length, take, length-map, length-append}
 use lib.Seq.{length-take-le}
 use borrow.Author.Tests.{eq-eqb}
 use Rattle.units.specs.Outcome.{Outcome, given, refused, andThen}
-use Rattle.rules.specs.declared.pages.Plan.{Plan}
-use Rattle.rules.specs.declared.plan.Settings.{Settings}
-use Rattle.rules.specs.declared.plan.PrintRange.{PrintRange}
-use Rattle.rules.specs.declared.plan.Planning.{Planning}
-use Rattle.rules.specs.declared.plan.Planning.the-variants.{Refused}
-use Rattle.rules.specs.Slots.{written}
-use Rattle.rules.specs.Partition.{lent}
-use Rattle.rules.specs.Pages.{RunLists, evenLists}
-use Rattle.rules.specs.Plan.{AxisInput, Layout, rowsOf, columnsOf, planned}
-use Rattle.rules.proofs.Lent.{front-written}
-use Rattle.rules.proofs.PlanLaws.{refuses-plan}
+use Rattle.planner_rules.specs.declared.pages.Plan.{Plan}
+use Rattle.planner_rules.specs.declared.planning.Settings.{Settings}
+use Rattle.planner_rules.specs.declared.planning.PrintRange.{PrintRange}
+use Rattle.planner_rules.specs.declared.planning.Planning.{Planning}
+use Rattle.planner_rules.specs.declared.planning.Planning.the-variants.{Refused}
+use Rattle.planner_rules.specs.Slots.{written}
+use Rattle.planner_rules.specs.Partition.{lent}
+use Rattle.planner_rules.specs.Pages.{RunLists, evenLists}
+use Rattle.planner_rules.specs.Plan.{AxisInput, Layout, rowsOf, columnsOf, planned}
+use Rattle.planner_rules.proofs.Lent.{front-written}
+use Rattle.planner_rules.proofs.PlanLaws.{refuses-plan}
 use Rattle.job_questions.specs.declared.Items.{Items}
 use Rattle.job_questions.specs.declared.Checked.the-variants as checked
 use Rattle.job_settings.specs.declared.JobSettings.{JobSettings}
-use Rattle.reader.specs.declared.lists.Job.{Job}
-use Rattle.reader.specs.declared.lists.Reading.{Reading}
-use Rattle.reader.specs.declared.lists.Reading.the-variants as reading
-use Rattle.records.specs.Records.{RW, CL, MR, BR, BC, records, marked, values, field}
+use Rattle.job_reader.specs.declared.lists.Job.{Job}
+use Rattle.job_reader.specs.declared.lists.Reading.{Reading}
+use Rattle.job_reader.specs.declared.lists.Reading.the-variants as reading
+use Rattle.job_records.specs.Records.{RW, CL, MR, BR, BC, records, marked, values, field}
 use Rattle.job_questions.specs.Verdict.{verdictLent, question1, questions, itemsOf}
-use Rattle.reader.specs.Settings.{settingsOf}
-use Rattle.reader.specs.Reading.{Lists, lists, evenLists as itemsEven, roomIn, fitIn, readJob, jobOf, readingOutcome, JobRead}
-use Rattle.reader.proofs.ReadingLaws.{all-given, admit-no, job-refused as not-read}
-use Rattle.reader.proofs.ItemRoom.{Brings, items-fit, all-answered, read-whole}
+use Rattle.job_reader.specs.Settings.{settingsOf}
+use Rattle.job_reader.specs.Reading.{Lists, lists, evenLists as itemsEven, roomIn, fitIn, readJob, jobOf, readingOutcome, JobRead}
+use Rattle.job_reader.proofs.ReadingLaws.{all-given, admit-no, job-refused as not-read}
+use Rattle.job_reader.proofs.ItemRoom.{Brings, items-fit, all-answered, read-whole}
 use Rattle.job_settings.specs.Meaning.{settingsFor, rangeFor}
-use Rattle.job.specs.Plan.{rowsRead, columnsRead, jobSettings, jobRows, jobColumns, planJob, planEven, Told, Filled, rowsFrom, columnsFrom, ReadPlanned, EvenPlanned}
+use Rattle.job.specs.PlanJob.{rowsRead, columnsRead, jobSettings, jobRows, jobColumns, planJob, planEven, Told, Filled, rowsFrom, columnsFrom, ReadPlanned, EvenPlanned}
 
 -- ---- the four clauses
 

@@ -6,15 +6,15 @@ use Prim.Native.Nat.{ℕ, _≤_, _<_}
 use native.Mathlib.Omega.{arith}
 use lib.ListN.{length, length-map}
 use Rattle.units.specs.Outcome.{Outcome, given, refused, andThen}
-use Rattle.rules.specs.Pages.{RunLists, evenLists}
-use Rattle.rules.specs.Plan.{planned}
-use Rattle.rules.proofs.NoTen.{never-ten, plan-numbers}
-use Rattle.rules.proofs.RunCount.{never-eleven}
+use Rattle.planner_rules.specs.Pages.{RunLists, evenLists}
+use Rattle.planner_rules.specs.Plan.{planned}
+use Rattle.planner_rules.proofs.NoTen.{never-ten, plan-numbers}
+use Rattle.planner_rules.proofs.RunCount.{never-eleven}
 use Rattle.job_questions.specs.declared.Items.{Items}
-use Rattle.records.specs.Records.{RW, CL, field, records, marked}
+use Rattle.job_records.specs.Records.{RW, CL, field, records, marked}
 use Rattle.job_questions.specs.Verdict.{verdictLent}
-use Rattle.reader.proofs.ItemRoom.{verdict-even, few-rows, few-columns, verdict-low}
-use Rattle.job.specs.Plan.{jobSettings, jobRows, jobColumns, planJob}
+use Rattle.job_reader.proofs.ItemRoom.{verdict-even, few-rows, few-columns, verdict-low}
+use Rattle.job.specs.PlanJob.{jobSettings, jobRows, jobColumns, planJob}
 
 -- a job that is refused with a number past 9 was questioned with yes, and its plan was refused
 module _ (s : List ℕ) (rows columns : RunLists) (k : ℕ) (h : 9 < k) (e : planJob s rows columns ≡ refused k) where

@@ -1,2 +1,2 @@
 -- What the contracts of `job` cite.
-pub mod Plan
+pub mod PlanJob

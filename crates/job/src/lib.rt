@@ -1,4 +1,4 @@
 // Jobs as bytes, planned: document 01, sections "Jobs" and "Questions in order". Reading and planning are seen by their promises only.
-mod plan;
+mod bytes;
 
-pub use plan::plan_job;
+pub use bytes::plan_job;

@@ -3,12 +3,12 @@ use crate::block;
 use crate::block::BLOCK;
 use crate::block::LINE;
 use job::plan_job;
-use pages::page_numbered;
-use report::head_lines;
-use report::page_line;
-use rules::PageAnswer;
-use rules::Plan;
-use rules::Planning;
+use job_report::head_lines;
+use job_report::page_line;
+use planner_pages::page_numbered;
+use planner_rules::PageAnswer;
+use planner_rules::Plan;
+use planner_rules::Planning;
 
 // The entries of a run list.
 const RUNS: usize = 5000;

@@ -1,8 +1,8 @@
 // Answers lines of input. A line is the number of a job's bytes as eight hexadecimal digits, the bytes as two digits each, and a line end.
 use crate::planned::print_plan;
+use hexadecimal::bits;
 use libc::STDIN_FILENO;
 use libc::STDOUT_FILENO;
-use lines::bits;
 ghost use Prim.Native.Nat.{_≤_, _<_};
 
 // The most bytes that are read: one more than a job may have.

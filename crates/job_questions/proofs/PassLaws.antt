@@ -10,18 +10,18 @@ use lib.Dec.{ltb, eqb}
 use lib.ListN.{length, take, drop}
 use borrow.Author.Tests.{le-leb, lt-leb, lt-ltb, eq-eqb, ne-eqb}
 use Rattle.units.specs.Outcome.{refused}
-use Rattle.records.specs.declared.records.Record.{Record}
-use Rattle.records.specs.declared.records.Record.the-variants.{Paper, Landscape, Margin, Scale, Wide, High, Fit, Order, Headings, Limit, Area, TitleRows, TitleColumns, Row, Column, Merged, RowBreak, ColumnBreak, End}
-use Rattle.records.specs.declared.records.Step.{Step}
-use Rattle.records.specs.declared.records.Step.the-variants.{Read, Nothing}
+use Rattle.job_records.specs.declared.records.Record.{Record}
+use Rattle.job_records.specs.declared.records.Record.the-variants.{Paper, Landscape, Margin, Scale, Wide, High, Fit, Order, Headings, Limit, Area, TitleRows, TitleColumns, Row, Column, Merged, RowBreak, ColumnBreak, End}
+use Rattle.job_records.specs.declared.records.Step.{Step}
+use Rattle.job_records.specs.declared.records.Step.the-variants.{Read, Nothing}
 use Rattle.job_questions.specs.declared.Items.{Items}
 use Rattle.job_questions.specs.declared.State.{State}
 use Rattle.job_questions.specs.declared.Survey.{Survey}
 use Rattle.job_questions.specs.declared.Survey.the-variants.{Stopped, Whole}
-use Rattle.records.specs.Records.{RW, CL, MR, BR, BC, step, rank, isEnd, goesOn, ended, records, rest, marked, values}
+use Rattle.job_records.specs.Records.{RW, CL, MR, BR, BC, step, rank, isEnd, goesOn, ended, records, rest, marked, values}
 use Rattle.job_questions.specs.Verdict.{asked, every, follows, ordered, isArea, hasArea, flagOk, notReversed, inGrid, sized, rising, lastRow, lastColumn, question1, question2, question3, question4, question5, question6, question7, question8, question9, inOrder, itemsOf}
 use Rattle.job_questions.specs.Pass.{beyond, placed, rowsAfter, columnsAfter, oneMore, counted, Few, start, advanced, after, surveyed, firstNo, answer}
-use Rattle.records.proofs.RecordLaws.{records-more, rest-more, records-stop, rest-stop, step-used, part}
+use Rattle.job_records.proofs.RecordLaws.{records-more, rest-more, records-stop, rest-stop, step-used, part}
 
 -- ---- Bool
 

@@ -8,10 +8,10 @@ use lib.Dec.{leb, ltb, eqb}
 use lib.IntN.{ℤ, pos}
 use lib.Signed.{leZ}
 use Rattle.units.specs.Outcome.{Outcome, given, refused}
-use Rattle.records.specs.Records.{AR, RW, CL, MR, BR, BC, rank, step, ended, records, rest, marked, values}
-use Rattle.records.specs.declared.records.Range.{Range}
-use Rattle.records.specs.declared.records.Record.{Record}
-use Rattle.records.specs.declared.records.Record.the-variants.{Paper, Landscape, Margin, Scale, Wide, High, Fit, Order, Headings, Limit, Area, TitleRows, TitleColumns, Row, Column, Merged, RowBreak, ColumnBreak, End}
+use Rattle.job_records.specs.Records.{AR, RW, CL, MR, BR, BC, rank, step, ended, records, rest, marked, values}
+use Rattle.job_records.specs.declared.records.Range.{Range}
+use Rattle.job_records.specs.declared.records.Record.{Record}
+use Rattle.job_records.specs.declared.records.Record.the-variants.{Paper, Landscape, Margin, Scale, Wide, High, Fit, Order, Headings, Limit, Area, TitleRows, TitleColumns, Row, Column, Merged, RowBreak, ColumnBreak, End}
 use Rattle.job_questions.specs.declared.Asked.{Asked}
 use Rattle.job_questions.specs.declared.Asked.the-variants.{Flag, Cells, InRows, InColumns, Other}
 use Rattle.job_questions.specs.declared.Items.{Items}

@@ -1,14 +1,14 @@
 // The questions 1 to 9 put to a job, in one pass over its records: document 01, section "Questions in order".
-use records::ColumnSlot;
-use records::Range;
-use records::Record;
-use records::RowSlot;
-use records::Step;
-use records::rank_of;
-use records::read_record;
+use job_records::ColumnSlot;
+use job_records::Range;
+use job_records::Record;
+use job_records::RowSlot;
+use job_records::Step;
+use job_records::rank_of;
+use job_records::read_record;
 ghost use mathlib.Core.Path.{_≡_};
 ghost use Prim.Native.Nat.{_+_, _<_, _^_};
-ghost use Rattle.records.specs.Records.{rank};
+ghost use Rattle.job_records.specs.Records.{rank};
 ghost use Rattle.job_questions.specs.Verdict.{asked, follows, firstsOk, gridOk, sizeOk, verdictLent, verdict, checkedOutcome};
 ghost use Rattle.job_questions.specs.Pass.{fine, bothFine, placed, rowsAfter, columnsAfter, oneMore, counted, Few, start, advanced, surveyed, answer};
 

@@ -7,13 +7,13 @@ use Rattle.geometry.specs.declared.paper.Setting.the-variants as number
 use Rattle.geometry.specs.declared.paper.Margins.{Margins}
 use Rattle.geometry.specs.declared.paper.MarginSetting.{MarginSetting}
 use Rattle.geometry.specs.declared.paper.MarginSetting.the-variants as inches
-use Rattle.rules.specs.declared.pages.PageOrder.{PageOrder}
-use Rattle.rules.specs.declared.pages.PageOrder.the-variants.{DownThenOver, OverThenDown}
-use Rattle.rules.specs.declared.plan.Settings.{Settings}
-use Rattle.rules.specs.declared.plan.PrintRange.{PrintRange}
-use Rattle.records.specs.Numbers.{f64Of}
-use Rattle.records.specs.declared.records.Range.{Range}
-use Rattle.records.specs.declared.records.MarginBits.{MarginBits}
+use Rattle.planner_rules.specs.declared.pages.PageOrder.{PageOrder}
+use Rattle.planner_rules.specs.declared.pages.PageOrder.the-variants.{DownThenOver, OverThenDown}
+use Rattle.planner_rules.specs.declared.planning.Settings.{Settings}
+use Rattle.planner_rules.specs.declared.planning.PrintRange.{PrintRange}
+use Rattle.job_records.specs.LittleEndian.{f64Of}
+use Rattle.job_records.specs.declared.records.Range.{Range}
+use Rattle.job_records.specs.declared.records.MarginBits.{MarginBits}
 use Rattle.job_settings.specs.declared.MarginsRead.{MarginsRead}
 use Rattle.job_settings.specs.declared.MarginsRead.the-variants as margins
 use Rattle.job_settings.specs.declared.FlagSetting.{FlagSetting}

@@ -2,13 +2,13 @@
 use geometry::MarginSetting;
 use geometry::Margins;
 use geometry::Setting;
-use records::MarginBits;
-use records::Range;
-use records::float;
-use rules::PageOrder;
-use rules::PrintRange;
-use rules::Settings;
-use rules::Title;
+use job_records::MarginBits;
+use job_records::Range;
+use job_records::float;
+use planner_rules::PageOrder;
+use planner_rules::PrintRange;
+use planner_rules::Settings;
+use planner_rules::Title;
 ghost use mathlib.Core.Path.{_≡_};
 ghost use Rattle.job_settings.specs.Meaning as section;
 

@@ -1,11 +1,11 @@
 // Plans the job on standard input and prints the plan, or `no` and the number of a refusal: document 01, section "Jobs".
 use job::plan_job;
+use job_report::head_lines;
+use job_report::page_block;
 use libc::STDIN_FILENO;
 use libc::STDOUT_FILENO;
-use report::head_lines;
-use report::page_block;
-use rules::Plan;
-use rules::Planning;
+use planner_rules::Plan;
+use planner_rules::Planning;
 
 // One byte more than a job may have: whoever sends so many has sent too many, and no more are read.
 const MOST: usize = 60_001;

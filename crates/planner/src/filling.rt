@@ -2,8 +2,8 @@
 ghost use mathlib.Core.Path.{_≡_};
 ghost use Prim.Native.Nat.{_+_, _*_, _≤_, _<_};
 ghost use lib.ListN.{length, drop};
-ghost use Rattle.rules.specs.Slots.{Small, sum};
-ghost use Rattle.rules.specs.Runs.{more, natural};
+ghost use Rattle.planner_rules.specs.Slots.{Small, sum};
+ghost use Rattle.planner_rules.specs.Runs.{more, natural};
 
 // The slots that a run has so far, and their sum.
 struct Filling {

@@ -1,12 +1,12 @@
 // Runs that exceed their page: document 01, section "Pages".
 use crate::scale::fits_side;
 use crate::scale::printed;
-use rules::PageSide;
-use rules::Title;
+use planner_rules::PageSide;
+use planner_rules::Title;
 ghost use mathlib.Core.Path.{_≡_};
 ghost use lib.ListN.{length};
-ghost use Rattle.rules.specs.Scale.{spaceOf, Low};
-ghost use Rattle.rules.specs.Pages as section;
+ghost use Rattle.planner_rules.specs.Scale.{spaceOf, Low};
+ghost use Rattle.planner_rules.specs.Pages as section;
 
 // How many runs exceed the content side, scaled and rounded.
 pub(crate) fn overflowing_runs(

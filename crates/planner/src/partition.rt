@@ -2,20 +2,20 @@
 use crate::places::place_of;
 use crate::runs::count_axis;
 use crate::runs::write_axis;
-use questions::lists_even;
-use questions::partition_refusal;
-use questions::wide;
-use rules::Axis;
-use rules::AxisSetup;
-use rules::Frame;
-use rules::Partition;
-use rules::Tally;
-use titles::body_start;
+use planner_compare::wide;
+use planner_questions::lists_even;
+use planner_questions::partition_refusal;
+use planner_rules::Axis;
+use planner_rules::AxisSetup;
+use planner_rules::Frame;
+use planner_rules::Partition;
+use planner_rules::Tally;
+use planner_titles::body_start;
 ghost use lib.ListN.{length};
-ghost use Rattle.rules.specs.Slots.{Slots};
-ghost use Rattle.rules.specs.Titles.{limitOf};
-ghost use Rattle.rules.specs.Runs.{axisRuns, axisTally};
-ghost use Rattle.rules.specs.Partition as call;
+ghost use Rattle.planner_rules.specs.Slots.{Slots};
+ghost use Rattle.planner_rules.specs.Titles.{limitOf};
+ghost use Rattle.planner_rules.specs.Runs.{axisRuns, axisTally};
+ghost use Rattle.planner_rules.specs.Partition as call;
 
 // Cuts slots into runs, counted before any is written.
 fn partition_slots(

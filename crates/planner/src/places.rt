@@ -1,12 +1,12 @@
 // Places among the slots of an axis, whose indexes rise: searches by halving, as the Rust's. Document 01, section "Runs".
-use questions::wide;
-use rules::Cut;
-use rules::Held;
+use planner_compare::wide;
+use planner_rules::Cut;
+use planner_rules::Held;
 ghost use mathlib.Core.Path.{_≡_};
 ghost use Prim.Native.Nat.{_≤_};
 ghost use lib.ListN.{length};
-ghost use Rattle.rules.specs.Slots.{Rising, below};
-ghost use Rattle.rules.specs.Runs.{moved};
+ghost use Rattle.planner_rules.specs.Slots.{Rising, below};
+ghost use Rattle.planner_rules.specs.Runs.{moved};
 
 // How many slots have an index below the limit.
 pub(crate) fn place_of(indexes: &[u32], limit: u64) -> usize

@@ -6,50 +6,51 @@ use crate::runs::write_axis;
 use crate::scale::fit_scale;
 use crate::scale::frame_at;
 use crate::title::title_total;
-use cuts::final_cut;
-use questions::lists_even;
-use questions::plan_refusal;
-use questions::room_refusal;
-use questions::wide;
-use rules::AxisRange;
-use rules::ChosenScale;
-use rules::ContentSides;
-use rules::FinalCut;
-use rules::Fit;
-use rules::Frame;
-use rules::Notes;
-use rules::PageSide;
-use rules::Plan;
-use rules::Planning;
-use rules::PrintRange;
-use rules::Ready;
-use rules::Settings;
-use rules::SidesFound;
-use rules::Stretch;
-use rules::Title;
-use setup::column_range;
-use setup::content_sides;
-use setup::fixed_scale;
-use setup::looked_at;
-use setup::row_range;
-use titles::body_start;
-use titles::widened_title;
+use planner_compare::longer;
+use planner_compare::wide;
+use planner_cuts::final_cut;
+use planner_questions::lists_even;
+use planner_questions::plan_refusal;
+use planner_questions::room_refusal;
+use planner_rules::AxisRange;
+use planner_rules::ChosenScale;
+use planner_rules::ContentSides;
+use planner_rules::FinalCut;
+use planner_rules::Fit;
+use planner_rules::Frame;
+use planner_rules::Notes;
+use planner_rules::PageSide;
+use planner_rules::Plan;
+use planner_rules::Planning;
+use planner_rules::PrintRange;
+use planner_rules::Ready;
+use planner_rules::Settings;
+use planner_rules::SidesFound;
+use planner_rules::Stretch;
+use planner_rules::Title;
+use planner_setup::column_range;
+use planner_setup::content_sides;
+use planner_setup::fixed_scale;
+use planner_setup::looked_at;
+use planner_setup::row_range;
+use planner_titles::body_start;
+use planner_titles::widened_title;
 use units::Fixed;
 ghost use mathlib.Core.Path.{_≡_};
 ghost use mathlib.Core.Bool.{cond, _&&_};
 ghost use mathlib.Core.List.{[]};
 ghost use Prim.Native.Nat.{_+_, _≤_, _^_, max};
 ghost use lib.ListN.{length};
-ghost use Rattle.rules.specs.Slots.{Slots};
-ghost use Rattle.rules.specs.Runs.{axisRuns};
-ghost use Rattle.rules.specs.Lent.{Room, Written};
-ghost use Rattle.rules.specs.Partition.{Even};
-ghost use Rattle.rules.specs.Scale.{fixedScale, fitScale, spaceOf, scaleOf, fitPasses};
-ghost use Rattle.rules.specs.Pages.{none, orEmpty, overflowing};
-ghost use Rattle.rules.specs.Demand.{CoversPairs, FewestPlan, LargestPlan};
-ghost use Rattle.rules.specs.Lent as lists;
-ghost use Rattle.rules.specs.Pages as pages;
-ghost use Rattle.rules.specs.Plan as call;
+ghost use Rattle.planner_rules.specs.Slots.{Slots};
+ghost use Rattle.planner_rules.specs.Runs.{axisRuns};
+ghost use Rattle.planner_rules.specs.Lent.{Room, Written};
+ghost use Rattle.planner_rules.specs.Partition.{Even};
+ghost use Rattle.planner_rules.specs.Scale.{fixedScale, fitScale, spaceOf, scaleOf, fitPasses};
+ghost use Rattle.planner_rules.specs.Pages.{none, orEmpty, overflowing};
+ghost use Rattle.planner_rules.specs.Demand.{CoversPairs, FewestPlan, LargestPlan};
+ghost use Rattle.planner_rules.specs.Lent as lists;
+ghost use Rattle.planner_rules.specs.Pages as pages;
+ghost use Rattle.planner_rules.specs.Plan as call;
 
 // Widens the title of an axis and finds the body.
 fn ready_axis(
@@ -85,16 +86,10 @@ fn ready_axis(
             target: axis.target,
         },
         from,
-        to: later(from, end),
+        to: longer(from, end),
         ignored: widened.ignored,
         expanded: widened.expanded,
     }
-}
-
-fn later(a: usize, b: usize) -> usize
-    ensures { λ r. ⌜ r ≡ max a b ⌝ }
-{
-    if a < b { b } else { a }
 }
 
 // The scale of a plan: by fitting, or by percent.

@@ -1,24 +1,24 @@
 // How large a worksheet is printed: document 01, section "Scale".
 use crate::filling::total;
 use crate::runs::run_end;
-use rules::ChosenScale;
-use rules::Fit;
-use rules::Frame;
-use rules::PageSide;
-use rules::Title;
-use setup::meets_target;
-use setup::middle_of;
+use planner_rules::ChosenScale;
+use planner_rules::Fit;
+use planner_rules::Frame;
+use planner_rules::PageSide;
+use planner_rules::Title;
+use planner_setup::meets_target;
+use planner_setup::middle_of;
 use units::Fixed;
 use units::Length;
 ghost use mathlib.Core.Path.{_≡_};
 ghost use mathlib.Core.Bool.{_&&_};
 ghost use Prim.Native.Nat.{_+_, _≤_, _^_};
 ghost use lib.ListN.{length};
-ghost use Rattle.rules.specs.Slots.{Slots};
-ghost use Rattle.rules.specs.Runs.{runs};
-ghost use Rattle.rules.specs.Scale.{capacityOf, fitsSide, allFit, meets, halve, fitScale, spaceOf, scaleOf, titled, Low, fitPasses, Fitted};
-ghost use Rattle.rules.specs.Plan.{readyFrame};
-ghost use Rattle.rules.specs.Scale as section;
+ghost use Rattle.planner_rules.specs.Slots.{Slots};
+ghost use Rattle.planner_rules.specs.Runs.{runs};
+ghost use Rattle.planner_rules.specs.Scale.{capacityOf, fitsSide, allFit, meets, halve, fitScale, spaceOf, scaleOf, titled, Low, fitPasses, Fitted};
+ghost use Rattle.planner_rules.specs.Plan.{readyFrame};
+ghost use Rattle.planner_rules.specs.Scale as section;
 
 // The capacity at a permille beside so many units of titles.
 fn capacity_at(page: PageSide, permille: u16, titles: u64) -> u64

@@ -1,11 +1,11 @@
 // What a title takes of a page: document 01, section "Titles".
 use crate::filling::total;
 use crate::places::place_of;
-use questions::wide;
-use rules::Title;
+use planner_compare::wide;
+use planner_rules::Title;
 ghost use mathlib.Core.Path.{_≡_};
-ghost use Rattle.rules.specs.Slots.{Slots};
-ghost use Rattle.rules.specs.Titles.{titleTotal};
+ghost use Rattle.planner_rules.specs.Slots.{Slots};
+ghost use Rattle.planner_rules.specs.Titles.{titleTotal};
 
 // The sum of the measured slots in the title.
 pub(crate) fn title_total(title: Title, indexes: &[u32], sizes: &[u64]) -> u64

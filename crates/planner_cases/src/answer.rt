@@ -1,10 +1,10 @@
 // An answer as text, in an array that takes one line. What does not fit is left out.
-use crate::numbers::wide;
-use crate::numbers::wider;
 use crate::text::word;
-use rules::Partition;
-use rules::Title;
-use rules::Widening;
+use crate::widths::wide;
+use crate::widths::wider;
+use planner_rules::Partition;
+use planner_rules::Title;
+use planner_rules::Widening;
 
 // The bytes that a line has room for.
 pub const LINE: usize = 4096;

@@ -12,7 +12,7 @@ use crate::lists::read_numbers;
 use crate::lists::read_sizes;
 use crate::lists::sizes_from;
 use libc::STDIN_FILENO;
-use rules::Partition;
+use planner_rules::Partition;
 
 fn title(
     line: &[u8; HEAD],
@@ -26,7 +26,10 @@ fn title(
     let l = &lasts[..];
     let axis = head::axis(line);
     let given = head::title(line);
-    answer::widening(out, titles::widen_title(axis, given, &f[0..n], &l[0..m]))
+    answer::widening(
+        out,
+        planner_titles::widen_title(axis, given, &f[0..n], &l[0..m]),
+    )
 }
 
 // Reads a title and its merges, and answers it.

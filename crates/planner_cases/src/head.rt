@@ -6,11 +6,11 @@
 //     8   the range's first and last, the title's first and last
 //     16  capacity untitled, capacity titled
 use crate::lists::MOST;
-use crate::numbers::low;
-use lines::bits;
-use rules::Axis;
-use rules::AxisSetup;
-use rules::Title;
+use crate::widths::low;
+use hexadecimal::bits;
+use planner_rules::Axis;
+use planner_rules::AxisSetup;
+use planner_rules::Title;
 ghost use Prim.Native.Nat.{_≤_, _<_};
 
 // The bytes of a head.

@@ -1,7 +1,7 @@
 // Lists of a line: read from standard input, or lent with numbers of their own.
-use crate::numbers::low;
+use crate::widths::low;
+use hexadecimal::bits;
 use libc::STDIN_FILENO;
-use lines::bits;
 ghost use Prim.Native.Nat.{_≤_, _<_};
 
 // The most that a list holds.

@@ -5,13 +5,13 @@ mod axes;
 mod head;
 mod lists;
 mod numbered;
-mod numbers;
 mod page_head;
 mod page_text;
 mod plan_head;
 mod plans;
 mod replay;
 mod text;
+mod widths;
 
 use text::word;
 

@@ -31,7 +31,7 @@ fn with_columns(
     let b = length(line, 5);
     let c = length(line, 6);
     let d = length(line, 7);
-    let answer = pages::page_numbered(
+    let answer = planner_pages::page_numbered(
         head::plan(line),
         head::number(line),
         row_firsts,

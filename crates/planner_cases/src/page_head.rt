@@ -5,10 +5,10 @@
 //     2   eight lengths: row runs' firsts, lasts, sizes and marks, and column runs'
 //     16  row runs, column runs, pages, and the number of the page
 use crate::lists::MOST;
-use lines::bits;
-use rules::Notes;
-use rules::PageOrder;
-use rules::Plan;
+use hexadecimal::bits;
+use planner_rules::Notes;
+use planner_rules::PageOrder;
+use planner_rules::Plan;
 ghost use Prim.Native.Nat.{_≤_, _<_};
 
 // The bytes of a head.

@@ -7,14 +7,14 @@ use crate::answer::number;
 use crate::answer::refusal;
 use crate::answer::run_lists;
 use crate::answer::text;
-use crate::numbers::wide;
-use rules::Notes;
-use rules::Page;
-use rules::PageAnswer;
-use rules::PageOrder;
-use rules::PageRun;
-use rules::Plan;
-use rules::Planning;
+use crate::widths::wide;
+use planner_rules::Notes;
+use planner_rules::Page;
+use planner_rules::PageAnswer;
+use planner_rules::PageOrder;
+use planner_rules::PageRun;
+use planner_rules::Plan;
+use planner_rules::Planning;
 
 // The most pages of which each is asked for.
 const FEW: u64 = 12;
@@ -132,7 +132,7 @@ fn each_page(
     let mut k = 0;
     while k < count {
         let n = asked_at(p.pages, k);
-        let answer = pages::page_numbered(
+        let answer = planner_pages::page_numbered(
             p,
             n,
             row_firsts,

@@ -8,15 +8,15 @@
 //         first and last, the column title's first and last
 //     16  the page limit
 use crate::lists::MOST;
-use crate::numbers::low;
-use crate::numbers::lower;
+use crate::widths::low;
+use crate::widths::lower;
 use geometry::MarginSetting;
 use geometry::Setting;
-use lines::bits;
-use rules::PageOrder;
-use rules::PrintRange;
-use rules::Settings;
-use rules::Title;
+use hexadecimal::bits;
+use planner_rules::PageOrder;
+use planner_rules::PrintRange;
+use planner_rules::Settings;
+use planner_rules::Title;
 ghost use Prim.Native.Nat.{_≤_, _<_};
 
 // The bytes of a head.

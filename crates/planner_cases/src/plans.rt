@@ -13,10 +13,10 @@ use crate::plan_head::HEAD;
 use crate::plan_head::length;
 use geometry::MarginSetting;
 use geometry::Margins;
+use job_records::float;
 use libc::STDIN_FILENO;
-use records::float;
-use rules::Planning;
-use rules::Settings;
+use planner_rules::Planning;
+use planner_rules::Settings;
 
 fn margins(read: &[u64; MOST]) -> Margins {
     Margins {

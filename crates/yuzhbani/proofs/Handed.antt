@@ -5,24 +5,24 @@ use mathlib.Core.List.{List, [], _∷_}
 use Prim.Native.Nat.{ℕ, zero, suc, _≤_}
 use native.Mathlib.Omega.{arith}
 use Rattle.units.specs.Outcome.{Outcome, given, refused, andThen}
-use Rattle.rules.specs.declared.pages.PageAnswer.{PageAnswer}
-use Rattle.rules.specs.declared.pages.Plan.{Plan}
-use Rattle.rules.specs.declared.plan.Settings.{Settings}
-use Rattle.rules.specs.declared.plan.Planning.{Planning}
-use Rattle.rules.specs.declared.plan.Planning.the-variants.{Value, Refused}
-use Rattle.rules.specs.Pages.{RunLists, evenLists, pageNumbered, pageOutcome}
-use Rattle.rules.specs.Plan.{AxisInput, Layout, Planned, rowsOf, columnsOf, planned, planOutcome}
-use Rattle.rules.specs.Demand.{CoversPairs, FewestPlan, LargestPlan}
-use Rattle.rules.proofs.NoTen.{not-given, plan-numbers}
+use Rattle.planner_rules.specs.declared.pages.PageAnswer.{PageAnswer}
+use Rattle.planner_rules.specs.declared.pages.Plan.{Plan}
+use Rattle.planner_rules.specs.declared.planning.Settings.{Settings}
+use Rattle.planner_rules.specs.declared.planning.Planning.{Planning}
+use Rattle.planner_rules.specs.declared.planning.Planning.the-variants.{Value, Refused}
+use Rattle.planner_rules.specs.Pages.{RunLists, evenLists, pageNumbered, pageOutcome}
+use Rattle.planner_rules.specs.Plan.{AxisInput, Layout, Planned, rowsOf, columnsOf, planned, planOutcome}
+use Rattle.planner_rules.specs.Demand.{CoversPairs, FewestPlan, LargestPlan}
+use Rattle.planner_rules.proofs.NoTen.{not-given, plan-numbers}
 use Rattle.job_questions.specs.declared.Items.{Items}
-use Rattle.records.specs.Records.{records}
+use Rattle.job_records.specs.Records.{records}
 use Rattle.job_questions.specs.Verdict.{inOrder, questions, itemsOf, verdictLent}
-use Rattle.job.specs.Plan.{jobSettings, jobRows, jobColumns, planJob}
-use Rattle.report.specs.declared.blocks.Block.{Block}
-use Rattle.report.specs.Blocks.{BlockOf}
-use Rattle.numbers.specs.Numbers.{planNumbers, told}
-use Rattle.numbers.specs.Answers.{answerTo, answerOf, numbersOf, HadBack, PageHanded}
-use Rattle.asked.specs.declared.Asked.{Asked}
+use Rattle.job.specs.PlanJob.{jobSettings, jobRows, jobColumns, planJob}
+use Rattle.job_report.specs.declared.blocks.Block.{Block}
+use Rattle.job_report.specs.Blocks.{BlockOf}
+use Rattle.yuzhbani_answers.specs.Numbers.{planNumbers, told}
+use Rattle.yuzhbani_answers.specs.Answers.{answerTo, answerOf, numbersOf, HadBack, PageHanded}
+use Rattle.yuzhbani_request.specs.declared.Request.{Request}
 use Rattle.yuzhbani.specs.Calls.{planIn, PlanHanded}
 
 -- ---- no refusal has the number 0, so that 0 says that a plan was given
@@ -97,21 +97,21 @@ handed o never s rs cs rows₀ columns₀ rows columns p old r numbers w (a, (n,
       rw t (w .1),
     )
 
--- ---- what is asked by numbers
+-- ---- what is request by numbers
 
-abbrev rowsFor : Asked → List ℕ → List ℕ → List ℕ → List ℕ → List ℕ → AxisInput
+abbrev rowsFor : Request → List ℕ → List ℕ → List ℕ → List ℕ → List ℕ → AxisInput
 rowsFor a is ss fs ls bs = rowsOf (a .settings) (a .range) (a .«row_title») is ss fs ls bs
 
-abbrev columnsFor : Asked → List ℕ → List ℕ → List ℕ → List ℕ → List ℕ → AxisInput
+abbrev columnsFor : Request → List ℕ → List ℕ → List ℕ → List ℕ → List ℕ → AxisInput
 columnsFor a is ss fs ls bs = columnsOf (a .settings) (a .range) (a .«column_title») is ss fs ls bs
 
--- the clauses of the planner, of the same that is asked
-pub asked-same : {a b : Asked} → a ≡ b → (ri rz rf rl rb ci cz cf cl cb : List ℕ) (rows₀ columns₀ rows columns : RunLists) (p : Planning)
+-- the clauses of the planner, of the same that is request
+pub request-same : {a b : Request} → a ≡ b → (ri rz rf rl rb ci cz cf cl cb : List ℕ) (rows₀ columns₀ rows columns : RunLists) (p : Planning)
     → Planned (planned (a .settings) (rowsFor a ri rz rf rl rb) (columnsFor a ci cz cf cl cb) rows₀ columns₀) p rows₀ columns₀ rows columns
     × Demands p (a .settings) (rowsFor a ri rz rf rl rb) (columnsFor a ci cz cf cl cb) rows columns
     → Planned (planned (b .settings) (rowsFor b ri rz rf rl rb) (columnsFor b ci cz cf cl cb) rows₀ columns₀) p rows₀ columns₀ rows columns
     × Demands p (b .settings) (rowsFor b ri rz rf rl rb) (columnsFor b ci cz cf cl cb) rows columns
-asked-same e ri rz rf rl rb ci cz cf cl cb rows₀ columns₀ rows columns p w = rw (← e) w
+request-same e ri rz rf rl rb ci cz cf cl cb rows₀ columns₀ rows columns p w = rw (← e) w
 
 -- ---- the page and the block of the plan that numbers stand for
 

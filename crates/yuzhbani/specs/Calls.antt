@@ -3,11 +3,11 @@ use mathlib.Core.Path.{_≡_}
 use mathlib.Core.List.{List}
 use Prim.Native.Nat.{ℕ}
 use Rattle.units.specs.Outcome.{Outcome, given, refused, andThen}
-use Rattle.rules.specs.Pages.{RunLists}
-use Rattle.rules.specs.Plan.{Layout, RunsLent, rowsIn, columnsIn, planOutcome}
-use Rattle.report.specs.declared.blocks.Block.{Block}
-use Rattle.numbers.specs.Numbers.{planNumbers, told}
-use Rattle.numbers.specs.Answers.{answerTo}
+use Rattle.planner_rules.specs.Pages.{RunLists}
+use Rattle.planner_rules.specs.Plan.{Layout, RunsLent, rowsIn, columnsIn, planOutcome}
+use Rattle.job_report.specs.declared.blocks.Block.{Block}
+use Rattle.yuzhbani_answers.specs.Numbers.{planNumbers, told}
+use Rattle.yuzhbani_answers.specs.Answers.{answerTo}
 
 -- an array that is lent for the numbers of a plan: these, or, where the call is refused, what stood there
 abbrev pub planIn : Outcome Layout → List ℕ → List ℕ

@@ -1,28 +1,28 @@
 // Plans, pages and their text for a program in another language. `rt staticlib yuzhbani` makes an archive of these calls, which C or Rust
 // can link. A plan is handed over as sixteen numbers and a page as twelve, in the order that `specs/Numbers.antt` of `numbers` says;
-// what is asked of a plan as thirty, in the order that `specs/Asked.antt` of `asked` says.
-use asked::asked_from;
+// what is request of a plan as thirty, in the order that `specs/Request.antt` of `request` says.
 use job::plan_job;
-use numbers::plan_from;
-use numbers::put_page;
-use numbers::put_planning;
-use numbers::told;
-use pages::page_numbered;
+use job_report::head_lines;
+use job_report::page_block;
 use planner::plan_pages;
-use report::head_lines;
-use report::page_block;
+use planner_pages::page_numbered;
+use yuzhbani_answers::plan_from;
+use yuzhbani_answers::put_page;
+use yuzhbani_answers::put_planning;
+use yuzhbani_answers::told;
+use yuzhbani_request::request_from;
 ghost use mathlib.Core.Path.{_≡_};
 ghost use Prim.Native.Nat.{_≤_};
 ghost use lib.ListN.{length, take};
-ghost use Rattle.rules.specs.Pages.{runLists, pageNumbered};
-ghost use Rattle.rules.specs.Plan.{planned, planOutcome};
-ghost use Rattle.rules.specs.Demand.{CoversPairs, FewestPlan, LargestPlan};
-ghost use Rattle.job.specs.Plan as job;
-ghost use Rattle.report.specs.Lines.{headLines};
-ghost use Rattle.report.specs.Blocks.{BlockOf};
-ghost use Rattle.numbers.specs.Numbers as section;
-ghost use Rattle.numbers.specs.Answers.{PageHanded};
-ghost use Rattle.asked.specs.Asked.{settingsFrom, rowsAsked, columnsAsked};
+ghost use Rattle.planner_rules.specs.Pages.{runLists, pageNumbered};
+ghost use Rattle.planner_rules.specs.Plan.{planned, planOutcome};
+ghost use Rattle.planner_rules.specs.Demand.{CoversPairs, FewestPlan, LargestPlan};
+ghost use Rattle.job.specs.PlanJob as job;
+ghost use Rattle.job_report.specs.Lines.{headLines};
+ghost use Rattle.job_report.specs.Blocks.{BlockOf};
+ghost use Rattle.yuzhbani_answers.specs.Numbers as section;
+ghost use Rattle.yuzhbani_answers.specs.Answers.{PageHanded};
+ghost use Rattle.yuzhbani_request.specs.Request.{settingsFrom, rowsRequested, columnsRequested};
 ghost use Rattle.yuzhbani.specs.Calls.{PlanHanded, blockTo};
 
 // Plans the pages of a job: 0, with the plan's numbers in `numbers` and its runs at the fronts of eight lent lists; or the number of a
@@ -91,11 +91,11 @@ pub extern "C" fn yuzhbani_plan(
     put_planning(planning, numbers)
 }
 
-// Plans the pages of lists: what is asked as thirty numbers, the measured slots, merges and breaks as ten lists. It answers and writes as
+// Plans the pages of lists: what is request as thirty numbers, the measured slots, merges and breaks as ten lists. It answers and writes as
 // `yuzhbani_plan` does.
 #[no_mangle]
 pub extern "C" fn yuzhbani_plan_lists(
-    asked: &[u64; 30],
+    request: &[u64; 30],
     row_indexes: &[u32],
     row_sizes: &[u64],
     column_indexes: &[u32],
@@ -118,10 +118,10 @@ pub extern "C" fn yuzhbani_plan_lists(
 ) -> u8
     ensures planned { λ r. ⌜
         PlanHanded
-        (planned (settingsFrom (now (asked .entry)))
-        (rowsAsked (now (asked .entry)) (now («row_indexes» .entry)) (now («row_sizes» .entry))
+        (planned (settingsFrom (now (request .entry)))
+        (rowsRequested (now (request .entry)) (now («row_indexes» .entry)) (now («row_sizes» .entry))
         (now («merge_first_rows» .entry)) (now («merge_last_rows» .entry)) (now («row_breaks» .entry)))
-        (columnsAsked (now (asked .entry)) (now («column_indexes» .entry)) (now («column_sizes» .entry))
+        (columnsRequested (now (request .entry)) (now («column_indexes» .entry)) (now («column_sizes» .entry))
         (now («merge_first_columns» .entry)) (now («merge_last_columns» .entry)) (now («column_breaks» .entry)))
         (runLists (now («row_run_firsts» .entry)) (now («row_run_lasts» .entry)) (now («row_run_sizes» .entry))
         (now («row_run_marks» .entry)))
@@ -139,9 +139,9 @@ pub extern "C" fn yuzhbani_plan_lists(
         ⌝ }
     ensures covered { λ r. ⌜
         CoversPairs (section.told r (now (numbers .exit)))
-        (rowsAsked (now (asked .entry)) (now («row_indexes» .entry)) (now («row_sizes» .entry)) (now («merge_first_rows» .entry))
+        (rowsRequested (now (request .entry)) (now («row_indexes» .entry)) (now («row_sizes» .entry)) (now («merge_first_rows» .entry))
         (now («merge_last_rows» .entry)) (now («row_breaks» .entry)))
-        (columnsAsked (now (asked .entry)) (now («column_indexes» .entry)) (now («column_sizes» .entry))
+        (columnsRequested (now (request .entry)) (now («column_indexes» .entry)) (now («column_sizes» .entry))
         (now («merge_first_columns» .entry)) (now («merge_last_columns» .entry)) (now («column_breaks» .entry)))
         (runLists (now («row_run_firsts» .exit)) (now («row_run_lasts» .exit)) (now («row_run_sizes» .exit))
         (now («row_run_marks» .exit)))
@@ -149,10 +149,10 @@ pub extern "C" fn yuzhbani_plan_lists(
         (now («column_run_marks» .exit)))
         ⌝ }
     ensures fewest { λ r. ⌜
-        FewestPlan (section.told r (now (numbers .exit))) (settingsFrom (now (asked .entry)))
-        (rowsAsked (now (asked .entry)) (now («row_indexes» .entry)) (now («row_sizes» .entry)) (now («merge_first_rows» .entry))
+        FewestPlan (section.told r (now (numbers .exit))) (settingsFrom (now (request .entry)))
+        (rowsRequested (now (request .entry)) (now («row_indexes» .entry)) (now («row_sizes» .entry)) (now («merge_first_rows» .entry))
         (now («merge_last_rows» .entry)) (now («row_breaks» .entry)))
-        (columnsAsked (now (asked .entry)) (now («column_indexes» .entry)) (now («column_sizes» .entry))
+        (columnsRequested (now (request .entry)) (now («column_indexes» .entry)) (now («column_sizes» .entry))
         (now («merge_first_columns» .entry)) (now («merge_last_columns» .entry)) (now («column_breaks» .entry)))
         (runLists (now («row_run_firsts» .exit)) (now («row_run_lasts» .exit)) (now («row_run_sizes» .exit))
         (now («row_run_marks» .exit)))
@@ -160,14 +160,14 @@ pub extern "C" fn yuzhbani_plan_lists(
         (now («column_run_marks» .exit)))
         ⌝ }
     ensures largest { λ r. ⌜
-        LargestPlan (section.told r (now (numbers .exit))) (settingsFrom (now (asked .entry)))
-        (rowsAsked (now (asked .entry)) (now («row_indexes» .entry)) (now («row_sizes» .entry)) (now («merge_first_rows» .entry))
+        LargestPlan (section.told r (now (numbers .exit))) (settingsFrom (now (request .entry)))
+        (rowsRequested (now (request .entry)) (now («row_indexes» .entry)) (now («row_sizes» .entry)) (now («merge_first_rows» .entry))
         (now («merge_last_rows» .entry)) (now («row_breaks» .entry)))
-        (columnsAsked (now (asked .entry)) (now («column_indexes» .entry)) (now («column_sizes» .entry))
+        (columnsRequested (now (request .entry)) (now («column_indexes» .entry)) (now («column_sizes» .entry))
         (now («merge_first_columns» .entry)) (now («merge_last_columns» .entry)) (now («column_breaks» .entry)))
         ⌝ }
 {
-    let what = asked_from(asked);
+    let what = request_from(request);
     let settings = what.settings;
     let range = what.range;
     let row_title = what.row_title;

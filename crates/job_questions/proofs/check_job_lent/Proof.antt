@@ -2,7 +2,7 @@
 use mathlib.Core.Path.{ap, _∙_}
 use mathlib.Core.List.{[]}
 use Rattle.units.specs.Outcome.{given}
-use Rattle.records.specs.Records.{records}
+use Rattle.job_records.specs.Records.{records}
 use Rattle.job_questions.specs.Verdict.{verdictLent, itemsOf}
 use Rattle.job_questions.proofs.PassLaws.{job-stopped, job-no, job-yes, job-items}
 use borrow.Author.Needs.{needs}

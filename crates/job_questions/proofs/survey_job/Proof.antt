@@ -1,6 +1,6 @@
 -- `job_questions::survey_job` meets its contract. Assumes nothing.
 use lib.ListN.{length}
-use Rattle.records.proofs.RecordLaws.{step-used, length-part}
+use Rattle.job_records.proofs.RecordLaws.{step-used, length-part}
 use Rattle.job_questions.proofs.PassLaws.{Seen, seen-start, seen-more, seen-nothing, seen-early, seen-end, too-long, room-few}
 use borrow.Author.Needs.{needs}
 use native.Mathlib.Omega.{arith}

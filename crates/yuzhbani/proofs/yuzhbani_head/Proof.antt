@@ -1,8 +1,8 @@
 -- `yuzhbani::yuzhbani_head` meets its contract: the lines of what the answer and the numbers stand for. Assumes nothing.
 use mathlib.Core.Path.{ap, _∙_}
-use Rattle.rules.specs.declared.plan.Planning.{Planning}
-use Rattle.rules.specs.Plan.{planOutcome}
-use Rattle.report.specs.Lines.{headLines}
+use Rattle.planner_rules.specs.declared.planning.Planning.{Planning}
+use Rattle.planner_rules.specs.Plan.{planOutcome}
+use Rattle.job_report.specs.Lines.{headLines}
 use borrow.Author.Needs.{needs}
 use Rattle.yuzhbani.proofs.yuzhbani_head.Statement.{statement}
 use Rattle.yuzhbani.proofs.yuzhbani_head.Tie as tie

@@ -1,5 +1,5 @@
 -- `yuzhbani::yuzhbani_plan` meets its contract: the clauses of `plan_job`, by the answer and the numbers that are handed over. Assumes nothing.
-use Rattle.job.specs.Plan.{jobSettings, jobRows, jobColumns}
+use Rattle.job.specs.PlanJob.{jobSettings, jobRows, jobColumns}
 use Rattle.yuzhbani.proofs.Handed.{handed, job-not-zero}
 use Rattle.yuzhbani.proofs.yuzhbani_plan.Statement.{statement}
 use Rattle.yuzhbani.proofs.yuzhbani_plan.Tie as tie

@@ -1,12 +1,12 @@
 -- `yuzhbani::yuzhbani_plan_lists` meets its contract: the clauses of `plan_pages`, by what the numbers ask, and by the answer and the numbers
 -- that are handed over. Assumes nothing.
-use Rattle.asked.specs.Asked.{settingsFrom, rowsAsked, columnsAsked}
-use Rattle.yuzhbani.proofs.Handed.{handed, plan-not-zero, asked-same}
+use Rattle.yuzhbani_request.specs.Request.{settingsFrom, rowsRequested, columnsRequested}
+use Rattle.yuzhbani.proofs.Handed.{handed, plan-not-zero, request-same}
 use Rattle.yuzhbani.proofs.yuzhbani_plan_lists.Statement.{statement}
 use Rattle.yuzhbani.proofs.yuzhbani_plan_lists.Tie as tie
 
-asked-from-requires : tie.Need-asked-from-requires
-asked-from-requires c κs = tt
+request-from-requires : tie.Need-request-from-requires
+request-from-requires c κs = tt
 
 plan-pages-requires : tie.Need-plan-pages-requires
 plan-pages-requires c κs = tt
@@ -43,18 +43,18 @@ returns c =
     let j = c .before .before .before .before .before .before .before .before .before .before .before .before .before .before .before .before .before .before in
     let k = j .before .before .before .before .before .before .before .before .before .before .before in
     let a = k .before .before .before .before .before .before .before .before .before .before .before .before .before .before .before .before .before .before .before .args in
-    let ns = a .asked .now in
+    let ns = a .request .now in
     let s = settingsFrom ns in
-    let rs = rowsAsked ns (a .row-indexes .now) (a .row-sizes .now) (a .merge-first-rows .now) (a .merge-last-rows .now) (a .row-breaks .now) in
-    let cs = columnsAsked ns (a .column-indexes .now) (a .column-sizes .now) (a .merge-first-columns .now) (a .merge-last-columns .now) (a .column-breaks .now) in
-    let e = asked-same (k .asked-from .ensures) (a .row-indexes .now) (a .row-sizes .now) (a .merge-first-rows .now) (a .merge-last-rows .now) (a .row-breaks .now) (a .column-indexes .now) (a .column-sizes .now) (a .merge-first-columns .now) (a .merge-last-columns .now) (a .column-breaks .now) _ _ _ _ (j .plan-pages .result) (j .plan-pages .ensures) in
+    let rs = rowsRequested ns (a .row-indexes .now) (a .row-sizes .now) (a .merge-first-rows .now) (a .merge-last-rows .now) (a .row-breaks .now) in
+    let cs = columnsRequested ns (a .column-indexes .now) (a .column-sizes .now) (a .merge-first-columns .now) (a .merge-last-columns .now) (a .column-breaks .now) in
+    let e = request-same (k .request-from .ensures) (a .row-indexes .now) (a .row-sizes .now) (a .merge-first-rows .now) (a .merge-last-rows .now) (a .row-breaks .now) (a .column-indexes .now) (a .column-sizes .now) (a .merge-first-columns .now) (a .merge-last-columns .now) (a .column-breaks .now) _ _ _ _ (j .plan-pages .result) (j .plan-pages .ensures) in
     handed _ (plan-not-zero s rs cs _ _) s rs cs _ _ _ _ (j .plan-pages .result) (a .numbers .now) (c .put-planning .result) _ e (c .put-planning .ensures)
 
 pub yuzhbani-plan-lists-spec : {M : Type 1} → statement M
 yuzhbani-plan-lists-spec =
     tie.close
     (tie.spec
-    asked-from-requires
+    request-from-requires
     plan-pages-requires
     put-planning-requires
     same-length

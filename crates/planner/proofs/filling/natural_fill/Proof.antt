@@ -1,6 +1,6 @@
 -- `planner::filling::natural_fill` meets its contract. The loop's invariant: what is taken, and what the definition still takes from here, is the whole.
 -- Assumes nothing.
-use Rattle.rules.proofs.Laws.{more-yes, more-no, more-end}
+use Rattle.planner_rules.proofs.Laws.{more-yes, more-no, more-end}
 use lib.ListN.{length, drop}
 use Prim.Native.Nat.{_+_, _*_, _-_, _≤_}
 use mathlib.Core.Path.{_≡_}
@@ -8,7 +8,7 @@ use borrow.Author.Needs.{needs}
 use native.Mathlib.Omega.{arith}
 use Rattle.planner.proofs.filling.natural_fill.Statement.{statement}
 use Rattle.planner.proofs.filling.natural_fill.Tie as tie
-use Rattle.rules.specs.Runs.{more, natural}
+use Rattle.planner_rules.specs.Runs.{more, natural}
 
 abbrev Inv-loop : tie.InvT-loop
 Inv-loop sizes capacity sum₀ n₀ sum n =

@@ -1,7 +1,7 @@
 -- `planner::filling::sum_of_eight` meets its contract. Assumes nothing.
 use borrow.Author.Needs.{needs}
 use native.Mathlib.Omega.{arith}
-use Rattle.rules.proofs.Laws.{sum-eight}
+use Rattle.planner_rules.proofs.Laws.{sum-eight}
 use Rattle.planner.proofs.filling.sum_of_eight.Statement.{statement}
 use Rattle.planner.proofs.filling.sum_of_eight.Tie as tie
 

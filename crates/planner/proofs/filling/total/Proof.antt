@@ -1,6 +1,6 @@
 -- `planner::filling::total` meets its contract. The loop goes down, so that its invariant is the definition at what was passed.
 -- Assumes nothing.
-use Rattle.rules.proofs.Laws.{sum-back, sum-none}
+use Rattle.planner_rules.proofs.Laws.{sum-back, sum-none}
 use lib.ListN.{length, drop}
 use Prim.Native.Nat.{_+_, _*_, _-_, _≤_}
 use mathlib.Core.Path.{_≡_}
@@ -8,7 +8,7 @@ use borrow.Author.Needs.{needs}
 use native.Mathlib.Omega.{arith}
 use Rattle.planner.proofs.filling.total.Statement.{statement}
 use Rattle.planner.proofs.filling.total.Tie as tie
-use Rattle.rules.specs.Slots.{sum}
+use Rattle.planner_rules.specs.Slots.{sum}
 
 abbrev Inv-loop : tie.InvT-loop
 Inv-loop sizes i₀ t₀ i t =

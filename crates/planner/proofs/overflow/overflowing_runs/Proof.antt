@@ -6,9 +6,9 @@ use Prim.Native.Nat.{_+_, _-_, _≤_, _<_}
 use native.Mathlib.Omega.{arith}
 use lib.ListN.{length, drop}
 use borrow.Author.Tests.{not-true, not-false}
-use Rattle.rules.specs.Scale.{fitsSide, spaceOf}
-use Rattle.rules.specs.Pages.{overflowing}
-use Rattle.rules.proofs.PagesCode.{overflow-fits, overflow-exceeds, overflow-end}
+use Rattle.planner_rules.specs.Scale.{fitsSide, spaceOf}
+use Rattle.planner_rules.specs.Pages.{overflowing}
+use Rattle.planner_rules.proofs.PagesCode.{overflow-fits, overflow-exceeds, overflow-end}
 use borrow.Author.Needs.{needs}
 use Rattle.planner.proofs.overflow.overflowing_runs.Statement.{statement}
 use Rattle.planner.proofs.overflow.overflowing_runs.Tie as tie

@@ -3,11 +3,11 @@ use mathlib.Core.Path.{_≡_, ap₂, _∙_}
 use mathlib.Core.Bool.{Bool}
 use Prim.Native.Nat.{ℕ, _≤_}
 use lib.Dec.{lit≤}
-use Rattle.rules.specs.declared.titles.Axis.{Axis}
-use Rattle.rules.specs.declared.titles.Axis.the-variants.{Rows, Columns}
-use Rattle.rules.specs.Titles.{limitOf}
-use Rattle.rules.specs.Partition.{firstNo, lentEven, bodyRuns}
-use Rattle.rules.proofs.PartitionLaws.{is-refused, is-asked, refuses}
+use Rattle.planner_rules.specs.declared.titles.Axis.{Axis}
+use Rattle.planner_rules.specs.declared.titles.Axis.the-variants.{Rows, Columns}
+use Rattle.planner_rules.specs.Titles.{limitOf}
+use Rattle.planner_rules.specs.Partition.{firstNo, lentEven, bodyRuns}
+use Rattle.planner_rules.proofs.PartitionLaws.{is-refused, is-asked, refuses}
 use borrow.Author.Needs.{needs}
 use Rattle.planner.proofs.partition.partition_axis_with_breaks.Statement.{statement}
 use Rattle.planner.proofs.partition.partition_axis_with_breaks.Tie as tie

@@ -3,10 +3,10 @@ use mathlib.Core.Path.{_≡_, ap, _∙_}
 use Prim.Native.Nat.{ℕ, _+_, _≤_, _<_}
 use native.Mathlib.Omega.{arith}
 use lib.ListN.{length}
-use Rattle.rules.specs.Slots.{below}
-use Rattle.rules.specs.Titles.{bodyStart}
-use Rattle.rules.proofs.Laws.{slots-mid}
-use Rattle.rules.proofs.PartitionLaws.{start-within, answers-empty, found-body}
+use Rattle.planner_rules.specs.Slots.{below}
+use Rattle.planner_rules.specs.Titles.{bodyStart}
+use Rattle.planner_rules.proofs.Laws.{slots-mid}
+use Rattle.planner_rules.proofs.PartitionLaws.{start-within, answers-empty, found-body}
 use borrow.Author.Needs.{needs}
 use Rattle.planner.proofs.partition.partition_body.Statement.{statement}
 use Rattle.planner.proofs.partition.partition_body.Tie as tie

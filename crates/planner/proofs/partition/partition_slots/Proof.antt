@@ -3,10 +3,10 @@ use mathlib.Core.Path.{_≡_, sym, ap, _∙_}
 use native.Mathlib.Omega.{arith}
 use lib.ListN.{length}
 use Rattle.units.specs.Outcome.{given}
-use Rattle.rules.specs.declared.runs.Tally.{Tally}
-use Rattle.rules.specs.Runs.{axisRuns, axisTally}
-use Rattle.rules.specs.Partition.{roomFor}
-use Rattle.rules.proofs.PartitionLaws.{refuses, answers, no-room, room-enough}
+use Rattle.planner_rules.specs.declared.runs.Tally.{Tally}
+use Rattle.planner_rules.specs.Runs.{axisRuns, axisTally}
+use Rattle.planner_rules.specs.Partition.{roomFor}
+use Rattle.planner_rules.proofs.PartitionLaws.{refuses, answers, no-room, room-enough}
 use borrow.Author.Needs.{needs}
 use Rattle.planner.proofs.partition.partition_slots.Statement.{statement}
 use Rattle.planner.proofs.partition.partition_slots.Tie as tie

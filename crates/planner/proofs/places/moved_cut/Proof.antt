@@ -1,14 +1,14 @@
 -- `planner::places::moved_cut` meets its contract: past a merge's last slot is before the first slot above it. Assumes nothing.
-use Rattle.rules.proofs.AxisLaws.{moved-start, moved-past}
-use Rattle.rules.proofs.Places.{through-below}
+use Rattle.planner_rules.proofs.AxisLaws.{moved-start, moved-past}
+use Rattle.planner_rules.proofs.Places.{through-below}
 use Prim.Native.Nat.{ℕ, _+_}
 use native.Mathlib.Numerals.{add-one}
 use mathlib.Core.Path.{sym, ap, _∙_}
 use borrow.Author.Needs.{needs}
 use Rattle.planner.proofs.places.moved_cut.Statement.{statement}
 use Rattle.planner.proofs.places.moved_cut.Tie as tie
-use Rattle.rules.specs.Slots.{below}
-use Rattle.rules.specs.Runs.{moved}
+use Rattle.planner_rules.specs.Slots.{below}
+use Rattle.planner_rules.specs.Runs.{moved}
 
 enum-known-held : tie.Need-enum-known-held
 enum-known-held c = search needs

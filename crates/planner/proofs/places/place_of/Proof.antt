@@ -4,9 +4,9 @@ use lib.ListN.{length}
 use Prim.Native.Nat.{_+_, _/_, _≤_}
 use borrow.Author.Needs.{needs}
 use native.Mathlib.Omega.{arith}
-use Rattle.rules.specs.Slots.{below}
-use Rattle.rules.proofs.Places.{below-up-to, below-past-it}
-use Rattle.rules.proofs.EndLaws.{below-le}
+use Rattle.planner_rules.specs.Slots.{below}
+use Rattle.planner_rules.proofs.Places.{below-up-to, below-past-it}
+use Rattle.planner_rules.proofs.EndLaws.{below-le}
 use Rattle.planner.proofs.places.place_of.Statement.{statement}
 use Rattle.planner.proofs.places.place_of.Tie as tie
 

@@ -1,5 +1,5 @@
 -- `planner::plan::choose_scale` meets its contract. Assumes nothing.
-use Rattle.rules.proofs.Laws.{slots-mid}
+use Rattle.planner_rules.proofs.Laws.{slots-mid}
 use native.Mathlib.Omega.{arith}
 use borrow.Author.Needs.{needs}
 use Rattle.planner.proofs.plan.choose_scale.Statement.{statement}

@@ -1,11 +1,11 @@
 -- `planner::plan::count_cut` meets its contract. Assumes nothing.
 use mathlib.Core.Path.{_≡_, ap, _∙_}
 use lib.ListN.{length}
-use Rattle.rules.specs.declared.runs.Frame.{Frame}
-use Rattle.rules.specs.Runs.{axisTally, expansions, tallies}
-use Rattle.rules.specs.Plan.{readyRuns, readyShifts, within, cutFrom}
-use Rattle.rules.proofs.Laws.{slots-mid}
-use Rattle.rules.proofs.PlanLaws.{cut-from}
+use Rattle.planner_rules.specs.declared.runs.Frame.{Frame}
+use Rattle.planner_rules.specs.Runs.{axisTally, expansions, tallies}
+use Rattle.planner_rules.specs.Plan.{readyRuns, readyShifts, within, cutFrom}
+use Rattle.planner_rules.proofs.Laws.{slots-mid}
+use Rattle.planner_rules.proofs.PlanLaws.{cut-from}
 use native.Mathlib.Omega.{arith}
 use borrow.Author.Needs.{needs}
 use Rattle.planner.proofs.plan.count_cut.Statement.{statement}

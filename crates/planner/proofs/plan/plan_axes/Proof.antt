@@ -1,9 +1,9 @@
 -- `planner::plan::plan_axes` meets its contract. Assumes nothing.
 use mathlib.Core.Path.{_∙_}
 use lib.ListN.{length}
-use Rattle.rules.specs.Pages.{runLists}
-use Rattle.rules.specs.Plan.{axisFor, sidesOf}
-use Rattle.rules.proofs.PlanLaws.{cuttable, scale-of, relay-scale}
+use Rattle.planner_rules.specs.Pages.{runLists}
+use Rattle.planner_rules.specs.Plan.{axisFor, sidesOf}
+use Rattle.planner_rules.proofs.PlanLaws.{cuttable, scale-of, relay-scale}
 use Rattle.planner.proofs.plan.plan_axes.Statement.{statement}
 use Rattle.planner.proofs.plan.plan_axes.Tie as tie
 

@@ -2,12 +2,12 @@
 use mathlib.Core.Path.{_≡_, ap, _∙_}
 use Prim.Native.Nat.{_*_}
 use lib.ListN.{length}
-use Rattle.rules.specs.declared.pages.Notes.{Notes}
-use Rattle.rules.specs.Scale.{scaleOf}
-use Rattle.rules.specs.Pages.{runLists}
-use Rattle.rules.specs.Plan.{AxisInput, Layout, axisFor, sidesOf, cutRuns, cutShifts, layoutAt, cutOf, readyRuns}
-use Rattle.rules.proofs.TitleLaws.{ignored-le, expanded-le}
-use Rattle.rules.proofs.PlanLaws.{cuttable, cut-of, row-count, column-count, page-count, refuses-plan, answers-plan, room-refused, room-given, rows-fit, columns-fit, room-of, few-pages, overflows-few, overflows-of, written-of, plan-value}
+use Rattle.planner_rules.specs.declared.pages.Notes.{Notes}
+use Rattle.planner_rules.specs.Scale.{scaleOf}
+use Rattle.planner_rules.specs.Pages.{runLists}
+use Rattle.planner_rules.specs.Plan.{AxisInput, Layout, axisFor, sidesOf, cutRuns, cutShifts, layoutAt, cutOf, readyRuns}
+use Rattle.planner_rules.proofs.TitleLaws.{ignored-le, expanded-le}
+use Rattle.planner_rules.proofs.PlanLaws.{cuttable, cut-of, row-count, column-count, page-count, refuses-plan, answers-plan, room-refused, room-given, rows-fit, columns-fit, room-of, few-pages, overflows-few, overflows-of, written-of, plan-value}
 use native.Mathlib.Omega.{arith}
 use borrow.Author.Needs.{needs}
 use Rattle.planner.proofs.plan.plan_cut.Statement.{statement}

@@ -5,11 +5,11 @@ use Prim.Native.Nat.{ℕ}
 use lib.ListN.{length}
 use lib.Seq.{length-take-le}
 use Rattle.units.specs.Outcome.{given, refused}
-use Rattle.rules.specs.Pages.{RunLists, runLists, evenLists}
-use Rattle.rules.specs.Plan.{AxisInput, rowsOf, columnsOf, lookedAt, axisFor, sidesOutcome, contentSides, firstNo}
-use Rattle.rules.proofs.Demand.{clauses}
-use Rattle.rules.proofs.PartitionLaws.{even-of}
-use Rattle.rules.proofs.PlanLaws.{formed-of, is-refused, is-asked, refuses-plan, no-breaks, looked, looked-few, ten-of, sides-of, relay-call, rows-fine, columns-fine}
+use Rattle.planner_rules.specs.Pages.{RunLists, runLists, evenLists}
+use Rattle.planner_rules.specs.Plan.{AxisInput, rowsOf, columnsOf, lookedAt, axisFor, sidesOutcome, contentSides, firstNo}
+use Rattle.planner_rules.proofs.Demand.{clauses}
+use Rattle.planner_rules.proofs.PartitionLaws.{even-of}
+use Rattle.planner_rules.proofs.PlanLaws.{formed-of, is-refused, is-asked, refuses-plan, no-breaks, looked, looked-few, ten-of, sides-of, relay-call, rows-fine, columns-fine}
 use borrow.Author.Needs.{needs}
 use Rattle.planner.proofs.plan.plan_pages.Statement.{statement}
 use Rattle.planner.proofs.plan.plan_pages.Tie as tie

@@ -1,13 +1,13 @@
 -- `planner::plan::ready_axis` meets its contract. Assumes nothing.
 use mathlib.Core.Path.{refl, sym, ap, _∙_}
 use Prim.Native.Nat.{ℕ, _+_, max}
-use Rattle.rules.proofs.TitleLaws.{title-total-le}
-use Rattle.rules.specs.declared.titles.Title.{Title}
-use Rattle.rules.specs.declared.titles.Widened.{Widened}
-use Rattle.rules.specs.Slots.{below}
-use Rattle.rules.specs.Titles.{bodyStart}
-use Rattle.rules.specs.Plan.{spaceOn}
-use Rattle.rules.proofs.PlanLaws.{start-small}
+use Rattle.planner_rules.proofs.TitleLaws.{title-total-le}
+use Rattle.planner_rules.specs.declared.titles.Title.{Title}
+use Rattle.planner_rules.specs.declared.titles.Widened.{Widened}
+use Rattle.planner_rules.specs.Slots.{below}
+use Rattle.planner_rules.specs.Titles.{bodyStart}
+use Rattle.planner_rules.specs.Plan.{spaceOn}
+use Rattle.planner_rules.proofs.PlanLaws.{start-small}
 use native.Mathlib.Omega.{arith}
 use borrow.Author.Needs.{needs}
 use Rattle.planner.proofs.plan.ready_axis.Statement.{statement}
@@ -45,8 +45,8 @@ cast-t17 c =
     let st = after-body-start .body-start .ensures in
     omega (arith, st, start-small (s .args .axis) (s .args .indexes .now) (s .args .sizes .now) (s .args .merge-firsts .now) (s .args .merge-lasts .now) q _ (ap (λ (w : Widened). w .title) (sym (after-widened-title .widened-title .ensures))), q .limit-small)
 
-later-requires : tie.Need-later-requires
-later-requires c κs = search needs
+longer-requires : tie.Need-longer-requires
+longer-requires c κs = search needs
 
 returns : tie.Need-returns
 unfolding spaceOn
@@ -67,7 +67,7 @@ returns c =
       hi-is = refl;
       target-is = refl;
       from-is = after-place-of .place-of .ensures .0 ∙ ap (λ (x : ℕ). below x is) st;
-      to-is = c .later .ensures ∙ ap (λ (x : ℕ). max (after-place-of .place-of .result) x) (c .before .place-of2 .ensures .0 ∙ ap (λ (x : ℕ). below (x + 1) is) (c .before .before .wide .ensures));
+      to-is = c .longer .ensures ∙ ap (λ (x : ℕ). max (after-place-of .place-of .result) x) (c .before .place-of2 .ensures .0 ∙ ap (λ (x : ℕ). below (x + 1) is) (c .before .before .wide .ensures));
       ignored-is = ap (λ (x : Widened). x .ignored) w;
       expanded-is = ap (λ (x : Widened). x .expanded) w;
       low = record { headings-low = s .pre .headings-low; titles-low = rw (after-title-total .title-total .ensures) (title-total-le _ is (s .args .sizes .now) (s .pre .slots)) };
@@ -85,5 +85,5 @@ ready-axis-spec =
     add-place-of
     place-of-requires-2
     cast-t17
-    later-requires
+    longer-requires
     returns)

@@ -2,15 +2,15 @@
 use mathlib.Core.Path.{_≡_, sym, ap, subst, _∙_}
 use lib.ListN.{length}
 use lib.Seq.{length-take-le}
-use Rattle.rules.specs.declared.runs.Frame.{Frame}
-use Rattle.rules.specs.declared.plan.FinalCut.{FinalCut}
-use Rattle.rules.specs.Runs.{axisRuns}
-use Rattle.rules.specs.Lent.{Written}
-use Rattle.rules.specs.Scale.{spaceOf}
-use Rattle.rules.specs.Pages.{orEmpty}
-use Rattle.rules.specs.Plan.{readyRuns, readyFrame, within}
-use Rattle.rules.proofs.Laws.{slots-mid}
-use Rattle.rules.proofs.PlanLaws.{as-many, Front, front-of, recount, overflow-front, runs-moderate, taken-moderate, taken-even}
+use Rattle.planner_rules.specs.declared.runs.Frame.{Frame}
+use Rattle.planner_rules.specs.declared.planning.FinalCut.{FinalCut}
+use Rattle.planner_rules.specs.Runs.{axisRuns}
+use Rattle.planner_rules.specs.Lent.{Written}
+use Rattle.planner_rules.specs.Scale.{spaceOf}
+use Rattle.planner_rules.specs.Pages.{orEmpty}
+use Rattle.planner_rules.specs.Plan.{readyRuns, readyFrame, within}
+use Rattle.planner_rules.proofs.Laws.{slots-mid}
+use Rattle.planner_rules.proofs.PlanLaws.{as-many, Front, front-of, recount, overflow-front, runs-moderate, taken-moderate, taken-even}
 use native.Mathlib.Omega.{arith}
 use borrow.Author.Needs.{needs}
 use Rattle.planner.proofs.plan.write_cut.Statement.{statement}

@@ -1,6 +1,6 @@
 -- `planner::plan::write_empty` meets its contract. Assumes nothing.
-use Rattle.rules.specs.Pages.{emptyRun}
-use Rattle.rules.proofs.Lent.{lists-start, lists-store, lists-done}
+use Rattle.planner_rules.specs.Pages.{emptyRun}
+use Rattle.planner_rules.proofs.Lent.{lists-start, lists-store, lists-done}
 use mathlib.Core.Path.{refl}
 use mathlib.Core.List.{[], _∷_}
 use native.Mathlib.Omega.{arith}

@@ -1,8 +1,8 @@
 -- `planner::plan::write_page_runs` meets its contract. Assumes nothing.
 use mathlib.Core.Path.{sym, _∙_}
 use mathlib.Core.List.{[]}
-use Rattle.rules.specs.Runs.{axisRuns}
-use Rattle.rules.proofs.PlanLaws.{empty-room, empty-written, some-room, some-written}
+use Rattle.planner_rules.specs.Runs.{axisRuns}
+use Rattle.planner_rules.proofs.PlanLaws.{empty-room, empty-written, some-room, some-written}
 use borrow.Author.Needs.{needs}
 use Rattle.planner.proofs.plan.write_page_runs.Statement.{statement}
 use Rattle.planner.proofs.plan.write_page_runs.Tie as tie

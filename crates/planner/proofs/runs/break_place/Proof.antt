@@ -1,9 +1,9 @@
 -- `planner::runs::break_place` meets its contract. Assumes nothing.
-use Rattle.rules.proofs.Places.{below-at}
+use Rattle.planner_rules.proofs.Places.{below-at}
 use mathlib.Core.Path.{ap, _∙_}
 use Prim.Native.Nat.{ℕ}
 use borrow.Author.Needs.{needs}
-use Rattle.rules.specs.Slots.{below}
+use Rattle.planner_rules.specs.Slots.{below}
 use Rattle.planner.proofs.runs.break_place.Statement.{statement}
 use Rattle.planner.proofs.runs.break_place.Tie as tie
 

@@ -1,7 +1,7 @@
 -- `planner::runs::count_axis` meets its contract. Assumes nothing.
-use Rattle.rules.proofs.AxisLaws.{stretch-length, stretch-expansions, axis-more, axis-end, shifts-more, shifts-end, expansions-append}
-use Rattle.rules.proofs.Laws.{length-mid, slots-mid}
-use Rattle.rules.specs.declared.runs.Counted.{Counted}
+use Rattle.planner_rules.proofs.AxisLaws.{stretch-length, stretch-expansions, axis-more, axis-end, shifts-more, shifts-end, expansions-append}
+use Rattle.planner_rules.proofs.Laws.{length-mid, slots-mid}
+use Rattle.planner_rules.specs.declared.runs.Counted.{Counted}
 use lib.ListN.{length, drop, length-append}
 -- `planner::runs::count_axis` meets its contract. The loop's invariant: what is counted, and what the axis has from the last kept cut on, is all.
 -- Assumes nothing.
@@ -11,7 +11,7 @@ use borrow.Author.Needs.{needs}
 use native.Mathlib.Omega.{arith}
 use Rattle.planner.proofs.runs.count_axis.Statement.{statement}
 use Rattle.planner.proofs.runs.count_axis.Tie as tie
-use Rattle.rules.specs.Runs.{axisRuns, shifts, stretch, axisTally, tallies, runs, expansions}
+use Rattle.planner_rules.specs.Runs.{axisRuns, shifts, stretch, axisTally, tallies, runs, expansions}
 
 abbrev Inv-loop : tie.InvT-loop
 Inv-loop k mfirsts mlasts breaks indexes sizes end₀ prev₀ count₀ grown₀ shifted₀ j₀ prev count grown shifted j =

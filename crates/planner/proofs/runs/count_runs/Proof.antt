@@ -1,8 +1,8 @@
 -- `planner::runs::count_runs` meets its contract. The loop's invariant: the runs counted, and those of the slots that are left, are all.
 -- Assumes nothing.
-use Rattle.rules.proofs.Laws.{slots-part, length-part, turn, none}
-use Rattle.rules.specs.Lent.{counts}
-use Rattle.rules.specs.declared.runs.RunEnd.{RunEnd}
+use Rattle.planner_rules.proofs.Laws.{slots-part, length-part, turn, none}
+use Rattle.planner_rules.specs.Lent.{counts}
+use Rattle.planner_rules.specs.declared.runs.RunEnd.{RunEnd}
 use lib.ListN.{length}
 use Prim.Native.Nat.{_+_, _≤_}
 use mathlib.Core.Path.{_≡_, ap, ap₂}
@@ -10,8 +10,8 @@ use borrow.Author.Needs.{needs}
 use native.Mathlib.Omega.{arith}
 use Rattle.planner.proofs.runs.count_runs.Statement.{statement}
 use Rattle.planner.proofs.runs.count_runs.Tie as tie
-use Rattle.rules.specs.Slots.{Slots}
-use Rattle.rules.specs.Runs.{run, runs, expansions}
+use Rattle.planner_rules.specs.Slots.{Slots}
+use Rattle.planner_rules.specs.Runs.{run, runs, expansions}
 
 abbrev Inv-loop : tie.InvT-loop
 Inv-loop k mfirsts mlasts indexes sizes is₀ ss₀ count₀ grown₀ is ss count grown =

@@ -3,7 +3,7 @@ use borrow.Author.Tests.{lt-ltb, le-ltb}
 use borrow.Author.Needs.{needs}
 use Rattle.planner.proofs.runs.merged_end.Statement.{statement}
 use Rattle.planner.proofs.runs.merged_end.Tie as tie
-use Rattle.rules.specs.Runs.{mergeStep, merged}
+use Rattle.planner_rules.specs.Runs.{mergeStep, merged}
 
 returns : tie.Need-returns
 unfolding mergeStep merged

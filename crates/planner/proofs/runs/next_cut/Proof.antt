@@ -1,6 +1,6 @@
 -- `planner::runs::next_cut` meets its contract. Assumes nothing.
-use Rattle.rules.proofs.AxisLaws.{placed-shifted, kept-yes, kept-past, kept-low, next-is, next-stays}
-use Rattle.rules.specs.declared.runs.Cut.{Cut}
+use Rattle.planner_rules.proofs.AxisLaws.{placed-shifted, kept-yes, kept-past, kept-low, next-is, next-stays}
+use Rattle.planner_rules.specs.declared.runs.Cut.{Cut}
 use lib.ListN.{length}
 use native.Mathlib.Omega.{arith}
 use Prim.Native.Nat.{_≤_}
@@ -8,7 +8,7 @@ use mathlib.Core.Path.{_≡_, sym, subst, _∙_}
 use borrow.Author.Needs.{needs}
 use Rattle.planner.proofs.runs.next_cut.Statement.{statement}
 use Rattle.planner.proofs.runs.next_cut.Tie as tie
-use Rattle.rules.specs.Runs.{kept, nextCut}
+use Rattle.planner_rules.specs.Runs.{kept, nextCut}
 
 mul-if3 : tie.Need-mul-if3
 mul-if3 c = search needs

@@ -1,12 +1,12 @@
 -- `planner::runs::placed_cut` meets its contract. Assumes nothing.
-use Rattle.rules.proofs.AxisLaws.{placed-zero, placed-past, placed-title, placed-moved}
-use Rattle.rules.specs.declared.runs.Held.{Held}
+use Rattle.planner_rules.proofs.AxisLaws.{placed-zero, placed-past, placed-title, placed-moved}
+use Rattle.planner_rules.specs.declared.runs.Held.{Held}
 use native.Mathlib.Omega.{arith}
 use mathlib.Core.Path.{sym, ap, _∙_}
 use borrow.Author.Needs.{needs}
 use Rattle.planner.proofs.runs.placed_cut.Statement.{statement}
 use Rattle.planner.proofs.runs.placed_cut.Tie as tie
-use Rattle.rules.specs.Runs.{moved}
+use Rattle.planner_rules.specs.Runs.{moved}
 
 returns : tie.Need-returns
 returns c =

@@ -1,6 +1,6 @@
 -- `planner::runs::resumed_fill` meets its contract. The loop's invariant: what is taken, and what the definition still takes from here, is the whole.
 -- Assumes nothing.
-use Rattle.rules.proofs.EndLaws.{again-fits, again-title, again-stops, again-end, resumed-start}
+use Rattle.planner_rules.proofs.EndLaws.{again-fits, again-title, again-stops, again-end, resumed-start}
 use lib.ListN.{length, drop}
 use Prim.Native.Nat.{_+_, _*_, _-_, _≤_}
 use mathlib.Core.Path.{_≡_}
@@ -8,7 +8,7 @@ use borrow.Author.Needs.{needs}
 use native.Mathlib.Omega.{arith}
 use Rattle.planner.proofs.runs.resumed_fill.Statement.{statement}
 use Rattle.planner.proofs.runs.resumed_fill.Tie as tie
-use Rattle.rules.specs.Runs.{again, resumed}
+use Rattle.planner_rules.specs.Runs.{again, resumed}
 
 abbrev Inv-loop : tie.InvT-loop
 Inv-loop indexes sizes capacity last sum₀ n₀ sum n =

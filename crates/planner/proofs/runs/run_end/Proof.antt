@@ -1,12 +1,12 @@
 -- `planner::runs::run_end` meets its contract. Assumes nothing.
 use native.Mathlib.Omega.{arith}
-use Rattle.rules.proofs.EndLaws.{Within, merged-within}
+use Rattle.planner_rules.proofs.EndLaws.{Within, merged-within}
 use Prim.Native.Nat.{ℕ}
 use mathlib.Core.Path.{sym, ap, subst, _∙_}
 use borrow.Author.Needs.{needs}
 use Rattle.planner.proofs.runs.run_end.Statement.{statement}
 use Rattle.planner.proofs.runs.run_end.Tie as tie
-use Rattle.rules.specs.Runs.{merged, runEnd}
+use Rattle.planner_rules.specs.Runs.{merged, runEnd}
 
 taken-slots-requires : tie.Need-taken-slots-requires
 taken-slots-requires c κs = search needs

@@ -1,11 +1,11 @@
 -- `planner::runs::taken_slots` meets its contract. Assumes nothing.
-use Rattle.rules.proofs.EndLaws.{taken-all, taken-more}
+use Rattle.planner_rules.proofs.EndLaws.{taken-all, taken-more}
 use Prim.Native.Nat.{ℕ}
 use mathlib.Core.Path.{ap, _∙_}
 use borrow.Author.Needs.{needs}
 use Rattle.planner.proofs.runs.taken_slots.Statement.{statement}
 use Rattle.planner.proofs.runs.taken_slots.Tie as tie
-use Rattle.rules.specs.Runs.{filled, natural}
+use Rattle.planner_rules.specs.Runs.{filled, natural}
 
 shared-slice-read-capacity-for : tie.Need-shared-slice-read-capacity-for
 shared-slice-read-capacity-for c = search needs

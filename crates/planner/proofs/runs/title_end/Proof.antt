@@ -1,14 +1,14 @@
 -- `planner::runs::title_end` meets its contract. Assumes nothing.
 use native.Mathlib.Omega.{arith}
 -- `planner::runs::title_end` meets its contract. Assumes nothing.
-use Rattle.rules.proofs.EndLaws.{title-holds, title-before, title-after}
-use Rattle.rules.proofs.Laws.{slots-part, length-part}
+use Rattle.planner_rules.proofs.EndLaws.{title-holds, title-before, title-after}
+use Rattle.planner_rules.proofs.Laws.{slots-part, length-part}
 use Prim.Native.Nat.{ℕ, _+_}
 use mathlib.Core.Path.{ap, _∙_}
 use borrow.Author.Needs.{needs}
 use Rattle.planner.proofs.runs.title_end.Statement.{statement}
 use Rattle.planner.proofs.runs.title_end.Tie as tie
-use Rattle.rules.specs.Runs.{resumption}
+use Rattle.planner_rules.specs.Runs.{resumption}
 
 enum-known-title : tie.Need-enum-known-title
 enum-known-title c = search needs

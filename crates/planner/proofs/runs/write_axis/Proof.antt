@@ -4,10 +4,10 @@ use mathlib.Core.List.{List, [], _++_, append-nil}
 use Prim.Native.Nat.{_+_, _-_, _≤_}
 use native.Mathlib.Omega.{arith}
 use lib.ListN.{length, drop}
-use Rattle.rules.specs.Runs.{Run, stretch, axisRuns}
-use Rattle.rules.specs.Lent.{RoomAt}
-use Rattle.rules.proofs.Lent.{Lists, lists-start, lists-stores, lists-room, lists-done}
-use Rattle.rules.proofs.AxisLaws.{axis-more, axis-end}
+use Rattle.planner_rules.specs.Runs.{Run, stretch, axisRuns}
+use Rattle.planner_rules.specs.Lent.{RoomAt}
+use Rattle.planner_rules.proofs.Lent.{Lists, lists-start, lists-stores, lists-room, lists-done}
+use Rattle.planner_rules.proofs.AxisLaws.{axis-more, axis-end}
 use borrow.Author.Needs.{needs}
 use Rattle.planner.proofs.runs.write_axis.Statement.{statement}
 use Rattle.planner.proofs.runs.write_axis.Tie as tie

@@ -5,12 +5,12 @@ use Prim.Native.Nat.{ℕ, _-_, _^_, _<_}
 use native.Mathlib.Omega.{arith}
 use lib.ListN.{length, getD, take}
 use lib.Seq.{length-take-le}
-use Rattle.rules.specs.declared.runs.RunEnd.{RunEnd}
-use Rattle.rules.specs.Slots.{Slots, sum}
-use Rattle.rules.specs.Runs.{Run, run, runs, firstMarked, withMark}
-use Rattle.rules.proofs.Laws.{part, slots-part, small-take}
-use Rattle.rules.proofs.Lent.{Lists, lists-start, lists-store, lists-done}
-use Rattle.rules.proofs.AxisLaws.{turn-marked, none-marked, some-marked}
+use Rattle.planner_rules.specs.declared.runs.RunEnd.{RunEnd}
+use Rattle.planner_rules.specs.Slots.{Slots, sum}
+use Rattle.planner_rules.specs.Runs.{Run, run, runs, firstMarked, withMark}
+use Rattle.planner_rules.proofs.Laws.{part, slots-part, small-take}
+use Rattle.planner_rules.proofs.Lent.{Lists, lists-start, lists-store, lists-done}
+use Rattle.planner_rules.proofs.AxisLaws.{turn-marked, none-marked, some-marked}
 use borrow.Author.Needs.{needs}
 use Rattle.planner.proofs.runs.write_runs.Statement.{statement}
 use Rattle.planner.proofs.runs.write_runs.Tie as tie

@@ -2,11 +2,11 @@
 use mathlib.Core.Path.{sym, subst}
 use Prim.Native.Nat.{ℕ}
 use native.Mathlib.Omega.{arith}
-use Rattle.rules.specs.Runs.{runs, firstMarked, stretch}
-use Rattle.rules.specs.Slots.{mid}
-use Rattle.rules.specs.Lent.{Room, Written, firsts, lasts, sizes, marks}
-use Rattle.rules.proofs.Laws.{part, length-part, slots-mid}
-use Rattle.rules.proofs.Lent.{put-rest}
+use Rattle.planner_rules.specs.Runs.{runs, firstMarked, stretch}
+use Rattle.planner_rules.specs.Slots.{mid}
+use Rattle.planner_rules.specs.Lent.{Room, Written, firsts, lasts, sizes, marks}
+use Rattle.planner_rules.proofs.Laws.{part, length-part, slots-mid}
+use Rattle.planner_rules.proofs.Lent.{put-rest}
 use borrow.Author.Needs.{needs}
 use Rattle.planner.proofs.runs.write_stretch.Statement.{statement}
 use Rattle.planner.proofs.runs.write_stretch.Tie as tie

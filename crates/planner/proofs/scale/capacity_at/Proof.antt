@@ -7,7 +7,7 @@ use mir.Syntax.{w64}
 use mir.ValLaws.{toZ-pos}
 use Rattle.units.specs.declared.Length.{Length}
 use Rattle.units.specs.Units.{lengthOutcome, unscaledCapacity}
-use Rattle.rules.specs.Scale.{units}
+use Rattle.planner_rules.specs.Scale.{units}
 use borrow.Author.Needs.{needs}
 use Rattle.planner.proofs.scale.capacity_at.Statement.{statement}
 use Rattle.planner.proofs.scale.capacity_at.Tie as tie

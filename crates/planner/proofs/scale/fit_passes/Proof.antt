@@ -3,12 +3,12 @@ use mathlib.Core.Path.{ap, _∙_}
 use mathlib.Core.Bool.{Bool, _&&_}
 use native.Mathlib.Omega.{arith}
 use lib.ListN.{length}
-use Rattle.rules.specs.declared.runs.Frame.{Frame}
-use Rattle.rules.specs.Runs.{run, runs}
-use Rattle.rules.specs.Scale.{runsAt, allFit, meets, spaceOf, bodyFor, titled}
-use Rattle.rules.specs.Plan.{readyFrame}
-use Rattle.rules.proofs.Laws.{none, some}
-use Rattle.rules.proofs.ScaleLaws.{no-runs, some-runs}
+use Rattle.planner_rules.specs.declared.runs.Frame.{Frame}
+use Rattle.planner_rules.specs.Runs.{run, runs}
+use Rattle.planner_rules.specs.Scale.{runsAt, allFit, meets, spaceOf, bodyFor, titled}
+use Rattle.planner_rules.specs.Plan.{readyFrame}
+use Rattle.planner_rules.proofs.Laws.{none, some}
+use Rattle.planner_rules.proofs.ScaleLaws.{no-runs, some-runs}
 use borrow.Author.Needs.{needs}
 use Rattle.planner.proofs.scale.fit_passes.Statement.{statement}
 use Rattle.planner.proofs.scale.fit_passes.Tie as tie

@@ -2,8 +2,8 @@
 use mathlib.Core.Path.{sym, _∙_}
 use mathlib.Core.Bool.{_&&_}
 use borrow.Author.Tests.{not-true, not-false}
-use Rattle.rules.specs.Scale.{fitPasses}
-use Rattle.rules.proofs.ScaleLaws.{fit-none, fit-found}
+use Rattle.planner_rules.specs.Scale.{fitPasses}
+use Rattle.planner_rules.proofs.ScaleLaws.{fit-none, fit-found}
 use borrow.Author.Needs.{needs}
 use Rattle.planner.proofs.scale.fit_scale.Statement.{statement}
 use Rattle.planner.proofs.scale.fit_scale.Tie as tie

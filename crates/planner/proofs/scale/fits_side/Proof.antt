@@ -9,7 +9,7 @@ use mir.Val.{SFits, toZ, ofZ}
 use mir.ValLaws.{toZ-pos, toZ-ofZ}
 use Rattle.units.specs.declared.Length.{Length}
 use Rattle.units.specs.Units.{lengthOutcome, scaleFixed}
-use Rattle.rules.specs.Scale.{atMost, fitsSide}
+use Rattle.planner_rules.specs.Scale.{atMost, fitsSide}
 use borrow.Author.Needs.{needs}
 use Rattle.planner.proofs.scale.fits_side.Statement.{statement}
 use Rattle.planner.proofs.scale.fits_side.Tie as tie

@@ -5,9 +5,9 @@ use mathlib.Core.List.{List}
 use Prim.Native.Nat.{ℕ, _+_, _-_, _/_, _≤_, _<_}
 use native.Mathlib.Omega.{arith}
 use lib.Dec.{lit<}
-use Rattle.rules.specs.declared.scale.Fit.{Fit}
-use Rattle.rules.specs.Scale.{fitPasses, middle, halve}
-use Rattle.rules.proofs.Halving.{Halving, halving-stop, up-at, down-at}
+use Rattle.planner_rules.specs.declared.scale.Fit.{Fit}
+use Rattle.planner_rules.specs.Scale.{fitPasses, middle, halve}
+use Rattle.planner_rules.proofs.Halving.{Halving, halving-stop, up-at, down-at}
 use borrow.Author.Needs.{needs}
 use Rattle.planner.proofs.scale.halved_permille.Statement.{statement}
 use Rattle.planner.proofs.scale.halved_permille.Tie as tie

@@ -1,7 +1,7 @@
 -- `planner::scale::printed` meets its contract. Assumes nothing.
 use native.Mathlib.Omega.{arith}
-use Rattle.rules.specs.Scale.{spaceOf}
-use Rattle.rules.proofs.ScaleLaws.{printed-empty, printed-absent, printed-past, printed-before}
+use Rattle.planner_rules.specs.Scale.{spaceOf}
+use Rattle.planner_rules.proofs.ScaleLaws.{printed-empty, printed-absent, printed-past, printed-before}
 use borrow.Author.Needs.{needs}
 use Rattle.planner.proofs.scale.printed.Statement.{statement}
 use Rattle.planner.proofs.scale.printed.Tie as tie

@@ -7,13 +7,13 @@ use native.Mathlib.Omega.{arith}
 use lib.ListN.{length, getD, take}
 use lib.Seq.{length-take-le}
 use borrow.Author.Tests.{not-true, not-false}
-use Rattle.rules.specs.declared.runs.RunEnd.{RunEnd}
-use Rattle.rules.specs.Slots.{Slots, sum}
-use Rattle.rules.specs.Runs.{run, runs}
-use Rattle.rules.specs.Scale.{fitsSide, allFit, meets, printed, rendered, spaceOf, titled}
-use Rattle.rules.proofs.Laws.{part, length-part, slots-part, small-take, turn, none, some}
-use Rattle.rules.proofs.TitleLaws.{small-sum}
-use Rattle.rules.proofs.ScaleLaws.{meets-none, passFrom, from-none, too-many, one-out, one-in, all-in}
+use Rattle.planner_rules.specs.declared.runs.RunEnd.{RunEnd}
+use Rattle.planner_rules.specs.Slots.{Slots, sum}
+use Rattle.planner_rules.specs.Runs.{run, runs}
+use Rattle.planner_rules.specs.Scale.{fitsSide, allFit, meets, printed, rendered, spaceOf, titled}
+use Rattle.planner_rules.proofs.Laws.{part, length-part, slots-part, small-take, turn, none, some}
+use Rattle.planner_rules.proofs.TitleLaws.{small-sum}
+use Rattle.planner_rules.proofs.ScaleLaws.{meets-none, passFrom, from-none, too-many, one-out, one-in, all-in}
 use borrow.Author.Needs.{needs}
 use Rattle.planner.proofs.scale.runs_pass.Statement.{statement}
 use Rattle.planner.proofs.scale.runs_pass.Tie as tie

@@ -1,10 +1,10 @@
 -- `planner::title::title_total` meets its contract. Assumes nothing.
 use mathlib.Core.Path.{ap, _∙_}
 use Prim.Native.Nat.{ℕ, _+_}
-use Rattle.rules.specs.Slots.{below}
-use Rattle.rules.specs.Titles.{titleTotal}
-use Rattle.rules.proofs.Laws.{slots-mid}
-use Rattle.rules.proofs.TitleLaws.{total-some, total-none}
+use Rattle.planner_rules.specs.Slots.{below}
+use Rattle.planner_rules.specs.Titles.{titleTotal}
+use Rattle.planner_rules.proofs.Laws.{slots-mid}
+use Rattle.planner_rules.proofs.TitleLaws.{total-some, total-none}
 use borrow.Author.Needs.{needs}
 use Rattle.planner.proofs.title.title_total.Statement.{statement}
 use Rattle.planner.proofs.title.title_total.Tie as tie

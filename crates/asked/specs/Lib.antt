@@ -1,2 +1,0 @@
--- What the contracts of `asked` cite.
-pub mod Asked

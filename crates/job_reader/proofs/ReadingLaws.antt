@@ -1,0 +1,201 @@
+-- Laws for the call that reads a job into lent lists. Assumes nothing.
+use mathlib.Core.Path.{_≡_, refl, sym, ap, ap₂, _∙_}
+use mathlib.Core.Bool.{Bool, true, false, cond}
+use mathlib.Core.List.{List, [], _∷_, _++_, map}
+use Prim.Native.Nat.{ℕ, suc, _+_, _-_, _≤_}
+use native.Mathlib.Omega.{arith}
+use lib.ListN.{length, take, drop}
+use borrow.Author.Tests.{eqb-true, leb-true}
+use Rattle.units.specs.Outcome.{given, refused}
+use Rattle.planner_rules.specs.Slots.{written}
+use Rattle.job_records.specs.declared.records.Record.{Record}
+use Rattle.job_questions.specs.declared.Items.{Items}
+use Rattle.job_questions.specs.declared.Checked.{Checked}
+use Rattle.job_questions.specs.declared.Checked.the-variants as checked
+use Rattle.job_settings.specs.declared.JobSettings.{JobSettings}
+use Rattle.job_reader.specs.declared.lists.Reading.the-variants.{Value, Refused}
+use Rattle.job_records.specs.Records.{RW, CL, MR, BR, BC, field, records, marked, values}
+use Rattle.job_questions.specs.Verdict.{ordered, hasArea, questions, inOrder, itemsOf, verdictLent, checkedOutcome}
+use Rattle.job_reader.specs.Settings.{settingsOf}
+use Rattle.job_reader.specs.Walk.{Sorted, From, Past}
+use Rattle.job_reader.specs.Reading.{Lists, evenLists, roomIn, fitIn, asked, admitted, admittedTo, jobOf, readJob, JobRead, Room, AllWritten}
+use Rattle.planner_rules.proofs.QuestionLaws.{both}
+use Rattle.job_records.proofs.RecordLaws.{part}
+use Rattle.job_questions.proofs.PassLaws.{All}
+use Rattle.job_reader.proofs.WalkLaws.{sorted-of}
+
+-- ---- questions in order, whatever is given at the end
+
+module _ {A B : Type 0} (v : A) (w : B) where
+  pub in-order-given : (n : ℕ) (qs : List Bool) (x : A) → given x ≡ inOrder n qs v → (x ≡ v) × (given w ≡ inOrder n qs w)
+  in-order-given n [] x e = (cc, refl)
+  in-order-given n (true ∷ qs) x e = in-order-given (suc n) qs x e
+  in-order-given n (false ∷ qs) x e = let z : _≡_ {A = ℕ} 0 1 = cc in absurd (omega arith)
+
+  pub in-order-refused : (n : ℕ) (qs : List Bool) (x : ℕ) → refused x ≡ inOrder n qs v → refused x ≡ inOrder n qs w
+  in-order-refused n [] x e = let z : _≡_ {A = ℕ} 0 1 = cc in absurd (omega arith)
+  in-order-refused n (true ∷ qs) x e = in-order-refused (suc n) qs x e
+  in-order-refused n (false ∷ qs) x e = let i : x ≡ n = cc in ap refused i
+
+-- a no among some questions is the first among more
+in-order-more : {A B : Type 0} (v : A) (w : B) (more : List Bool) (n x : ℕ) (qs : List Bool) → refused x ≡ inOrder n qs v → refused x ≡ inOrder n (qs ++ more) w
+in-order-more v w more n x [] e = let z : _≡_ {A = ℕ} 0 1 = cc in absurd (omega arith)
+in-order-more v w more n x (true ∷ qs) e = in-order-more v w more (suc n) x qs e
+in-order-more v w more n x (false ∷ qs) e = let i : x ≡ n = cc in ap refused i
+
+pub all-given : {A : Type 0} (v : A) (n : ℕ) (qs : List Bool) (x : A) → given x ≡ inOrder n qs v → All qs
+all-given v n [] x e = tt
+all-given v n (true ∷ qs) x e = (refl, all-given v (suc n) qs x e)
+all-given v n (false ∷ qs) x e = let z : _≡_ {A = ℕ} 0 1 = cc in absurd (omega arith)
+
+-- ---- question 11, after the others
+
+module _ (even : Bool) (s : List ℕ) (room : Items) (f : Checked) (e : checkedOutcome f ≡ verdictLent even s) where
+  pub admit-no : (n : ℕ) → f ≡ checked.Refused n → refused n ≡ admitted even room s
+  unfolding verdictLent admitted
+  admit-no n k = in-order-more (itemsOf (records s)) (itemsOf (records s)) (true ∷ fitIn (itemsOf (records s)) room ∷ []) 1 n (questions even s) (sym (ap checkedOutcome k) ∙ e)
+
+  module _ (items : Items) (k : f ≡ checked.Value items) where
+    is-questioned : given items ≡ inOrder 1 (questions even s) (itemsOf (records s))
+    unfolding verdictLent
+    is-questioned = sym (ap checkedOutcome k) ∙ e
+
+    counted : items ≡ itemsOf (records s)
+    counted = in-order-given (itemsOf (records s)) (itemsOf (records s)) 1 (questions even s) items is-questioned .0
+
+    past-nine : inOrder 10 (true ∷ fitIn (itemsOf (records s)) room ∷ []) (itemsOf (records s)) ≡ admitted even room s
+    unfolding admitted
+    past-nine =
+        let a = all-given (itemsOf (records s)) 1 (questions even s) items is-questioned in
+        rw (a .0, a .1 .0, a .1 .1 .0, a .1 .1 .1 .0, a .1 .1 .1 .1 .0, a .1 .1 .1 .1 .1 .0, a .1 .1 .1 .1 .1 .1 .0, a .1 .1 .1 .1 .1 .1 .1 .0, a .1 .1 .1 .1 .1 .1 .1 .1 .0)
+
+    fits-is : (b x : Bool) → b ≡ fitIn items room → b ≡ x → cond x (given items) (refused 11) ≡ admitted even room s
+    fits-is b x i h =
+        ap (λ (q : Bool). cond q (given items) (refused 11)) (sym h ∙ i)
+        ∙ ap (λ (c : Items). inOrder 10 (true ∷ fitIn c room ∷ []) c) counted
+        ∙ past-nine
+
+    pub admit-yes : (b : Bool) → b ≡ fitIn items room → b ≡ true → given items ≡ admitted even room s
+    admit-yes b i h = fits-is b true i h
+
+    pub admit-full : (b : Bool) → b ≡ fitIn items room → b ≡ false → refused 11 ≡ admitted even room s
+    admit-full b i h = fits-is b false i h
+
+-- ---- what a job that is admitted tells
+
+read-given : (s : List ℕ) (l : Lists) → given (jobOf (records s)) ≡ inOrder 1 (asked (evenLists l) (roomIn l) s) (jobOf (records s))
+    → given (jobOf (records s)) ≡ readJob s l
+unfolding readJob
+read-given s l h = h
+
+read-refused : (s : List ℕ) (l : Lists) (n : ℕ) → refused n ≡ admittedTo s l → refused n ≡ readJob s l
+unfolding admitted readJob
+read-refused s l n h = in-order-refused (itemsOf (records s)) (jobOf (records s)) 1 (asked (evenLists l) (roomIn l) s) n h
+
+module _ (s : List ℕ) (l : Lists) (f : Checked) (e : checkedOutcome f ≡ admittedTo s l) (items : Items) (k : f ≡ checked.Value items) where
+  is-given : given items ≡ inOrder 1 (asked (evenLists l) (roomIn l) s) (itemsOf (records s))
+  unfolding admitted
+  is-given = sym (ap checkedOutcome k) ∙ e
+
+  all : All (asked (evenLists l) (roomIn l) s)
+  all = all-given (itemsOf (records s)) 1 (asked (evenLists l) (roomIn l) s) items is-given
+
+  pub given-sorted : Sorted 0 (records s)
+  given-sorted = sorted-of 0 (records s) (both (ordered 0 (records s)) (hasArea (records s)) (all .1 .1 .1 .0) .0)
+
+  pub given-room : Room s l
+  given-room = record { even = both (evenLists l) _ (all .1 .1 .1 .1 .1 .0) .0; fits = all .1 .1 .1 .1 .1 .1 .1 .1 .1 .1 .0 }
+
+  -- the job that was read
+  pub job-given : (after : Lists) (set : JobSettings) → set ≡ settingsOf (records s) → AllWritten s l after → JobRead s (Value (record { settings = set; items = items })) l after
+  job-given after set i w =
+      let g = in-order-given (itemsOf (records s)) (jobOf (records s)) 1 (asked (evenLists l) (roomIn l) s) items is-given in
+      let q : given (jobOf (records s)) ≡ readJob s l = read-given s l (g .1) in
+      record {
+        answer = ap₂ (λ (x : JobSettings) (y : Items). given (record { settings = x; items = y })) i (g .0) ∙ q;
+        row-indexes-are = rw (← q) (w .row-indexes-are);
+        row-sizes-are = rw (← q) (w .row-sizes-are);
+        column-indexes-are = rw (← q) (w .column-indexes-are);
+        column-sizes-are = rw (← q) (w .column-sizes-are);
+        merge-first-rows-are = rw (← q) (w .merge-first-rows-are);
+        merge-first-columns-are = rw (← q) (w .merge-first-columns-are);
+        merge-last-rows-are = rw (← q) (w .merge-last-rows-are);
+        merge-last-columns-are = rw (← q) (w .merge-last-columns-are);
+        row-breaks-are = rw (← q) (w .row-breaks-are);
+        column-breaks-are = rw (← q) (w .column-breaks-are);
+      }
+
+-- a job that is refused
+pub job-refused : (s : List ℕ) (l : Lists) (f : Checked) (n : ℕ) → checkedOutcome f ≡ admittedTo s l → f ≡ checked.Refused n → JobRead s (Refused n) l l
+job-refused s l f n e k =
+    let q : refused n ≡ readJob s l = read-refused s l n (sym (ap checkedOutcome k) ∙ e) in
+    record {
+      answer = q;
+      row-indexes-are = rw (← q);
+      row-sizes-are = rw (← q);
+      column-indexes-are = rw (← q);
+      column-sizes-are = rw (← q);
+      merge-first-rows-are = rw (← q);
+      merge-first-columns-are = rw (← q);
+      merge-last-rows-are = rw (← q);
+      merge-last-columns-are = rw (← q);
+      row-breaks-are = rw (← q);
+      column-breaks-are = rw (← q);
+    }
+
+-- ---- room for the items, list by list
+
+pub record Rooms (s : List ℕ) (l : Lists) : Type 0 where
+  pub rows : length (marked RW (records s)) ≤ length (l .row-indexes)
+  pub columns : length (marked CL (records s)) ≤ length (l .column-indexes)
+  pub merges : length (marked MR (records s)) ≤ length (l .merge-first-rows)
+  pub row-breaks : length (marked BR (records s)) ≤ length (l .row-breaks)
+  pub column-breaks : length (marked BC (records s)) ≤ length (l .column-breaks)
+  pub rows-even : length (l .row-indexes) ≡ length (l .row-sizes)
+  pub columns-even : length (l .column-indexes) ≡ length (l .column-sizes)
+  pub first-columns-even : length (l .merge-first-rows) ≡ length (l .merge-first-columns)
+  pub last-rows-even : length (l .merge-first-rows) ≡ length (l .merge-last-rows)
+  pub last-columns-even : length (l .merge-first-rows) ≡ length (l .merge-last-columns)
+
+pub rooms : (s : List ℕ) (l : Lists) → Room s l → Rooms s l
+rooms s l w =
+    let a = both _ _ (w .fits) in
+    let b = both _ _ (a .1) in
+    let c = both _ _ (b .1) in
+    let d = both _ _ (c .1) in
+    let e = both _ _ (w .even) in
+    let f = both _ _ (e .1) in
+    let g = both _ _ (f .1) in
+    let h = both _ _ (g .1) in
+    record {
+      rows = leb-true _ _ (a .0);
+      columns = leb-true _ _ (b .0);
+      merges = leb-true _ _ (c .0);
+      row-breaks = leb-true _ _ (d .0);
+      column-breaks = leb-true _ _ (d .1);
+      rows-even = eqb-true _ _ (e .0);
+      columns-even = eqb-true _ _ (f .0);
+      first-columns-even = eqb-true _ _ (g .0);
+      last-rows-even = eqb-true _ _ (h .0);
+      last-columns-even = eqb-true _ _ (h .1);
+    }
+
+-- ---- the part of a job that is left
+
+pub part-from : (k : ℕ) (b : List ℕ) (n : ℕ) → Past k b n → From k b (take (length b - n) (drop n b))
+part-from k b n p = rw (part n b) (p .left)
+
+pub from-on : (k m : ℕ) (b s : List ℕ) (n : ℕ) → From k b s → Past m s n → k ≤ m → From m b (take (length s - n) (drop n s))
+from-on k m b s n w p h =
+    let v = part-from m s n p in
+    record { sorted = v .sorted; kept = λ j i. v .kept j i ∙ w .kept j (omega arith) }
+
+module _ (k : ℕ) (b s : List ℕ) (w : From k b s) where
+  same : marked k (records s) ≡ marked k (records b)
+  same = w .kept k (omega arith)
+
+  pub room-from : (n : ℕ) → length (marked k (records b)) ≤ n → length (marked k (records s)) ≤ n
+  room-from n h = rw same h
+
+  pub values-from : (f : ℕ) (old new : List ℕ) → new ≡ written (values k f (records s)) old → new ≡ written (values k f (records b)) old
+  values-from f old new e = e ∙ ap (λ (l : List Record). written (map (field f) l) old) same

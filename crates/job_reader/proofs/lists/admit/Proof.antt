@@ -1,0 +1,52 @@
+-- `job_reader::lists::admit` meets its contract: 1 to 9, then whether the items fit. Assumes nothing.
+use Rattle.job_reader.proofs.ReadingLaws.{admit-no, admit-yes, admit-full}
+use borrow.Author.Needs.{needs}
+use Rattle.job_reader.proofs.lists.admit.Statement.{statement}
+use Rattle.job_reader.proofs.lists.admit.Tie as tie
+
+check-job-lent-requires : tie.Need-check-job-lent-requires
+check-job-lent-requires c κs = search needs
+
+enum-known-checked : tie.Need-enum-known-checked
+enum-known-checked c = search needs
+
+enum-known-checked-2 : tie.Need-enum-known-checked-2
+enum-known-checked-2 c = search needs
+
+fit-in-requires : tie.Need-fit-in-requires
+fit-in-requires c κs = search needs
+
+returns : tie.Need-returns
+returns c =
+    let start : tie.Start = search in
+    let after-check-job-lent : tie.After-check-job-lent = search in
+    let a = start .args in
+    admit-no (a .equally-long) (a .bytes .now) (a .room) (after-check-job-lent .check-job-lent .result) (after-check-job-lent .check-job-lent .ensures) _ (c .before .checked .given .1)
+
+returns-2 : tie.Need-returns-2
+returns-2 c =
+    let start : tie.Start = search in
+    let after-check-job-lent : tie.After-check-job-lent = search in
+    let after-checked2 : tie.After-checked2 = search in
+    let a = start .args in
+    admit-yes (a .equally-long) (a .bytes .now) (a .room) (after-check-job-lent .check-job-lent .result) (after-check-job-lent .check-job-lent .ensures) _ (after-checked2 .checked2 .given .1) _ (c .before .fit-in .ensures) (c .if1 .taken)
+
+returns-3 : tie.Need-returns-3
+returns-3 c =
+    let start : tie.Start = search in
+    let after-check-job-lent : tie.After-check-job-lent = search in
+    let after-checked2 : tie.After-checked2 = search in
+    let a = start .args in
+    admit-full (a .equally-long) (a .bytes .now) (a .room) (after-check-job-lent .check-job-lent .result) (after-check-job-lent .check-job-lent .ensures) _ (after-checked2 .checked2 .given .1) _ (c .before .fit-in .ensures) (c .if1 .left)
+
+pub admit-spec : {M : Type 1} → statement M
+admit-spec =
+    tie.close
+    (tie.spec
+    check-job-lent-requires
+    enum-known-checked
+    enum-known-checked-2
+    fit-in-requires
+    returns
+    returns-2
+    returns-3)

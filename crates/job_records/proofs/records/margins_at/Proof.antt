@@ -1,0 +1,49 @@
+-- `job_records::records::margins_at` meets its contract. Assumes nothing.
+use Rattle.job_records.proofs.NumberLaws.{within}
+use Rattle.job_records.proofs.records.margins_at.Statement.{statement}
+use Rattle.job_records.proofs.records.margins_at.Tie as tie
+
+u64-at-requires : tie.Need-u64-at-requires
+u64-at-requires c κs = within _ 50 _ tt (c .before .pre)
+
+u64-at-requires-2 : tie.Need-u64-at-requires-2
+u64-at-requires-2 c κs = within _ 50 _ tt (c .before .before .pre)
+
+u64-at-requires-3 : tie.Need-u64-at-requires-3
+u64-at-requires-3 c κs =
+    let start : tie.Start = search in
+    within _ 50 _ tt (start .pre)
+
+u64-at-requires-4 : tie.Need-u64-at-requires-4
+u64-at-requires-4 c κs =
+    let start : tie.Start = search in
+    within _ 50 _ tt (start .pre)
+
+u64-at-requires-5 : tie.Need-u64-at-requires-5
+u64-at-requires-5 c κs =
+    let start : tie.Start = search in
+    within _ 50 _ tt (start .pre)
+
+u64-at-requires-6 : tie.Need-u64-at-requires-6
+u64-at-requires-6 c κs =
+    let start : tie.Start = search in
+    within _ 50 _ tt (start .pre)
+
+returns : tie.Need-returns
+returns c =
+    let after-u64-at : tie.After-u64-at = search in
+    let after-u64-at2 : tie.After-u64-at2 = search in
+    let after-u64-at3 : tie.After-u64-at3 = search in
+    rw (c .u64-at6 .ensures, c .before .u64-at5 .ensures, c .before .before .u64-at4 .ensures, after-u64-at3 .u64-at3 .ensures, after-u64-at2 .u64-at2 .ensures, after-u64-at .u64-at .ensures)
+
+pub margins-at-spec : {M : Type 1} → statement M
+margins-at-spec =
+    tie.close
+    (tie.spec
+    u64-at-requires
+    u64-at-requires-2
+    u64-at-requires-3
+    u64-at-requires-4
+    u64-at-requires-5
+    u64-at-requires-6
+    returns)

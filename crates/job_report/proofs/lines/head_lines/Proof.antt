@@ -1,0 +1,56 @@
+-- `job_report::lines::head_lines` meets its contract. Assumes nothing.
+use borrow.Author.Needs.{needs}
+use native.Mathlib.Omega.{arith}
+use mathlib.Core.Path.{sym, ap, _∙_}
+use mathlib.Core.List.{[]}
+use lib.ListN.{take}
+use Rattle.planner_rules.specs.declared.planning.Planning.{Planning}
+use Rattle.planner_rules.specs.Plan.{planOutcome}
+use Rattle.job_report.specs.Lines.{headLines}
+use Rattle.job_report.proofs.TextLaws.{and-then, counts}
+use Rattle.job_report.proofs.lines.head_lines.Statement.{statement}
+use Rattle.job_report.proofs.lines.head_lines.Tie as tie
+
+enum-known-planning : tie.Need-enum-known-planning
+enum-known-planning c = search needs
+
+plan-line-requires : tie.Need-plan-line-requires
+plan-line-requires c κs = search needs
+
+notes-line-requires : tie.Need-notes-line-requires
+notes-line-requires c κs = search needs
+
+enum-known-planning-2 : tie.Need-enum-known-planning-2
+enum-known-planning-2 c = search needs
+
+refusal-line-requires : tie.Need-refusal-line-requires
+refusal-line-requires c κs = search needs
+
+returns : tie.Need-returns
+unfolding headLines
+returns c =
+    let after-planning : tie.After-planning = search in
+    let p : tie.After-plan-line = search in
+    let n = c .notes-line in
+    let g = after-planning .planning .given in
+    (and-then [] (take (p .plan-line .result) (p .plan-line .last .0)) _ _ _ (p .plan-line .ensures .0) (n .ensures .0) ∙ ap (λ (l : Planning). headLines (planOutcome l)) (sym (g .1)), counts (n .result) (n .last .0) (omega arith))
+
+returns-2 : tie.Need-returns-2
+unfolding headLines
+returns-2 c =
+    let after-planning2 : tie.After-planning2 = search in
+    let n = c .refusal-line in
+    let g = after-planning2 .planning2 .given in
+    (n .ensures .0 ∙ ap (λ (l : Planning). headLines (planOutcome l)) (sym (g .1)), counts (n .result) (n .last .0) (omega arith))
+
+pub head-lines-spec : {M : Type 1} → statement M
+head-lines-spec =
+    tie.close
+    (tie.spec
+    enum-known-planning
+    plan-line-requires
+    notes-line-requires
+    enum-known-planning-2
+    refusal-line-requires
+    returns
+    returns-2)

@@ -1,3 +1,0 @@
--- What the contracts of `records` cite: numbers and records in bytes.
-pub mod Numbers
-pub mod Records
