@@ -1,19 +1,18 @@
 -- The plan of a job's bytes: document 01, sections "Jobs" and "Questions in order". Assumes nothing.
 use mathlib.Core.Path.{_≡_}
-use mathlib.Core.Bool.{true, _&&_}
+use mathlib.Core.Bool.{true}
 use mathlib.Core.List.{List}
 use Prim.Native.Nat.{ℕ, _≤_}
 use lib.ListN.{length, take}
 use Rattle.units.specs.Outcome.{Outcome, andThen}
 use Rattle.planner_rules.specs.declared.planning.Settings.{Settings}
-use Rattle.planner_rules.specs.Pages.{RunLists, evenLists}
 use Rattle.planner_rules.specs.Plan.{AxisInput, Layout, Planned, rowsOf, columnsOf, planned}
 use Rattle.planner_rules.specs.Demand.{CoversPairs, FewestPlan, LargestPlan}
 use Rattle.planner_rules.specs.declared.planning.Planning.{Planning}
 use Rattle.planner_rules.specs.declared.planning.Planning.the-variants.{Refused}
 use Rattle.job_records.specs.Records.{RW, CL, MR, BR, BC, records, values}
-use Rattle.job_questions.specs.Verdict.{verdictLent}
-use Rattle.job_reader.specs.Reading.{Lists}
+use Rattle.job_questions.specs.Verdict.{verdict, question1, itemsOf}
+use Rattle.job_reader.specs.Reading.{Lists, evenLists, roomIn, fitIn}
 use Rattle.job_reader.specs.declared.lists.Job.{Job}
 use Rattle.job_reader.specs.declared.lists.Reading.{Reading}
 use Rattle.job_reader.specs.declared.lists.Reading.the-variants.{Value, Refused as NotRead}
@@ -52,21 +51,14 @@ jobColumns s =
 
 -- ---- the call
 
--- 1 to 9 as they are put to the bytes and, at 6, to the lent lists of runs, then the plan of what was read; the lent lists are those of the rows and those of the columns
-unfoldable pub planJob : List ℕ → RunLists → RunLists → Outcome Layout
-planJob s rows columns =
-    andThen (verdictLent (evenLists rows && evenLists columns) s)
-    (λ (items : Items). planned (jobSettings s) (jobRows s) (jobColumns s) rows columns)
+-- 1 to 9 as they are put to the bytes, then the plan of what was read; the lent lists are that of the row runs and that of the column runs
+unfoldable pub planJob : List ℕ → List ℕ → List ℕ → Outcome Layout
+planJob s rows columns = andThen (verdict s) (λ (items : Items). planned (jobSettings s) (jobRows s) (jobColumns s) rows columns)
 
 -- ---- for the private functions
 
--- the same of run lists that are equally long
-unfoldable pub planEven : List ℕ → RunLists → RunLists → Outcome Layout
-planEven s rows columns =
-    andThen (verdictLent true s) (λ (items : Items). planned (jobSettings s) (jobRows s) (jobColumns s) rows columns)
-
 -- the four clauses: the answer r and the run lists, which were rows₀ and columns₀, where the outcome is o, for the settings s and the axes a and b
-abbrev pub Told : Outcome Layout → Settings → AxisInput → AxisInput → Planning → RunLists → RunLists → RunLists → RunLists → Type 0
+abbrev pub Told : Outcome Layout → Settings → AxisInput → AxisInput → Planning → List ℕ → List ℕ → List ℕ → List ℕ → Type 0
 Told o s a b r rows₀ columns₀ rows columns =
     Planned o r rows₀ columns₀ rows columns
     × (CoversPairs r a b rows columns × (FewestPlan r s a b rows columns × LargestPlan r s a b))
@@ -101,14 +93,17 @@ columnsFrom j l =
     (take (j .items .merges) (l .merge-first-columns)) (take (j .items .merges) (l .merge-last-columns)) (take (j .items .«column_breaks») (l .column-breaks))
 
 -- a refusal is handed on, and writes nothing; a job is planned
-pub record ReadPlanned (reading : Reading) (l : Lists) (r : Planning) (rows₀ columns₀ rows columns : RunLists) : Type 0 where
+pub record ReadPlanned (reading : Reading) (l : Lists) (r : Planning) (rows₀ columns₀ rows columns : List ℕ) : Type 0 where
   pub no : (n : ℕ) → reading ≡ NotRead n → (r ≡ Refused n) × ((rows ≡ rows₀) × (columns ≡ columns₀))
   pub yes : (j : Job) → reading ≡ Value j
       → Told (planned (settingsFor (j .settings)) (rowsFrom j l) (columnsFrom j l) rows₀ columns₀) (settingsFor (j .settings)) (rowsFrom j l) (columnsFrom j l) r rows₀ columns₀ rows columns
 
--- the four clauses of the call, of run lists that are equally long: the answer r and the run lists, which were rows₀ and columns₀
-pub record EvenPlanned (s : List ℕ) (r : Planning) (rows₀ columns₀ rows columns : RunLists) : Type 0 where
-  pub planned-so : Planned (planEven s rows₀ columns₀) r rows₀ columns₀ rows columns
-  pub covered-so : CoversPairs r (jobRows s) (jobColumns s) rows columns
-  pub fewest-so : FewestPlan r (jobSettings s) (jobRows s) (jobColumns s) rows columns
-  pub largest-so : LargestPlan r (jobSettings s) (jobRows s) (jobColumns s)
+-- the lists hold the items of every job that is read
+pub record Holds (s : List ℕ) (l : Lists) : Type 0 where
+  pub even : evenLists l ≡ true
+  pub room : question1 s ≡ true → fitIn (itemsOf (records s)) (roomIn l) ≡ true
+
+-- the four clauses of the call: the answer r and the run lists, which were rows₀ and columns₀
+abbrev pub JobPlanned : List ℕ → Planning → List ℕ → List ℕ → List ℕ → List ℕ → Type 0
+JobPlanned s r rows₀ columns₀ rows columns =
+    Told (planJob s rows₀ columns₀) (jobSettings s) (jobRows s) (jobColumns s) r rows₀ columns₀ rows columns

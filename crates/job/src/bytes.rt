@@ -1,22 +1,14 @@
 // The plan of a job's bytes: document 01, sections "Jobs" and "Questions in order".
-use job_questions::Checked;
-use job_questions::check_job_lent;
 use job_reader::Reading;
 use job_reader::read_job;
 use job_settings::range_for;
 use job_settings::settings_for;
 use planner::plan_pages;
-use planner_questions::lists_even;
 use planner_rules::Planning;
-ghost use mathlib.Core.Path.{_≡_};
-ghost use mathlib.Core.Bool.{false};
 ghost use Prim.Native.Nat.{_≤_};
 ghost use lib.ListN.{length};
-ghost use Rattle.units.specs.Outcome.{refused};
-ghost use Rattle.planner_rules.specs.Pages as pages;
 ghost use Rattle.planner_rules.specs.Plan as call;
 ghost use Rattle.planner_rules.specs.Demand.{CoversPairs, FewestPlan, LargestPlan};
-ghost use Rattle.job_questions.specs.Verdict.{verdictLent};
 ghost use Rattle.job_reader.specs.Reading.{lists};
 ghost use Rattle.job.specs.PlanJob as section;
 
@@ -44,7 +36,7 @@ const SMALL_ROW_BREAKS: usize = 350;
 
 const SMALL_COLUMN_BREAKS: usize = 525;
 
-// Plans what was read to ten lists, with run lists that are equally long.
+// Plans what was read to ten lists.
 fn plan_read(
     reading: Reading,
     row_indexes: &[u32],
@@ -57,35 +49,14 @@ fn plan_read(
     merge_last_columns: &[u32],
     row_breaks: &[u32],
     column_breaks: &[u32],
-    row_run_firsts: &mut [u32],
-    row_run_lasts: &mut [u32],
-    row_run_sizes: &mut [u64],
-    row_run_marks: &mut [u8],
-    column_run_firsts: &mut [u32],
-    column_run_lasts: &mut [u32],
-    column_run_sizes: &mut [u64],
-    column_run_marks: &mut [u8],
+    row_runs: &mut [u64],
+    column_runs: &mut [u64],
 ) -> Planning
-    requires { ⌜
-        section.Filled reading
-        (lists (now «row_indexes») (now «row_sizes») (now «column_indexes») (now «column_sizes») (now «merge_first_rows»)
-        (now «merge_first_columns») (now «merge_last_rows») (now «merge_last_columns») (now «row_breaks») (now «column_breaks»))
-        ⌝ }
+    requires { ⌜ section.Filled reading (lists (now «row_indexes») (now «row_sizes») (now «column_indexes») (now «column_sizes») (now «merge_first_rows») (now «merge_first_columns») (now «merge_last_rows») (now «merge_last_columns») (now «row_breaks») (now «column_breaks»)) ⌝ }
     ensures { λ r. ⌜
         section.ReadPlanned reading
-        (lists (now («row_indexes» .entry)) (now («row_sizes» .entry)) (now («column_indexes» .entry))
-        (now («column_sizes» .entry)) (now («merge_first_rows» .entry)) (now («merge_first_columns» .entry))
-        (now («merge_last_rows» .entry)) (now («merge_last_columns» .entry)) (now («row_breaks» .entry))
-        (now («column_breaks» .entry)))
-        r
-        (pages.runLists (now («row_run_firsts» .entry)) (now («row_run_lasts» .entry)) (now («row_run_sizes» .entry))
-        (now («row_run_marks» .entry)))
-        (pages.runLists (now («column_run_firsts» .entry)) (now («column_run_lasts» .entry)) (now («column_run_sizes» .entry))
-        (now («column_run_marks» .entry)))
-        (pages.runLists (now («row_run_firsts» .exit)) (now («row_run_lasts» .exit)) (now («row_run_sizes» .exit))
-        (now («row_run_marks» .exit)))
-        (pages.runLists (now («column_run_firsts» .exit)) (now («column_run_lasts» .exit)) (now («column_run_sizes» .exit))
-        (now («column_run_marks» .exit)))
+        (lists (now («row_indexes» .entry)) (now («row_sizes» .entry)) (now («column_indexes» .entry)) (now («column_sizes» .entry)) (now («merge_first_rows» .entry)) (now («merge_first_columns» .entry)) (now («merge_last_rows» .entry)) (now («merge_last_columns» .entry)) (now («row_breaks» .entry)) (now («column_breaks» .entry)))
+        r (now («row_runs» .entry)) (now («column_runs» .entry)) (now («row_runs» .exit)) (now («column_runs» .exit))
         ⌝ }
 {
     match reading {
@@ -116,42 +87,71 @@ fn plan_read(
                 &merge_last_columns[..merges],
                 &row_breaks[..row_break_count],
                 &column_breaks[..column_break_count],
-                row_run_firsts,
-                row_run_lasts,
-                row_run_sizes,
-                row_run_marks,
-                column_run_firsts,
-                column_run_lasts,
-                column_run_sizes,
-                column_run_marks,
+                row_runs,
+                column_runs,
             )
         }
     }
 }
 
-// Reads and plans a job of few bytes, with run lists that are equally long.
-fn plan_small(
+// Reads a job into ten lists that hold its items, and plans it.
+fn plan_in(
     bytes: &[u8],
-    row_run_firsts: &mut [u32],
-    row_run_lasts: &mut [u32],
-    row_run_sizes: &mut [u64],
-    row_run_marks: &mut [u8],
-    column_run_firsts: &mut [u32],
-    column_run_lasts: &mut [u32],
-    column_run_sizes: &mut [u64],
-    column_run_marks: &mut [u8],
+    row_indexes: &mut [u32],
+    row_sizes: &mut [u64],
+    column_indexes: &mut [u32],
+    column_sizes: &mut [u64],
+    merge_first_rows: &mut [u32],
+    merge_first_columns: &mut [u32],
+    merge_last_rows: &mut [u32],
+    merge_last_columns: &mut [u32],
+    row_breaks: &mut [u32],
+    column_breaks: &mut [u32],
+    row_runs: &mut [u64],
+    column_runs: &mut [u64],
 ) -> Planning
+    requires { ⌜ section.Holds (now bytes) (lists (now «row_indexes») (now «row_sizes») (now «column_indexes») (now «column_sizes») (now «merge_first_rows») (now «merge_first_columns») (now «merge_last_rows») (now «merge_last_columns») (now «row_breaks») (now «column_breaks»)) ⌝ }
+    ensures { λ r. ⌜
+        section.JobPlanned (now (bytes .entry)) r (now («row_runs» .entry)) (now («column_runs» .entry)) (now («row_runs» .exit))
+        (now («column_runs» .exit))
+        ⌝ }
+{
+    let reading = read_job(
+        bytes,
+        row_indexes,
+        row_sizes,
+        column_indexes,
+        column_sizes,
+        merge_first_rows,
+        merge_first_columns,
+        merge_last_rows,
+        merge_last_columns,
+        row_breaks,
+        column_breaks,
+    );
+    plan_read(
+        reading,
+        row_indexes,
+        row_sizes,
+        column_indexes,
+        column_sizes,
+        merge_first_rows,
+        merge_first_columns,
+        merge_last_rows,
+        merge_last_columns,
+        row_breaks,
+        column_breaks,
+        row_runs,
+        column_runs,
+    )
+}
+
+// Reads and plans a job of few bytes.
+fn plan_small(bytes: &[u8], row_runs: &mut [u64], column_runs: &mut [u64]) -> Planning
     requires { ⌜ length (now bytes) ≤ 2100 ⌝ }
     ensures { λ r. ⌜
-        section.EvenPlanned (now (bytes .entry)) r
-        (pages.runLists (now («row_run_firsts» .entry)) (now («row_run_lasts» .entry)) (now («row_run_sizes» .entry))
-        (now («row_run_marks» .entry)))
-        (pages.runLists (now («column_run_firsts» .entry)) (now («column_run_lasts» .entry)) (now («column_run_sizes» .entry))
-        (now («column_run_marks» .entry)))
-        (pages.runLists (now («row_run_firsts» .exit)) (now («row_run_lasts» .exit)) (now («row_run_sizes» .exit))
-        (now («row_run_marks» .exit)))
-        (pages.runLists (now («column_run_firsts» .exit)) (now («column_run_lasts» .exit)) (now («column_run_sizes» .exit))
-        (now («column_run_marks» .exit)))
+        section.JobPlanned (now (bytes .entry)) r (now («row_runs» .entry)) (now («column_runs» .entry)) (now («row_runs» .exit))
+        (now («column_runs» .exit))
         ⌝ }
 {
     let mut row_indexes = [0u32; SMALL_ROWS];
@@ -164,7 +164,7 @@ fn plan_small(
     let mut merge_last_columns = [0u32; SMALL_MERGES];
     let mut row_breaks = [0u32; SMALL_ROW_BREAKS];
     let mut column_breaks = [0u32; SMALL_COLUMN_BREAKS];
-    let reading = read_job(
+    plan_in(
         bytes,
         &mut row_indexes,
         &mut row_sizes,
@@ -176,52 +176,16 @@ fn plan_small(
         &mut merge_last_columns,
         &mut row_breaks,
         &mut column_breaks,
-    );
-    plan_read(
-        reading,
-        &row_indexes,
-        &row_sizes,
-        &column_indexes,
-        &column_sizes,
-        &merge_first_rows,
-        &merge_first_columns,
-        &merge_last_rows,
-        &merge_last_columns,
-        &row_breaks,
-        &column_breaks,
-        row_run_firsts,
-        row_run_lasts,
-        row_run_sizes,
-        row_run_marks,
-        column_run_firsts,
-        column_run_lasts,
-        column_run_sizes,
-        column_run_marks,
+        row_runs,
+        column_runs,
     )
 }
 
 // The same of a job of any number of bytes.
-fn plan_large(
-    bytes: &[u8],
-    row_run_firsts: &mut [u32],
-    row_run_lasts: &mut [u32],
-    row_run_sizes: &mut [u64],
-    row_run_marks: &mut [u8],
-    column_run_firsts: &mut [u32],
-    column_run_lasts: &mut [u32],
-    column_run_sizes: &mut [u64],
-    column_run_marks: &mut [u8],
-) -> Planning
+fn plan_large(bytes: &[u8], row_runs: &mut [u64], column_runs: &mut [u64]) -> Planning
     ensures { λ r. ⌜
-        section.EvenPlanned (now (bytes .entry)) r
-        (pages.runLists (now («row_run_firsts» .entry)) (now («row_run_lasts» .entry)) (now («row_run_sizes» .entry))
-        (now («row_run_marks» .entry)))
-        (pages.runLists (now («column_run_firsts» .entry)) (now («column_run_lasts» .entry)) (now («column_run_sizes» .entry))
-        (now («column_run_marks» .entry)))
-        (pages.runLists (now («row_run_firsts» .exit)) (now («row_run_lasts» .exit)) (now («row_run_sizes» .exit))
-        (now («row_run_marks» .exit)))
-        (pages.runLists (now («column_run_firsts» .exit)) (now («column_run_lasts» .exit)) (now («column_run_sizes» .exit))
-        (now («column_run_marks» .exit)))
+        section.JobPlanned (now (bytes .entry)) r (now («row_runs» .entry)) (now («column_runs» .entry)) (now («row_runs» .exit))
+        (now («column_runs» .exit))
         ⌝ }
 {
     let mut row_indexes = [0u32; ROWS];
@@ -234,7 +198,7 @@ fn plan_large(
     let mut merge_last_columns = [0u32; MERGES];
     let mut row_breaks = [0u32; ROW_BREAKS];
     let mut column_breaks = [0u32; COLUMN_BREAKS];
-    let reading = read_job(
+    plan_in(
         bytes,
         &mut row_indexes,
         &mut row_sizes,
@@ -246,127 +210,31 @@ fn plan_large(
         &mut merge_last_columns,
         &mut row_breaks,
         &mut column_breaks,
-    );
-    plan_read(
-        reading,
-        &row_indexes,
-        &row_sizes,
-        &column_indexes,
-        &column_sizes,
-        &merge_first_rows,
-        &merge_first_columns,
-        &merge_last_rows,
-        &merge_last_columns,
-        &row_breaks,
-        &column_breaks,
-        row_run_firsts,
-        row_run_lasts,
-        row_run_sizes,
-        row_run_marks,
-        column_run_firsts,
-        column_run_lasts,
-        column_run_sizes,
-        column_run_marks,
+        row_runs,
+        column_runs,
     )
 }
 
-// The number that refuses a job where run lists are not equally long: 6 at the latest.
-fn uneven_refusal(bytes: &[u8]) -> u8
-    ensures { λ r. ⌜ verdictLent false (now (bytes .entry)) ≡ refused r ⌝ }
-{
-    let checked = check_job_lent(bytes, false);
-    match checked {
-        Checked::Refused(number) => number,
-        Checked::Value(_) => 6,
-    }
-}
-
-// Plans the pages of a job: the scale, the runs of rows and columns, which go to the fronts of eight lent lists, and the notes.
-pub fn plan_job(
-    bytes: &[u8],
-    row_run_firsts: &mut [u32],
-    row_run_lasts: &mut [u32],
-    row_run_sizes: &mut [u64],
-    row_run_marks: &mut [u8],
-    column_run_firsts: &mut [u32],
-    column_run_lasts: &mut [u32],
-    column_run_sizes: &mut [u64],
-    column_run_marks: &mut [u8],
-) -> Planning
+// Plans the pages of a job: the scale, the runs of rows and columns, which go to the fronts of two lent lists, and the notes.
+pub fn plan_job(bytes: &[u8], row_runs: &mut [u64], column_runs: &mut [u64]) -> Planning
     ensures planned { λ r. ⌜
-        call.Planned
-        (section.planJob (now (bytes .entry))
-        (pages.runLists (now («row_run_firsts» .entry)) (now («row_run_lasts» .entry)) (now («row_run_sizes» .entry))
-        (now («row_run_marks» .entry)))
-        (pages.runLists (now («column_run_firsts» .entry)) (now («column_run_lasts» .entry))
-        (now («column_run_sizes» .entry)) (now («column_run_marks» .entry))))
-        r
-        (pages.runLists (now («row_run_firsts» .entry)) (now («row_run_lasts» .entry)) (now («row_run_sizes» .entry))
-        (now («row_run_marks» .entry)))
-        (pages.runLists (now («column_run_firsts» .entry)) (now («column_run_lasts» .entry)) (now («column_run_sizes» .entry))
-        (now («column_run_marks» .entry)))
-        (pages.runLists (now («row_run_firsts» .exit)) (now («row_run_lasts» .exit)) (now («row_run_sizes» .exit))
-        (now («row_run_marks» .exit)))
-        (pages.runLists (now («column_run_firsts» .exit)) (now («column_run_lasts» .exit)) (now («column_run_sizes» .exit))
-        (now («column_run_marks» .exit)))
+        call.Planned (section.planJob (now (bytes .entry)) (now («row_runs» .entry)) (now («column_runs» .entry))) r
+        (now («row_runs» .entry)) (now («column_runs» .entry)) (now («row_runs» .exit)) (now («column_runs» .exit))
         ⌝ }
     ensures covered { λ r. ⌜
-        CoversPairs r (section.jobRows (now (bytes .entry))) (section.jobColumns (now (bytes .entry)))
-        (pages.runLists (now («row_run_firsts» .exit)) (now («row_run_lasts» .exit)) (now («row_run_sizes» .exit))
-        (now («row_run_marks» .exit)))
-        (pages.runLists (now («column_run_firsts» .exit)) (now («column_run_lasts» .exit)) (now («column_run_sizes» .exit))
-        (now («column_run_marks» .exit)))
+        CoversPairs r (section.jobRows (now (bytes .entry))) (section.jobColumns (now (bytes .entry))) (now («row_runs» .exit))
+        (now («column_runs» .exit))
         ⌝ }
     ensures fewest { λ r. ⌜
-        FewestPlan r (section.jobSettings (now (bytes .entry))) (section.jobRows (now (bytes .entry)))
-        (section.jobColumns (now (bytes .entry)))
-        (pages.runLists (now («row_run_firsts» .exit)) (now («row_run_lasts» .exit)) (now («row_run_sizes» .exit))
-        (now («row_run_marks» .exit)))
-        (pages.runLists (now («column_run_firsts» .exit)) (now («column_run_lasts» .exit)) (now («column_run_sizes» .exit))
-        (now («column_run_marks» .exit)))
+        (let s = now (bytes .entry) in
+        FewestPlan r (section.jobSettings s) (section.jobRows s) (section.jobColumns s) (now («row_runs» .exit)) (now («column_runs» .exit)))
         ⌝ }
     ensures largest { λ r. ⌜
-        LargestPlan r (section.jobSettings (now (bytes .entry))) (section.jobRows (now (bytes .entry)))
-        (section.jobColumns (now (bytes .entry)))
+        (let s = now (bytes .entry) in LargestPlan r (section.jobSettings s) (section.jobRows s) (section.jobColumns s))
         ⌝ }
 {
-    let rows_even = lists_even(
-        row_run_firsts.len(),
-        row_run_lasts.len(),
-        row_run_sizes.len(),
-        row_run_marks.len(),
-    );
-    let columns_even = lists_even(
-        column_run_firsts.len(),
-        column_run_lasts.len(),
-        column_run_sizes.len(),
-        column_run_marks.len(),
-    );
-    if rows_even & columns_even {
-        if bytes.len() <= SMALL {
-            return plan_small(
-                bytes,
-                row_run_firsts,
-                row_run_lasts,
-                row_run_sizes,
-                row_run_marks,
-                column_run_firsts,
-                column_run_lasts,
-                column_run_sizes,
-                column_run_marks,
-            );
-        }
-        return plan_large(
-            bytes,
-            row_run_firsts,
-            row_run_lasts,
-            row_run_sizes,
-            row_run_marks,
-            column_run_firsts,
-            column_run_lasts,
-            column_run_sizes,
-            column_run_marks,
-        );
+    if bytes.len() <= SMALL {
+        return plan_small(bytes, row_runs, column_runs);
     }
-    Planning::Refused(uneven_refusal(bytes))
+    plan_large(bytes, row_runs, column_runs)
 }

@@ -8,7 +8,7 @@ use Rattle.units.specs.Outcome.{Outcome, given, refused}
 use Rattle.io.specs.Counts.{Counts}
 use Rattle.planner_rules.specs.declared.pages.Page.{Page}
 use Rattle.planner_rules.specs.declared.pages.Plan.{Plan}
-use Rattle.planner_rules.specs.Pages.{RunLists, pageNumbered}
+use Rattle.planner_rules.specs.Pages.{pageNumbered}
 use Rattle.job_report.specs.declared.blocks.Block.{Block}
 use Rattle.job_report.specs.Lines.{pageLine}
 
@@ -18,7 +18,7 @@ lineIfGiven n (given p) = pageLine n p
 lineIfGiven n (refused k) = []
 
 -- the lines of so many pages of a plan, from a number on
-unfoldable pub pageLines : Plan → RunLists → RunLists → ℕ → ℕ → List ℕ
+unfoldable pub pageLines : Plan → List ℕ → List ℕ → ℕ → ℕ → List ℕ
 pageLines p rows columns n zero = []
 pageLines p rows columns n (suc k) = lineIfGiven n (pageNumbered p rows columns n) ++ pageLines p rows columns (suc n) k
 
@@ -33,7 +33,7 @@ isThere (given p) = true
 isThere (refused k) = false
 
 -- what a block holds: the lines of the pages from one number up to, and without, the next
-pub record BlockOf (p : Plan) (rows columns : RunLists) (from : ℕ) (r : Block) (out : List ℕ) : Type 0 where
+pub record BlockOf (p : Plan) (rows columns : List ℕ) (from : ℕ) (r : Block) (out : List ℕ) : Type 0 where
   pub onward : from ≤ r .next
   -- each of these numbers has a page
   pub there : (n : ℕ) → from ≤ n → n < r .next → isThere (pageNumbered p rows columns n) ≡ true

@@ -2,7 +2,6 @@
 use crate::lines::page_at;
 use planner_rules::PageAnswer;
 use planner_rules::Plan;
-ghost use Rattle.planner_rules.specs.Pages.{runLists};
 ghost use Rattle.job_report.specs.Blocks.{BlockOf};
 
 // The last place at which 256 bytes of a block are left.
@@ -18,39 +17,16 @@ pub struct Block {
 pub fn page_block(
     plan: Plan,
     from: u64,
-    row_firsts: &[u32],
-    row_lasts: &[u32],
-    row_sizes: &[u64],
-    row_marks: &[u8],
-    column_firsts: &[u32],
-    column_lasts: &[u32],
-    column_sizes: &[u64],
-    column_marks: &[u8],
+    row_runs: &[u64],
+    column_runs: &[u64],
     out: &mut [u8; 65536],
 ) -> Block
-    ensures { λ r. ⌜
-        BlockOf plan
-        (runLists (now («row_firsts» .entry)) (now («row_lasts» .entry)) (now («row_sizes» .entry)) (now («row_marks» .entry)))
-        (runLists (now («column_firsts» .entry)) (now («column_lasts» .entry)) (now («column_sizes» .entry))
-        (now («column_marks» .entry)))
-        from r (now (out .exit))
-        ⌝ }
+    ensures { λ r. ⌜ BlockOf plan (now («row_runs» .entry)) (now («column_runs» .entry)) from r (now (out .exit)) ⌝ }
 {
     let mut next = from;
     let mut end = 0;
     while (end <= LAST) & (next < u64::MAX) {
-        let answer = planner_pages::page_numbered(
-            plan,
-            next,
-            row_firsts,
-            row_lasts,
-            row_sizes,
-            row_marks,
-            column_firsts,
-            column_lasts,
-            column_sizes,
-            column_marks,
-        );
+        let answer = planner_pages::page_numbered(plan, next, row_runs, column_runs);
         let PageAnswer::Value(page) = answer else {
             return Block { next, end };
         };

@@ -1,20 +1,20 @@
-// The call that cuts an axis into lent lists: document 01, sections "Titles" and "Runs".
+// The call that cuts an axis into a lent list: document 01, sections "Titles" and "Runs".
 use crate::places::place_of;
 use crate::runs::count_axis;
 use crate::runs::write_axis;
 use planner_compare::wide;
-use planner_questions::lists_even;
 use planner_questions::partition_refusal;
+use planner_questions::room_in;
 use planner_rules::Axis;
 use planner_rules::AxisSetup;
 use planner_rules::Frame;
 use planner_rules::Partition;
 use planner_rules::Tally;
 use planner_titles::body_start;
-ghost use lib.ListN.{length};
 ghost use Rattle.planner_rules.specs.Slots.{Slots};
 ghost use Rattle.planner_rules.specs.Titles.{limitOf};
 ghost use Rattle.planner_rules.specs.Runs.{axisRuns, axisTally};
+ghost use Rattle.planner_rules.specs.Lent.{roomIn};
 ghost use Rattle.planner_rules.specs.Partition as call;
 
 // Cuts slots into runs, counted before any is written.
@@ -25,29 +25,22 @@ fn partition_slots(
     breaks: &[u32],
     indexes: &[u32],
     sizes: &[u64],
-    run_firsts: &mut [u32],
-    run_lasts: &mut [u32],
-    run_sizes: &mut [u64],
-    run_marks: &mut [u8],
+    list: &mut [u64],
 ) -> Partition
     requires { ⌜ Slots (now indexes) (now sizes) ⌝ }
-    requires { ⌜ call.Even (now «run_firsts») (now «run_lasts») (now «run_sizes») (now «run_marks») ⌝ }
     ensures { λ r. ⌜
-        call.Answered
-        (call.roomFor
-        (axisRuns frame (now («merge_firsts» .entry)) (now («merge_lasts» .entry)) (now (indexes .entry))
-        (now (sizes .entry)) 0 (now (breaks .entry)))
-        (axisTally frame (now («merge_firsts» .entry)) (now («merge_lasts» .entry)) (now (indexes .entry))
-        (now (sizes .entry)) (now (breaks .entry)))
-        (length (now («run_firsts» .entry))))
-        (axisRuns frame (now («merge_firsts» .entry)) (now («merge_lasts» .entry)) (now (indexes .entry)) (now (sizes .entry)) 0
-        (now (breaks .entry)))
-        r (now («run_firsts» .entry)) (now («run_lasts» .entry)) (now («run_sizes» .entry)) (now («run_marks» .entry))
-        (now («run_firsts» .exit)) (now («run_lasts» .exit)) (now («run_sizes» .exit)) (now («run_marks» .exit))
+        (let firsts = now («merge_firsts» .entry) in
+        let lasts = now («merge_lasts» .entry) in
+        let is = now (indexes .entry) in
+        let ss = now (sizes .entry) in
+        let bs = now (breaks .entry) in
+        let runs = axisRuns frame firsts lasts is ss 0 bs in
+        call.Answered (call.roomFor runs (axisTally frame firsts lasts is ss bs) (roomIn (now (list .entry)))) runs r
+        (now (list .entry)) (now (list .exit)))
         ⌝ }
 {
     let tally = count_axis(frame, merge_firsts, merge_lasts, breaks, indexes, sizes);
-    if tally.runs > run_firsts.len() {
+    if tally.runs > room_in(list.len()) {
         return Partition::Refused(11);
     }
     write_axis(
@@ -57,10 +50,7 @@ fn partition_slots(
         breaks,
         indexes,
         sizes,
-        run_firsts,
-        run_lasts,
-        run_sizes,
-        run_marks,
+        list,
     );
     Partition::Value(tally)
 }
@@ -73,21 +63,17 @@ fn partition_body(
     merge_firsts: &[u32],
     merge_lasts: &[u32],
     breaks: &[u32],
-    run_firsts: &mut [u32],
-    run_lasts: &mut [u32],
-    run_sizes: &mut [u64],
-    run_marks: &mut [u8],
+    list: &mut [u64],
 ) -> Partition
     requires { ⌜ Slots (now indexes) (now sizes) ⌝ }
-    requires { ⌜ call.Even (now «run_firsts») (now «run_lasts») (now «run_sizes») (now «run_marks») ⌝ }
     ensures { λ r. ⌜
-        call.Answered
-        (call.fits setup (now (indexes .entry)) (now (sizes .entry)) (now («merge_firsts» .entry)) (now («merge_lasts» .entry))
-        (now (breaks .entry)) (length (now («run_firsts» .entry))))
-        (call.bodyRuns setup (now (indexes .entry)) (now (sizes .entry)) (now («merge_firsts» .entry))
-        (now («merge_lasts» .entry)) (now (breaks .entry)))
-        r (now («run_firsts» .entry)) (now («run_lasts» .entry)) (now («run_sizes» .entry)) (now («run_marks» .entry))
-        (now («run_firsts» .exit)) (now («run_lasts» .exit)) (now («run_sizes» .exit)) (now («run_marks» .exit))
+        (let firsts = now («merge_firsts» .entry) in
+        let lasts = now («merge_lasts» .entry) in
+        let is = now (indexes .entry) in
+        let ss = now (sizes .entry) in
+        let bs = now (breaks .entry) in
+        call.Answered (call.fits setup is ss firsts lasts bs (roomIn (now (list .entry)))) (call.bodyRuns setup is ss firsts lasts bs) r
+        (now (list .entry)) (now (list .exit)))
         ⌝ }
 {
     let first = setup.first;
@@ -117,14 +103,11 @@ fn partition_body(
         breaks,
         &indexes[from..to],
         &sizes[from..to],
-        run_firsts,
-        run_lasts,
-        run_sizes,
-        run_marks,
+        list,
     )
 }
 
-// Cuts the measured slots of a range into runs and writes them to the fronts of four lent lists: firsts, lasts, sizes, and 1
+// Cuts the measured slots of a range into runs and writes them to the front of a lent list, four numbers a run: first, last, size, and 1
 // where a manual break stands before the run.
 pub fn partition_axis_with_breaks(
     axis: Axis,
@@ -134,38 +117,20 @@ pub fn partition_axis_with_breaks(
     merge_firsts: &[u32],
     merge_lasts: &[u32],
     breaks: &[u32],
-    run_firsts: &mut [u32],
-    run_lasts: &mut [u32],
-    run_sizes: &mut [u64],
-    run_marks: &mut [u8],
+    list: &mut [u64],
 ) -> Partition
     ensures { λ r. ⌜
-        call.Answered
-        (call.partition (limitOf axis) setup (now (indexes .entry)) (now (sizes .entry)) (now («merge_firsts» .entry))
-        (now («merge_lasts» .entry)) (now (breaks .entry)) (now («run_firsts» .entry)) (now («run_lasts» .entry))
-        (now («run_sizes» .entry)) (now («run_marks» .entry)))
-        (call.bodyRuns setup (now (indexes .entry)) (now (sizes .entry)) (now («merge_firsts» .entry))
-        (now («merge_lasts» .entry)) (now (breaks .entry)))
-        r (now («run_firsts» .entry)) (now («run_lasts» .entry)) (now («run_sizes» .entry)) (now («run_marks» .entry))
-        (now («run_firsts» .exit)) (now («run_lasts» .exit)) (now («run_sizes» .exit)) (now («run_marks» .exit))
+        (let firsts = now («merge_firsts» .entry) in
+        let lasts = now («merge_lasts» .entry) in
+        let is = now (indexes .entry) in
+        let ss = now (sizes .entry) in
+        let bs = now (breaks .entry) in
+        call.Answered (call.partition (limitOf axis) setup is ss firsts lasts bs (now (list .entry)))
+        (call.bodyRuns setup is ss firsts lasts bs) r (now (list .entry)) (now (list .exit)))
         ⌝ }
 {
-    let lent_even = lists_even(
-        run_firsts.len(),
-        run_lasts.len(),
-        run_sizes.len(),
-        run_marks.len(),
-    );
     let limit = axis.limit();
-    let refusal = partition_refusal(
-        limit,
-        setup,
-        indexes,
-        sizes,
-        merge_firsts,
-        merge_lasts,
-        lent_even,
-    );
+    let refusal = partition_refusal(limit, setup, indexes, sizes, merge_firsts, merge_lasts);
     if refusal > 0 {
         return Partition::Refused(refusal);
     }
@@ -176,9 +141,6 @@ pub fn partition_axis_with_breaks(
         merge_firsts,
         merge_lasts,
         breaks,
-        run_firsts,
-        run_lasts,
-        run_sizes,
-        run_marks,
+        list,
     )
 }

@@ -3,14 +3,15 @@ use crate::overflow::overflowing_runs;
 use crate::places::place_of;
 use crate::runs::count_axis;
 use crate::runs::write_axis;
+use crate::runs::write_empty;
 use crate::scale::fit_scale;
 use crate::scale::frame_at;
 use crate::title::title_total;
 use planner_compare::longer;
 use planner_compare::wide;
 use planner_cuts::final_cut;
-use planner_questions::lists_even;
 use planner_questions::plan_refusal;
+use planner_questions::room_in;
 use planner_questions::room_refusal;
 use planner_rules::AxisRange;
 use planner_rules::ChosenScale;
@@ -22,7 +23,9 @@ use planner_rules::Notes;
 use planner_rules::PageSide;
 use planner_rules::Plan;
 use planner_rules::Planning;
+use planner_rules::Prepared;
 use planner_rules::PrintRange;
+use planner_rules::RUN_NUMBERS;
 use planner_rules::Ready;
 use planner_rules::Settings;
 use planner_rules::SidesFound;
@@ -38,18 +41,14 @@ use planner_titles::widened_title;
 use units::Fixed;
 ghost use mathlib.Core.Path.{_≡_};
 ghost use mathlib.Core.Bool.{cond, _&&_};
-ghost use mathlib.Core.List.{[]};
-ghost use Prim.Native.Nat.{_+_, _≤_, _^_, max};
+ghost use Prim.Native.Nat.{_+_, _≤_, _^_};
 ghost use lib.ListN.{length};
-ghost use Rattle.planner_rules.specs.Slots.{Slots};
+ghost use Rattle.planner_rules.specs.Slots.{Slots, written};
 ghost use Rattle.planner_rules.specs.Runs.{axisRuns};
-ghost use Rattle.planner_rules.specs.Lent.{Room, Written};
-ghost use Rattle.planner_rules.specs.Partition.{Even};
+ghost use Rattle.planner_rules.specs.Lent.{Room, roomIn, flat};
 ghost use Rattle.planner_rules.specs.Scale.{fixedScale, fitScale, spaceOf, scaleOf, fitPasses};
 ghost use Rattle.planner_rules.specs.Pages.{none, orEmpty, overflowing};
 ghost use Rattle.planner_rules.specs.Demand.{CoversPairs, FewestPlan, LargestPlan};
-ghost use Rattle.planner_rules.specs.Lent as lists;
-ghost use Rattle.planner_rules.specs.Pages as pages;
 ghost use Rattle.planner_rules.specs.Plan as call;
 
 // Widens the title of an axis and finds the body.
@@ -177,27 +176,6 @@ fn count_cut(
     final_cut(tally)
 }
 
-// Writes the run of an axis without slots: at the range's first, size 0.
-fn write_empty(
-    first: u32,
-    run_firsts: &mut [u32],
-    run_lasts: &mut [u32],
-    run_sizes: &mut [u64],
-    run_marks: &mut [u8],
-)
-    requires { ⌜ Room (orEmpty first []) (now «run_firsts») (now «run_lasts») (now «run_sizes») (now «run_marks») ⌝ }
-    ensures { λ _. ⌜
-        Written (orEmpty first []) 1 (now («run_firsts» .entry)) (now («run_lasts» .entry)) (now («run_sizes» .entry))
-        (now («run_marks» .entry)) (now («run_firsts» .exit)) (now («run_lasts» .exit)) (now («run_sizes» .exit))
-        (now («run_marks» .exit))
-        ⌝ }
-{
-    run_firsts[0] = first;
-    run_lasts[0] = first;
-    run_sizes[0] = 0;
-    run_marks[0] = 0;
-}
-
 // Writes the runs that the pages of an axis are made of.
 fn write_page_runs(
     frame: Frame,
@@ -208,32 +186,21 @@ fn write_page_runs(
     breaks: &[u32],
     indexes: &[u32],
     sizes: &[u64],
-    run_firsts: &mut [u32],
-    run_lasts: &mut [u32],
-    run_sizes: &mut [u64],
-    run_marks: &mut [u8],
+    list: &mut [u64],
 )
     requires { ⌜ Slots (now indexes) (now sizes) ⌝ }
-    requires { ⌜ empty ≡ none (axisRuns frame (now «merge_firsts») (now «merge_lasts») (now indexes) (now sizes) 0 (now breaks)) ⌝ }
     requires { ⌜
-        Room (orEmpty first (axisRuns frame (now «merge_firsts») (now «merge_lasts») (now indexes) (now sizes) 0 (now breaks)))
-        (now «run_firsts») (now «run_lasts») (now «run_sizes») (now «run_marks»)
+        (let runs = axisRuns frame (now «merge_firsts») (now «merge_lasts») (now indexes) (now sizes) 0 (now breaks) in
+        (empty ≡ none runs) × Room (orEmpty first runs) (now list))
         ⌝ }
     ensures { λ _. ⌜
-        Written
-        (orEmpty first
-        (axisRuns frame (now («merge_firsts» .entry)) (now («merge_lasts» .entry)) (now (indexes .entry))
-        (now (sizes .entry)) 0 (now (breaks .entry))))
-        (length
-        (orEmpty first
-        (axisRuns frame (now («merge_firsts» .entry)) (now («merge_lasts» .entry)) (now (indexes .entry))
-        (now (sizes .entry)) 0 (now (breaks .entry)))))
-        (now («run_firsts» .entry)) (now («run_lasts» .entry)) (now («run_sizes» .entry)) (now («run_marks» .entry))
-        (now («run_firsts» .exit)) (now («run_lasts» .exit)) (now («run_sizes» .exit)) (now («run_marks» .exit))
+        (let runs = axisRuns frame (now («merge_firsts» .entry)) (now («merge_lasts» .entry)) (now (indexes .entry))
+        (now (sizes .entry)) 0 (now (breaks .entry)) in
+        now (list .exit) ≡ written (flat (orEmpty first runs)) (now (list .entry)))
         ⌝ }
 {
     if empty {
-        write_empty(first, run_firsts, run_lasts, run_sizes, run_marks);
+        write_empty(first, list);
         return;
     }
     write_axis(
@@ -243,10 +210,7 @@ fn write_page_runs(
         breaks,
         indexes,
         sizes,
-        run_firsts,
-        run_lasts,
-        run_sizes,
-        run_marks,
+        list,
     );
 }
 
@@ -261,44 +225,19 @@ fn write_cut(
     breaks: &[u32],
     indexes: &[u32],
     sizes: &[u64],
-    run_firsts: &mut [u32],
-    run_lasts: &mut [u32],
-    run_sizes: &mut [u64],
-    run_marks: &mut [u8],
+    list: &mut [u64],
 ) -> u64
     requires { ⌜ call.Cuttable ready (now indexes) (now sizes) ⌝ }
     requires { ⌜
-        cut ≡ call.cutOf
-        (call.readyRuns ready permille (now indexes) (now sizes) (now «merge_firsts») (now «merge_lasts») (now breaks))
-        (call.readyShifts ready permille (now indexes) (now «merge_firsts») (now «merge_lasts») (now breaks))
-        ⌝ }
-    requires { ⌜
-        Room
-        (orEmpty first
-        (call.readyRuns ready permille (now indexes) (now sizes) (now «merge_firsts») (now «merge_lasts») (now breaks)))
-        (now «run_firsts») (now «run_lasts») (now «run_sizes») (now «run_marks»)
+        (let runs = call.readyRuns ready permille (now indexes) (now sizes) (now «merge_firsts») (now «merge_lasts») (now breaks) in
+        (cut ≡ call.cutOf runs (call.readyShifts ready permille (now indexes) (now «merge_firsts») (now «merge_lasts») (now breaks)))
+        × Room (orEmpty first runs) (now list))
         ⌝ }
     ensures { λ r. ⌜
-        Written
-        (orEmpty first
-        (call.readyRuns ready permille (now (indexes .entry)) (now (sizes .entry)) (now («merge_firsts» .entry))
-        (now («merge_lasts» .entry)) (now (breaks .entry))))
-        (cut .runs) (now («run_firsts» .entry)) (now («run_lasts» .entry)) (now («run_sizes» .entry)) (now («run_marks» .entry))
-        (now («run_firsts» .exit)) (now («run_lasts» .exit)) (now («run_sizes» .exit)) (now («run_marks» .exit))
-        ⌝ }
-    ensures { λ r. ⌜
-        r ≡ overflowing (spaceOf (ready .fit .page)) (ready .fit .stretch .title) permille
-        (none
-        (call.readyRuns ready permille (now (indexes .entry)) (now (sizes .entry)) (now («merge_firsts» .entry))
-        (now («merge_lasts» .entry)) (now (breaks .entry))))
-        (lists.firsts
-        (orEmpty first
-        (call.readyRuns ready permille (now (indexes .entry)) (now (sizes .entry)) (now («merge_firsts» .entry))
-        (now («merge_lasts» .entry)) (now (breaks .entry)))))
-        (lists.sizes
-        (orEmpty first
-        (call.readyRuns ready permille (now (indexes .entry)) (now (sizes .entry)) (now («merge_firsts» .entry))
-        (now («merge_lasts» .entry)) (now (breaks .entry)))))
+        (let runs = call.readyRuns ready permille (now (indexes .entry)) (now (sizes .entry)) (now («merge_firsts» .entry))
+        (now («merge_lasts» .entry)) (now (breaks .entry)) in
+        (now (list .exit) ≡ written (flat (orEmpty first runs)) (now (list .entry)))
+        × (r ≡ overflowing (spaceOf (ready .fit .page)) (ready .fit .stretch .title) permille (none runs) (orEmpty first runs)))
         ⌝ }
 {
     let fit = ready.fit;
@@ -307,7 +246,7 @@ fn write_cut(
     let title = stretch.title;
     let from = ready.from;
     let to = ready.to;
-    let runs = cut.runs;
+    let numbers = cut.runs * RUN_NUMBERS;
     let frame = frame_at(fit, permille);
     write_page_runs(
         frame,
@@ -318,19 +257,9 @@ fn write_cut(
         breaks,
         &indexes[from..to],
         &sizes[from..to],
-        run_firsts,
-        run_lasts,
-        run_sizes,
-        run_marks,
+        list,
     );
-    overflowing_runs(
-        page,
-        title,
-        permille,
-        cut.empty,
-        &run_firsts[..runs],
-        &run_sizes[..runs],
-    )
+    overflowing_runs(page, title, permille, cut.empty, &list[..numbers])
 }
 
 // What the notes of a plan are made of, beside the cuts.
@@ -380,9 +309,7 @@ fn plan_cut(
     sides: ContentSides,
     row_axis: AxisRange,
     column_axis: AxisRange,
-    rows: Ready,
-    columns: Ready,
-    scale: ChosenScale,
+    prepared: Prepared,
     row_indexes: &[u32],
     row_sizes: &[u64],
     column_indexes: &[u32],
@@ -393,50 +320,36 @@ fn plan_cut(
     merge_last_columns: &[u32],
     row_breaks: &[u32],
     column_breaks: &[u32],
-    row_run_firsts: &mut [u32],
-    row_run_lasts: &mut [u32],
-    row_run_sizes: &mut [u64],
-    row_run_marks: &mut [u8],
-    column_run_firsts: &mut [u32],
-    column_run_lasts: &mut [u32],
-    column_run_sizes: &mut [u64],
-    column_run_marks: &mut [u8],
+    row_runs: &mut [u64],
+    column_runs: &mut [u64],
 ) -> Planning
     requires { ⌜ call.Fine «row_axis» (now «row_indexes») (now «row_sizes») (now «merge_first_rows») (now «merge_last_rows») ⌝ }
-    requires { ⌜ call.Fine «column_axis» (now «column_indexes») (now «column_sizes») (now «merge_first_columns») (now «merge_last_columns») ⌝ }
     requires { ⌜
-        call.ReadyFor rows (sides .height .0)
+        call.Fine «column_axis» (now «column_indexes») (now «column_sizes») (now «merge_first_columns») (now «merge_last_columns»)
+        ⌝ }
+    requires { ⌜
+        call.ReadyFor (prepared .rows) (sides .height .0)
         (call.axisFor «row_axis» (now «row_indexes») (now «row_sizes») (now «merge_first_rows») (now «merge_last_rows»)
         (now «row_breaks»))
         ⌝ }
     requires { ⌜
-        call.ReadyFor columns (sides .width .0)
+        call.ReadyFor (prepared .columns) (sides .width .0)
         (call.axisFor «column_axis» (now «column_indexes») (now «column_sizes») (now «merge_first_columns»)
         (now «merge_last_columns») (now «column_breaks»))
         ⌝ }
-    requires { ⌜ Even (now «row_run_firsts») (now «row_run_lasts») (now «row_run_sizes») (now «row_run_marks») ⌝ }
-    requires { ⌜ Even (now «column_run_firsts») (now «column_run_lasts») (now «column_run_sizes») (now «column_run_marks») ⌝ }
     ensures { λ r. ⌜
-        call.Planned
-        (call.roomFor
-        (call.layoutAt settings (call.sidesOf sides)
-        (call.axisFor «row_axis» (now («row_indexes» .entry)) (now («row_sizes» .entry))
-        (now («merge_first_rows» .entry)) (now («merge_last_rows» .entry)) (now («row_breaks» .entry)))
-        (call.axisFor «column_axis» (now («column_indexes» .entry)) (now («column_sizes» .entry))
-        (now («merge_first_columns» .entry)) (now («merge_last_columns» .entry)) (now («column_breaks» .entry)))
-        (scaleOf scale))
-        (length (now («row_run_firsts» .entry))) (length (now («column_run_firsts» .entry))) (settings .«page_limit»))
-        r
-        (pages.runLists (now («row_run_firsts» .entry)) (now («row_run_lasts» .entry)) (now («row_run_sizes» .entry))
-        (now («row_run_marks» .entry)))
-        (pages.runLists (now («column_run_firsts» .entry)) (now («column_run_lasts» .entry)) (now («column_run_sizes» .entry))
-        (now («column_run_marks» .entry)))
-        (pages.runLists (now («row_run_firsts» .exit)) (now («row_run_lasts» .exit)) (now («row_run_sizes» .exit))
-        (now («row_run_marks» .exit)))
-        (pages.runLists (now («column_run_firsts» .exit)) (now («column_run_lasts» .exit)) (now («column_run_sizes» .exit))
-        (now («column_run_marks» .exit)))
+        (let rows = call.axisFor «row_axis» (now («row_indexes» .entry)) (now («row_sizes» .entry)) (now («merge_first_rows» .entry))
+        (now («merge_last_rows» .entry)) (now («row_breaks» .entry)) in
+        let columns = call.axisFor «column_axis» (now («column_indexes» .entry)) (now («column_sizes» .entry))
+        (now («merge_first_columns» .entry)) (now («merge_last_columns» .entry)) (now («column_breaks» .entry)) in
+        let layout = call.layoutAt settings (call.sidesOf sides) rows columns (scaleOf (prepared .scale)) in
+        call.Planned (call.roomFor layout (roomIn (now («row_runs» .entry))) (roomIn (now («column_runs» .entry))) (settings .«page_limit»)) r
+        (now («row_runs» .entry)) (now («column_runs» .entry)) (now («row_runs» .exit)) (now («column_runs» .exit)))
         ⌝ }
 {
+    let rows = prepared.rows;
+    let columns = prepared.columns;
+    let scale = prepared.scale;
     let permille = scale.permille;
     let row_cut = count_cut(
         rows,
@@ -459,8 +372,8 @@ fn plan_cut(
     let refusal = room_refusal(
         row_cut.runs,
         column_cut.runs,
-        row_run_firsts.len(),
-        column_run_firsts.len(),
+        room_in(row_runs.len()),
+        room_in(column_runs.len()),
         settings.page_limit,
     );
     if refusal > 0 {
@@ -476,10 +389,7 @@ fn plan_cut(
         row_breaks,
         row_indexes,
         row_sizes,
-        row_run_firsts,
-        row_run_lasts,
-        row_run_sizes,
-        row_run_marks,
+        row_runs,
     );
     let column_overflows = write_cut(
         columns,
@@ -491,10 +401,7 @@ fn plan_cut(
         column_breaks,
         column_indexes,
         column_sizes,
-        column_run_firsts,
-        column_run_lasts,
-        column_run_sizes,
-        column_run_marks,
+        column_runs,
     );
     let order = settings.order;
     Planning::Value(Plan {
@@ -534,37 +441,21 @@ fn plan_axes(
     merge_last_columns: &[u32],
     row_breaks: &[u32],
     column_breaks: &[u32],
-    row_run_firsts: &mut [u32],
-    row_run_lasts: &mut [u32],
-    row_run_sizes: &mut [u64],
-    row_run_marks: &mut [u8],
-    column_run_firsts: &mut [u32],
-    column_run_lasts: &mut [u32],
-    column_run_sizes: &mut [u64],
-    column_run_marks: &mut [u8],
+    row_runs: &mut [u64],
+    column_runs: &mut [u64],
 ) -> Planning
     requires { ⌜ call.Fine «row_axis» (now «row_indexes») (now «row_sizes») (now «merge_first_rows») (now «merge_last_rows») ⌝ }
-    requires { ⌜ call.Fine «column_axis» (now «column_indexes») (now «column_sizes») (now «merge_first_columns») (now «merge_last_columns») ⌝ }
-    requires { ⌜ Even (now «row_run_firsts») (now «row_run_lasts») (now «row_run_sizes») (now «row_run_marks») ⌝ }
-    requires { ⌜ Even (now «column_run_firsts») (now «column_run_lasts») (now «column_run_sizes») (now «column_run_marks») ⌝ }
+    requires { ⌜
+        call.Fine «column_axis» (now «column_indexes») (now «column_sizes») (now «merge_first_columns») (now «merge_last_columns»)
+        ⌝ }
     ensures { λ r. ⌜
-        call.Planned
-        (call.roomFor
-        (call.layout settings (call.sidesOf sides)
-        (call.axisFor «row_axis» (now («row_indexes» .entry)) (now («row_sizes» .entry))
-        (now («merge_first_rows» .entry)) (now («merge_last_rows» .entry)) (now («row_breaks» .entry)))
-        (call.axisFor «column_axis» (now («column_indexes» .entry)) (now («column_sizes» .entry))
-        (now («merge_first_columns» .entry)) (now («merge_last_columns» .entry)) (now («column_breaks» .entry))))
-        (length (now («row_run_firsts» .entry))) (length (now («column_run_firsts» .entry))) (settings .«page_limit»))
-        r
-        (pages.runLists (now («row_run_firsts» .entry)) (now («row_run_lasts» .entry)) (now («row_run_sizes» .entry))
-        (now («row_run_marks» .entry)))
-        (pages.runLists (now («column_run_firsts» .entry)) (now («column_run_lasts» .entry)) (now («column_run_sizes» .entry))
-        (now («column_run_marks» .entry)))
-        (pages.runLists (now («row_run_firsts» .exit)) (now («row_run_lasts» .exit)) (now («row_run_sizes» .exit))
-        (now («row_run_marks» .exit)))
-        (pages.runLists (now («column_run_firsts» .exit)) (now («column_run_lasts» .exit)) (now («column_run_sizes» .exit))
-        (now («column_run_marks» .exit)))
+        (let rows = call.axisFor «row_axis» (now («row_indexes» .entry)) (now («row_sizes» .entry)) (now («merge_first_rows» .entry))
+        (now («merge_last_rows» .entry)) (now («row_breaks» .entry)) in
+        let columns = call.axisFor «column_axis» (now («column_indexes» .entry)) (now («column_sizes» .entry))
+        (now («merge_first_columns» .entry)) (now («merge_last_columns» .entry)) (now («column_breaks» .entry)) in
+        let layout = call.layout settings (call.sidesOf sides) rows columns in
+        call.Planned (call.roomFor layout (roomIn (now («row_runs» .entry))) (roomIn (now («column_runs» .entry))) (settings .«page_limit»)) r
+        (now («row_runs» .entry)) (now («column_runs» .entry)) (now («row_runs» .exit)) (now («column_runs» .exit)))
         ⌝ }
 {
     let height = sides.height;
@@ -603,9 +494,11 @@ fn plan_axes(
         sides,
         row_axis,
         column_axis,
-        rows,
-        columns,
-        scale,
+        Prepared {
+            rows,
+            columns,
+            scale,
+        },
         row_indexes,
         row_sizes,
         column_indexes,
@@ -616,18 +509,12 @@ fn plan_axes(
         merge_last_columns,
         row_breaks,
         column_breaks,
-        row_run_firsts,
-        row_run_lasts,
-        row_run_sizes,
-        row_run_marks,
-        column_run_firsts,
-        column_run_lasts,
-        column_run_sizes,
-        column_run_marks,
+        row_runs,
+        column_runs,
     )
 }
 
-// Plans the pages of a range: the scale, the runs of rows and columns, which go to the fronts of eight lent lists, and the notes.
+// Plans the pages of a range: the scale, the runs of rows and columns, which go to the fronts of two lent lists, and the notes.
 pub fn plan_pages(
     settings: Settings,
     range: PrintRange,
@@ -643,85 +530,44 @@ pub fn plan_pages(
     merge_last_columns: &[u32],
     row_breaks: &[u32],
     column_breaks: &[u32],
-    row_run_firsts: &mut [u32],
-    row_run_lasts: &mut [u32],
-    row_run_sizes: &mut [u64],
-    row_run_marks: &mut [u8],
-    column_run_firsts: &mut [u32],
-    column_run_lasts: &mut [u32],
-    column_run_sizes: &mut [u64],
-    column_run_marks: &mut [u8],
+    row_runs: &mut [u64],
+    column_runs: &mut [u64],
 ) -> Planning
     ensures planned { λ r. ⌜
-        call.Planned
-        (call.planned settings
-        (call.rowsOf settings range «row_title» (now («row_indexes» .entry)) (now («row_sizes» .entry))
-        (now («merge_first_rows» .entry)) (now («merge_last_rows» .entry)) (now («row_breaks» .entry)))
-        (call.columnsOf settings range «column_title» (now («column_indexes» .entry)) (now («column_sizes» .entry))
-        (now («merge_first_columns» .entry)) (now («merge_last_columns» .entry)) (now («column_breaks» .entry)))
-        (pages.runLists (now («row_run_firsts» .entry)) (now («row_run_lasts» .entry)) (now («row_run_sizes» .entry))
-        (now («row_run_marks» .entry)))
-        (pages.runLists (now («column_run_firsts» .entry)) (now («column_run_lasts» .entry))
-        (now («column_run_sizes» .entry)) (now («column_run_marks» .entry))))
-        r
-        (pages.runLists (now («row_run_firsts» .entry)) (now («row_run_lasts» .entry)) (now («row_run_sizes» .entry))
-        (now («row_run_marks» .entry)))
-        (pages.runLists (now («column_run_firsts» .entry)) (now («column_run_lasts» .entry)) (now («column_run_sizes» .entry))
-        (now («column_run_marks» .entry)))
-        (pages.runLists (now («row_run_firsts» .exit)) (now («row_run_lasts» .exit)) (now («row_run_sizes» .exit))
-        (now («row_run_marks» .exit)))
-        (pages.runLists (now («column_run_firsts» .exit)) (now («column_run_lasts» .exit)) (now («column_run_sizes» .exit))
-        (now («column_run_marks» .exit)))
+        (let rows = call.rowsOf settings range «row_title» (now («row_indexes» .entry)) (now («row_sizes» .entry))
+        (now («merge_first_rows» .entry)) (now («merge_last_rows» .entry)) (now («row_breaks» .entry)) in
+        let columns = call.columnsOf settings range «column_title» (now («column_indexes» .entry)) (now («column_sizes» .entry))
+        (now («merge_first_columns» .entry)) (now («merge_last_columns» .entry)) (now («column_breaks» .entry)) in
+        call.Planned (call.planned settings rows columns (now («row_runs» .entry)) (now («column_runs» .entry))) r
+        (now («row_runs» .entry)) (now («column_runs» .entry)) (now («row_runs» .exit)) (now («column_runs» .exit)))
         ⌝ }
     ensures covered { λ r. ⌜
-        CoversPairs r
-        (call.rowsOf settings range «row_title» (now («row_indexes» .entry)) (now («row_sizes» .entry))
-        (now («merge_first_rows» .entry)) (now («merge_last_rows» .entry)) (now («row_breaks» .entry)))
-        (call.columnsOf settings range «column_title» (now («column_indexes» .entry)) (now («column_sizes» .entry))
-        (now («merge_first_columns» .entry)) (now («merge_last_columns» .entry)) (now («column_breaks» .entry)))
-        (pages.runLists (now («row_run_firsts» .exit)) (now («row_run_lasts» .exit)) (now («row_run_sizes» .exit))
-        (now («row_run_marks» .exit)))
-        (pages.runLists (now («column_run_firsts» .exit)) (now («column_run_lasts» .exit)) (now («column_run_sizes» .exit))
-        (now («column_run_marks» .exit)))
+        (let rows = call.rowsOf settings range «row_title» (now («row_indexes» .entry)) (now («row_sizes» .entry))
+        (now («merge_first_rows» .entry)) (now («merge_last_rows» .entry)) (now («row_breaks» .entry)) in
+        let columns = call.columnsOf settings range «column_title» (now («column_indexes» .entry)) (now («column_sizes» .entry))
+        (now («merge_first_columns» .entry)) (now («merge_last_columns» .entry)) (now («column_breaks» .entry)) in
+        CoversPairs r rows columns (now («row_runs» .exit)) (now («column_runs» .exit)))
         ⌝ }
     ensures fewest { λ r. ⌜
-        FewestPlan r settings
-        (call.rowsOf settings range «row_title» (now («row_indexes» .entry)) (now («row_sizes» .entry))
-        (now («merge_first_rows» .entry)) (now («merge_last_rows» .entry)) (now («row_breaks» .entry)))
-        (call.columnsOf settings range «column_title» (now («column_indexes» .entry)) (now («column_sizes» .entry))
-        (now («merge_first_columns» .entry)) (now («merge_last_columns» .entry)) (now («column_breaks» .entry)))
-        (pages.runLists (now («row_run_firsts» .exit)) (now («row_run_lasts» .exit)) (now («row_run_sizes» .exit))
-        (now («row_run_marks» .exit)))
-        (pages.runLists (now («column_run_firsts» .exit)) (now («column_run_lasts» .exit)) (now («column_run_sizes» .exit))
-        (now («column_run_marks» .exit)))
+        (let rows = call.rowsOf settings range «row_title» (now («row_indexes» .entry)) (now («row_sizes» .entry))
+        (now («merge_first_rows» .entry)) (now («merge_last_rows» .entry)) (now («row_breaks» .entry)) in
+        let columns = call.columnsOf settings range «column_title» (now («column_indexes» .entry)) (now («column_sizes» .entry))
+        (now («merge_first_columns» .entry)) (now («merge_last_columns» .entry)) (now («column_breaks» .entry)) in
+        FewestPlan r settings rows columns (now («row_runs» .exit)) (now («column_runs» .exit)))
         ⌝ }
     ensures largest { λ r. ⌜
-        LargestPlan r settings
-        (call.rowsOf settings range «row_title» (now («row_indexes» .entry)) (now («row_sizes» .entry))
-        (now («merge_first_rows» .entry)) (now («merge_last_rows» .entry)) (now («row_breaks» .entry)))
-        (call.columnsOf settings range «column_title» (now («column_indexes» .entry)) (now («column_sizes» .entry))
-        (now («merge_first_columns» .entry)) (now («merge_last_columns» .entry)) (now («column_breaks» .entry)))
+        (let rows = call.rowsOf settings range «row_title» (now («row_indexes» .entry)) (now («row_sizes» .entry))
+        (now («merge_first_rows» .entry)) (now («merge_last_rows» .entry)) (now («row_breaks» .entry)) in
+        let columns = call.columnsOf settings range «column_title» (now («column_indexes» .entry)) (now («column_sizes» .entry))
+        (now («merge_first_columns» .entry)) (now («merge_last_columns» .entry)) (now («column_breaks» .entry)) in
+        LargestPlan r settings rows columns)
         ⌝ }
 {
-    let lent_rows_even = lists_even(
-        row_run_firsts.len(),
-        row_run_lasts.len(),
-        row_run_sizes.len(),
-        row_run_marks.len(),
-    );
-    let lent_columns_even = lists_even(
-        column_run_firsts.len(),
-        column_run_lasts.len(),
-        column_run_sizes.len(),
-        column_run_marks.len(),
-    );
     let rows = row_range(settings, range, row_title);
     let columns = column_range(settings, range, column_title);
     let refusal = plan_refusal(
         rows,
         columns,
-        lent_rows_even,
-        lent_columns_even,
         row_indexes,
         row_sizes,
         column_indexes,
@@ -754,13 +600,7 @@ pub fn plan_pages(
         merge_last_columns,
         &row_breaks[..row_kept],
         &column_breaks[..column_kept],
-        row_run_firsts,
-        row_run_lasts,
-        row_run_sizes,
-        row_run_marks,
-        column_run_firsts,
-        column_run_lasts,
-        column_run_sizes,
-        column_run_marks,
+        row_runs,
+        column_runs,
     )
 }

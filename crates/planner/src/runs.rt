@@ -12,15 +12,18 @@ use planner_cuts::title_holds;
 use planner_rules::Counted;
 use planner_rules::Cut;
 use planner_rules::Frame;
+use planner_rules::RUN_NUMBERS;
 use planner_rules::RunEnd;
 use planner_rules::Tally;
 use planner_rules::Title;
 ghost use mathlib.Core.Path.{_≡_};
-ghost use Prim.Native.Nat.{_≤_, _<_};
-ghost use lib.ListN.{length};
-ghost use Rattle.planner_rules.specs.Slots.{Rising, Slots, below};
+ghost use mathlib.Core.List.{[], _∷_, _++_};
+ghost use Prim.Native.Nat.{_+_, _≤_, _<_};
+ghost use lib.ListN.{length, take, drop};
+ghost use Rattle.planner_rules.specs.Slots.{Rising, Slots, below, written};
 ghost use Rattle.planner_rules.specs.Runs.{resumed, resumption, taken, merged, runEnd, runs, firstMarked, placed, nextCut, stretch, axisRuns, axisTally};
-ghost use Rattle.planner_rules.specs.Lent.{Room, Written, RoomAt, WrittenAt, counted};
+ghost use Rattle.planner_rules.specs.Lent.{Room, Written, RoomAt, WrittenAt, counted, flat};
+ghost use Rattle.planner_rules.specs.Pages.{orEmpty};
 
 // How many slots are taken on from a boundary that the title holds.
 fn resumed_fill(indexes: &[u32], sizes: &[u64], capacity: u64, last: u32) -> usize
@@ -135,25 +138,44 @@ fn count_runs(k: Frame, mfirsts: &[u32], mlasts: &[u32], indexes: &[u32], sizes:
     Counted { runs: count, grown }
 }
 
-// Writes the runs of a stretch to the front of the lent lists, the first with the mark, and returns how many there are.
+// Writes the numbers of a run to a lent list, from `at` on, and returns the place after them.
+fn put_run(list: &mut [u64], at: usize, first: u32, last: u32, size: u64, mark: u64) -> usize
+    requires { ⌜ at + 4 ≤ length (now list) ⌝ }
+    ensures { λ r. ⌜ r ≡ at + 4 ⌝ }
+    ensures { λ _. ⌜
+        now (list .exit) ≡ take at (now (list .entry)) ++ written (first ∷ last ∷ size ∷ mark ∷ []) (drop at (now (list .entry)))
+        ⌝ }
+{
+    list[at] = wide(first);
+    list[at + 1] = wide(last);
+    list[at + 2] = size;
+    list[at + 3] = mark;
+    at + RUN_NUMBERS
+}
+
+// Writes the run of an axis without slots to the front of a lent list: at the range's first, size 0.
+pub(crate) fn write_empty(first: u32, list: &mut [u64])
+    requires { ⌜ Room (orEmpty first []) (now list) ⌝ }
+    ensures { λ _. ⌜ now (list .exit) ≡ written (flat (orEmpty first [])) (now (list .entry)) ⌝ }
+{
+    put_run(list, 0, first, first, 0, 0);
+}
+
+// Writes the runs of a stretch to the front of a lent list, the first with the mark, and returns how many numbers they have.
 fn write_runs(
     k: Frame,
     mfirsts: &[u32],
     mlasts: &[u32],
     indexes: &[u32],
     sizes: &[u64],
-    mark: u8,
-    firsts: &mut [u32],
-    lasts: &mut [u32],
-    totals: &mut [u64],
-    marks: &mut [u8],
+    mark: u64,
+    list: &mut [u64],
 ) -> usize
     requires { ⌜ Slots (now indexes) (now sizes) ⌝ }
-    requires { ⌜ Room (firstMarked mark (runs k (now mfirsts) (now mlasts) (now indexes) (now sizes))) (now firsts) (now lasts) (now totals) (now marks) ⌝ }
+    requires { ⌜ Room (firstMarked mark (runs k (now mfirsts) (now mlasts) (now indexes) (now sizes))) (now list) ⌝ }
     ensures { λ r. ⌜
         Written (firstMarked mark (runs k (now (mfirsts .entry)) (now (mlasts .entry)) (now (indexes .entry)) (now (sizes .entry))))
-        r (now (firsts .entry)) (now (lasts .entry)) (now (totals .entry)) (now (marks .entry)) (now (firsts .exit))
-        (now (lasts .exit)) (now (totals .exit)) (now (marks .exit))
+        r (now (list .entry)) (now (list .exit))
         ⌝ }
 {
     let mut is = indexes;
@@ -164,14 +186,10 @@ fn write_runs(
         let end = run_end(k, mfirsts, mlasts, is, ss);
         let n = end.slots;
         let t = total(&ss[..n]);
-        firsts[at] = is[0];
-        lasts[at] = is[n - 1];
-        totals[at] = t;
-        marks[at] = manual;
+        at = put_run(list, at, is[0], is[n - 1], t, manual);
         manual = 0;
         is = &is[n..];
         ss = &ss[n..];
-        at += 1;
     }
     at
 }
@@ -300,7 +318,7 @@ pub(crate) fn count_axis(
     }
 }
 
-// Writes the runs of the slots from the cut a to the cut e to the lent lists, from `at` on, and returns how many there are.
+// Writes the runs of the slots from the cut a to the cut e to a lent list, from `at` on, and returns how many numbers they have.
 fn write_stretch(
     k: Frame,
     mfirsts: &[u32],
@@ -310,18 +328,14 @@ fn write_stretch(
     a: usize,
     e: usize,
     at: usize,
-    firsts: &mut [u32],
-    lasts: &mut [u32],
-    totals: &mut [u64],
-    marks: &mut [u8],
+    list: &mut [u64],
 ) -> usize
     requires { ⌜ Slots (now indexes) (now sizes) ⌝ }
     requires { ⌜ (a ≤ e) × (e ≤ length (now sizes)) ⌝ }
-    requires { ⌜ RoomAt (stretch k (now mfirsts) (now mlasts) (now indexes) (now sizes) a e) at (now firsts) (now lasts) (now totals) (now marks) ⌝ }
+    requires { ⌜ RoomAt (stretch k (now mfirsts) (now mlasts) (now indexes) (now sizes) a e) at (now list) ⌝ }
     ensures { λ r. ⌜
         WrittenAt (stretch k (now (mfirsts .entry)) (now (mlasts .entry)) (now (indexes .entry)) (now (sizes .entry)) a e) at r
-        (now (firsts .entry)) (now (lasts .entry)) (now (totals .entry)) (now (marks .entry)) (now (firsts .exit))
-        (now (lasts .exit)) (now (totals .exit)) (now (marks .exit))
+        (now (list .entry)) (now (list .exit))
         ⌝ }
 {
     write_runs(
@@ -331,14 +345,11 @@ fn write_stretch(
         &indexes[a..e],
         &sizes[a..e],
         mark_of(a),
-        &mut firsts[at..],
-        &mut lasts[at..],
-        &mut totals[at..],
-        &mut marks[at..],
+        &mut list[at..],
     )
 }
 
-// Writes the runs of an axis to the front of the lent lists and returns how many there are.
+// Writes the runs of an axis to the front of a lent list and returns how many numbers they have.
 pub(crate) fn write_axis(
     k: Frame,
     mfirsts: &[u32],
@@ -346,19 +357,15 @@ pub(crate) fn write_axis(
     breaks: &[u32],
     indexes: &[u32],
     sizes: &[u64],
-    firsts: &mut [u32],
-    lasts: &mut [u32],
-    totals: &mut [u64],
-    marks: &mut [u8],
+    list: &mut [u64],
 ) -> usize
     requires { ⌜ Slots (now indexes) (now sizes) ⌝ }
-    requires { ⌜ Room (axisRuns k (now mfirsts) (now mlasts) (now indexes) (now sizes) 0 (now breaks)) (now firsts) (now lasts) (now totals) (now marks) ⌝ }
+    requires { ⌜ Room (axisRuns k (now mfirsts) (now mlasts) (now indexes) (now sizes) 0 (now breaks)) (now list) ⌝ }
     ensures { λ r. ⌜
         Written
         (axisRuns k (now (mfirsts .entry)) (now (mlasts .entry)) (now (indexes .entry)) (now (sizes .entry)) 0
         (now (breaks .entry)))
-        r (now (firsts .entry)) (now (lasts .entry)) (now (totals .entry)) (now (marks .entry)) (now (firsts .exit))
-        (now (lasts .exit)) (now (totals .exit)) (now (marks .exit))
+        r (now (list .entry)) (now (list .exit))
         ⌝ }
 {
     let end = sizes.len();
@@ -368,36 +375,9 @@ pub(crate) fn write_axis(
     while j < breaks.len() {
         let cut = next_cut(k, mfirsts, mlasts, indexes, prev, breaks[j]);
         let next = cut.place;
-        at += write_stretch(
-            k,
-            mfirsts,
-            mlasts,
-            indexes,
-            sizes,
-            prev,
-            next,
-            at,
-            firsts,
-            lasts,
-            totals,
-            marks,
-        );
+        at += write_stretch(k, mfirsts, mlasts, indexes, sizes, prev, next, at, list);
         prev = next;
         j += 1;
     }
-    at
-        + write_stretch(
-            k,
-            mfirsts,
-            mlasts,
-            indexes,
-            sizes,
-            prev,
-            end,
-            at,
-            firsts,
-            lasts,
-            totals,
-            marks,
-        )
+    at + write_stretch(k, mfirsts, mlasts, indexes, sizes, prev, end, at, list)
 }

@@ -1,6 +1,7 @@
 // How large a worksheet is printed: document 01, section "Scale".
 use crate::filling::total;
 use crate::runs::run_end;
+use planner_compare::wide;
 use planner_rules::ChosenScale;
 use planner_rules::Fit;
 use planner_rules::Frame;
@@ -52,7 +53,7 @@ pub(crate) fn fits_side(page: PageSide, permille: u16, size: u64) -> bool
 }
 
 // What a run takes of a page: its size and the headings, and the titles where it lies past the title or its body is empty.
-pub(crate) fn printed(page: PageSide, title: Title, empty: bool, first: u32, size: u64) -> u64
+pub(crate) fn printed(page: PageSide, title: Title, empty: bool, first: u64, size: u64) -> u64
     requires { ⌜ Low page ⌝ }
     requires { ⌜ size ≤ 2 ^ 50 ⌝ }
     ensures { λ r. ⌜ r ≡ section.printed (spaceOf page) title empty first size ⌝ }
@@ -64,7 +65,7 @@ pub(crate) fn printed(page: PageSide, title: Title, empty: bool, first: u32, siz
     let Title::Pair(_, last) = title else {
         return size + page.headings;
     };
-    if first > last {
+    if first > wide(last) {
         return size + page.titles + page.headings;
     }
     size + page.headings
@@ -118,7 +119,7 @@ fn runs_pass(
         let end = run_end(frame, mfirsts, mlasts, is, ss);
         let n = end.slots;
         let t = total(&ss[..n]);
-        let whole = printed(page, title, false, is[0], t);
+        let whole = printed(page, title, false, wide(is[0]), t);
         if !fits_side(page, permille, whole) {
             return false;
         }

@@ -102,7 +102,7 @@ pub fn title_holds(title: Title, b: u32) -> bool
 }
 
 // The mark of a run that starts at a cut: every cut past 0 is a kept manual break.
-pub fn mark_of(cut: usize) -> u8
+pub fn mark_of(cut: usize) -> u64
     ensures { λ r. ⌜ r ≡ min cut 1 ⌝ }
 {
     if cut > 0 { 1 } else { 0 }

@@ -18,53 +18,16 @@ fn both(pages: [Page; 4], answer: Listing) -> Four
     Four { pages, answer }
 }
 
-// Writes the pages of a plan, in order, to the front of a list of four, over the run lists that were lent to the plan. It answers how many,
-// or refuses and writes nothing.
-pub fn list_four(
-    mut list: [Page; 4],
-    plan: Plan,
-    row_firsts: &[u32],
-    row_lasts: &[u32],
-    row_sizes: &[u64],
-    row_marks: &[u8],
-    column_firsts: &[u32],
-    column_lasts: &[u32],
-    column_sizes: &[u64],
-    column_marks: &[u8],
-) -> Four
+// Writes the pages of a plan, in order, to the front of a list of four, over the lists of runs that were lent to the plan. It answers how
+// many, or refuses and writes nothing.
+pub fn list_four(mut list: [Page; 4], plan: Plan, row_runs: &[u64], column_runs: &[u64]) -> Four
     ensures { λ r. ⌜
-        (section.listOutcome (r .answer) ≡ section.listPages plan
-        (section.runLists (now («row_firsts» .entry)) (now («row_lasts» .entry)) (now («row_sizes» .entry))
-        (now («row_marks» .entry)))
-        (section.runLists (now («column_firsts» .entry)) (now («column_lasts» .entry)) (now («column_sizes» .entry))
-        (now («column_marks» .entry)))
-        4) ×
-        (r .pages ≡ section.pagesLent
-        (section.listPages plan
-        (section.runLists (now («row_firsts» .entry)) (now («row_lasts» .entry)) (now («row_sizes» .entry))
-        (now («row_marks» .entry)))
-        (section.runLists (now («column_firsts» .entry)) (now («column_lasts» .entry)) (now («column_sizes» .entry))
-        (now («column_marks» .entry)))
-        4)
-        (section.pagesOf plan
-        (section.runLists (now («row_firsts» .entry)) (now («row_lasts» .entry)) (now («row_sizes» .entry))
-        (now («row_marks» .entry)))
-        (section.runLists (now («column_firsts» .entry)) (now («column_lasts» .entry)) (now («column_sizes» .entry))
-        (now («column_marks» .entry))))
-        list)
+        (let rows = now («row_runs» .entry) in
+        let columns = now («column_runs» .entry) in
+        let outcome = section.listPages plan rows columns 4 in
+        (section.listOutcome (r .answer) ≡ outcome) × (r .pages ≡ section.pagesLent outcome (section.pagesOf plan rows columns) list))
         ⌝ }
 {
-    let answer = planner_pages::list_pages(
-        &mut list,
-        plan,
-        row_firsts,
-        row_lasts,
-        row_sizes,
-        row_marks,
-        column_firsts,
-        column_lasts,
-        column_sizes,
-        column_marks,
-    );
+    let answer = planner_pages::list_pages(&mut list, plan, row_runs, column_runs);
     both(list, answer)
 }

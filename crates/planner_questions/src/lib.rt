@@ -2,7 +2,9 @@
 use planner_compare::shorter;
 use planner_rules::AxisRange;
 use planner_rules::AxisSetup;
+use planner_rules::RUN_NUMBERS;
 ghost use mathlib.Core.Path.{_≡_};
+ghost use Prim.Native.Nat.{_/_};
 ghost use Rattle.planner_rules.specs.Questions.{noOr, allOrdered, wellFormed, allWithin, rising, risingWithin, allSmall};
 ghost use mathlib.Core.Bool.{_&&_};
 ghost use mathlib.Core.List.{[]};
@@ -12,11 +14,11 @@ ghost use Rattle.planner_rules.specs.Partition as partition;
 
 const LARGEST_SIZE: u64 = 1_073_741_823;
 
-// 6: the four slices of a list of runs, of these lengths, are equally long.
-pub fn lists_even(firsts: usize, lasts: usize, sizes: usize, marks: usize) -> bool
-    ensures { λ r. ⌜ r ≡ partition.evenLengths firsts lasts sizes marks ⌝ }
+// How many runs a list of so many numbers has room for.
+pub fn room_in(numbers: usize) -> usize
+    ensures { λ r. ⌜ r ≡ numbers / 4 ⌝ }
 {
-    (firsts == lasts) & (firsts == sizes) & (firsts == marks)
+    numbers / RUN_NUMBERS
 }
 
 // 6: no first is above its last.
@@ -92,20 +94,18 @@ pub fn all_small(sizes: &[u64]) -> bool
 fn formed(
     first: u32,
     last: u32,
-    lent_even: bool,
     indexes: &[u32],
     sizes: &[u64],
     merge_firsts: &[u32],
     merge_lasts: &[u32],
 ) -> bool
     ensures { λ r. ⌜
-        r ≡ wellFormed first last «lent_even» (now (indexes .entry)) (now (sizes .entry)) (now («merge_firsts» .entry))
+        r ≡ wellFormed first last (now (indexes .entry)) (now (sizes .entry)) (now («merge_firsts» .entry))
         (now («merge_lasts» .entry))
         ⌝ }
 {
     (indexes.len() == sizes.len())
         & (merge_firsts.len() == merge_lasts.len())
-        & lent_even
         & (first <= last)
         & pairs_ordered(merge_firsts, merge_lasts)
 }
@@ -128,17 +128,15 @@ pub fn partition_refusal(
     sizes: &[u64],
     merge_firsts: &[u32],
     merge_lasts: &[u32],
-    lent_even: bool,
 ) -> u8
     ensures { λ r. ⌜
         r ≡ partition.firstNo limit setup (now (indexes .entry)) (now (sizes .entry)) (now («merge_firsts» .entry))
-        (now («merge_lasts» .entry)) «lent_even»
+        (now («merge_lasts» .entry))
         ⌝ }
 {
     let six = formed(
         setup.first,
         setup.last,
-        lent_even,
         indexes,
         sizes,
         merge_firsts,
@@ -154,8 +152,6 @@ pub fn partition_refusal(
 pub fn plan_refusal(
     row_axis: AxisRange,
     column_axis: AxisRange,
-    lent_rows_even: bool,
-    lent_columns_even: bool,
     row_indexes: &[u32],
     row_sizes: &[u64],
     column_indexes: &[u32],
@@ -171,13 +167,11 @@ pub fn plan_refusal(
         (now («merge_last_rows» .entry)) [])
         (call.axisFor «column_axis» (now («column_indexes» .entry)) (now («column_sizes» .entry))
         (now («merge_first_columns» .entry)) (now («merge_last_columns» .entry)) [])
-        «lent_rows_even» «lent_columns_even»
         ⌝ }
 {
     let six = formed(
         row_axis.first,
         row_axis.last,
-        lent_rows_even,
         row_indexes,
         row_sizes,
         merge_first_rows,
@@ -186,7 +180,6 @@ pub fn plan_refusal(
         & formed(
             column_axis.first,
             column_axis.last,
-            lent_columns_even,
             column_indexes,
             column_sizes,
             merge_first_columns,

@@ -7,27 +7,26 @@ use native.Mathlib.Omega.{arith}
 use lib.Dec.{leb}
 use lib.IntN.{ℤ}
 use lib.Signed.{mag}
-use lib.ListN.{length, getD, take}
-use lib.Seq.{getD-take, length-take-le}
-use borrow.Author.Tests.{le-leb, leb-true, eq-eqb}
+use lib.ListN.{length, getD, take, length-map}
+use borrow.Author.Tests.{le-leb, leb-true}
 use Rattle.units.specs.Outcome.{Outcome, given, refused, andThen}
 use Rattle.planner_rules.specs.declared.pages.Page.{Page}
+use Rattle.planner_rules.specs.declared.pages.PageRun.{PageRun}
 use Rattle.planner_rules.specs.declared.pages.Plan.{Plan}
 use Rattle.planner_rules.specs.declared.planning.Settings.{Settings}
 use Rattle.planner_rules.specs.declared.planning.Planning.{Planning}
-use Rattle.planner_rules.specs.Questions.{ask, equallyLong, risingWithin, allSmall}
+use Rattle.planner_rules.specs.Questions.{ask, equallyLong, allWithin, risingWithin, allSmall}
 use Rattle.planner_rules.specs.Runs.{Run}
-use Rattle.planner_rules.specs.Lent.{firsts, lasts, sizes}
-use Rattle.planner_rules.specs.Pages.{RunLists, evenLists, pageAt, inOrder, pagesOf, numbered, pageNumbered}
-use Rattle.planner_rules.specs.Plan.{AxisInput, Sides, Layout, RunsLent, Planned, contentSides, chosenScale, pageRuns, planOf, layout, layoutAt, formed, inGrid, roomFor, planned, bodyOf, spaceOn}
-use Rattle.planner_rules.specs.Slots.{Rising}
+use Rattle.planner_rules.specs.Lent.{flat, roomIn, numberAt, runsIn, firsts, lasts, sizes}
+use Rattle.planner_rules.specs.Pages.{runAt, pageAt, inOrder, pagesOf, numbered, pageNumbered}
+use Rattle.planner_rules.specs.Plan.{AxisInput, Sides, Layout, Planned, contentSides, chosenScale, pageRuns, planOf, layout, layoutAt, formed, inGrid, roomFor, planned, bodyOf, spaceOn}
+use Rattle.planner_rules.specs.Slots.{Rising, written}
 use Rattle.planner_rules.specs.Division.{LiesIn, InOneRun}
 use Rattle.planner_rules.specs.Fitting.{Chosen}
 use Rattle.planner_rules.specs.Demand.{Finished, OnPage, OnOnePage, CoversPairs, Bare, FewestPlan, Exceeds, EachReaches, LargestPlan}
 use Rattle.planner_rules.proofs.QuestionLaws.{both, rising-of}
-use Rattle.planner_rules.proofs.Lent.{front-written, long-written}
+use Rattle.planner_rules.proofs.Lent.{stands, long-written, room-runs, runs-length, field-at}
 use Rattle.planner_rules.proofs.PlanLaws.{formed-of}
-use Rattle.planner_rules.proofs.PartitionLaws.{even-of}
 use Rattle.planner_rules.proofs.PageLaws.{verticalOf, horizontalOf, beforeOf, numbered-zero, numbered-take, numbered-take-past, page-after, vertical-below, horizontal-below, before-of-place, before-below, vertical-is, horizontal-is}
 use Rattle.planner_rules.proofs.BodyLaws.{body-even, page-runs-cover, bare-title, bare-total, page-runs-fewest}
 use Rattle.planner_rules.proofs.Largest.{Plain, scale-chosen}
@@ -45,56 +44,47 @@ then-yes (given x) f y e = (x, refl, e)
 then-yes (refused n) f y e = let z : _≡_ {A = ℕ} 0 1 = cc in absurd (omega arith)
 
 all-yes : {A : Type 0} (u v w x : Bool) (o : Outcome A) (y : A) → ask 6 u (ask 7 v (ask 8 w (ask 9 x o))) ≡ given y
-    → (u ≡ true) × (w ≡ true) × (o ≡ given y)
+    → (u ≡ true) × (v ≡ true) × (w ≡ true) × (o ≡ given y)
 all-yes u v w x o y e =
     let (six, f) = ask-yes 6 u (ask 7 v (ask 8 w (ask 9 x o))) y e in
     let (seven, g) = ask-yes 7 v (ask 8 w (ask 9 x o)) y f in
     let (eight, h) = ask-yes 8 w (ask 9 x o) y g in
-    (six, eight, ask-yes 9 x o y h .1)
+    (six, seven, eight, ask-yes 9 x o y h .1)
 
 same-sides : {o : Outcome Sides} {x c : Sides} → o ≡ given x → o ≡ given c → x ≡ c
 same-sides e f = cc
 
--- ---- the lists of an axis after the call
+-- ---- the list of an axis after the call
 
--- the runs rs, n of them, are what stands first in the lists
-pub record Shows (a : AxisInput) (rs : List Run) (n : ℕ) (l : RunLists) : Type 0 where
+-- the runs rs, n of them, are what stands first in the list
+pub record Shows (a : AxisInput) (rs : List Run) (n : ℕ) (l : List ℕ) : Type 0 where
   pub even : length (a .indexes) ≡ length (a .sizes)
+  pub inside : a .last ≤ a .limit
   pub rising : Rising (a .indexes)
-  pub count : n ≡ length rs
-  pub lists-even : evenLists l ≡ true
-  pub room : n ≤ length (l .firsts)
-  pub firsts-are : take n (l .firsts) ≡ firsts rs
-  pub lasts-are : take n (l .lasts) ≡ lasts rs
-  pub sizes-are : take n (l .sizes) ≡ sizes rs
+  pub room : n ≤ roomIn l
+  pub firsts-are : firsts (runsIn n l) ≡ firsts rs
+  pub lasts-are : lasts (runsIn n l) ≡ lasts rs
+  pub sizes-are : sizes (runsIn n l) ≡ sizes rs
 
-module _ (a : AxisInput) (rs : List Run) (before after : RunLists) (l : Layout) (lent : RunsLent (given l) rs before after) where
-  shows : formed a (evenLists before) ≡ true → risingWithin (a .limit) (a .indexes) ≡ true → length rs ≤ length (before .firsts) → Shows a rs (length rs) after
-  shows form rise room =
-      let f = formed-of a (evenLists before) form in
-      let e = even-of (before .firsts) (before .lasts) (before .sizes) (before .marks) (f .lent-even) in
-      let el = e .lasts-even in
-      let es = e .sizes-even in
-      let em = e .marks-even in
-      let lf = long-written (λ (r : Run). r .first) rs (before .firsts) (after .firsts) room (lent .firsts-are) in
-      let ll = long-written (λ (r : Run). r .last) rs (before .lasts) (after .lasts) (omega (arith, el)) (lent .lasts-are) ∙ sym el in
-      let lz = long-written (λ (r : Run). r .size) rs (before .sizes) (after .sizes) (omega (arith, es)) (lent .sizes-are) ∙ sym es in
-      let lm = long-written (λ (r : Run). r .manual) rs (before .marks) (after .marks) (omega (arith, em)) (lent .marks-are) ∙ sym em in
+module _ (a : AxisInput) (rs : List Run) (before after : List ℕ) (lent : after ≡ written (flat rs) before) where
+  shows : formed a ≡ true → inGrid a ≡ true → risingWithin (a .limit) (a .indexes) ≡ true → length rs ≤ roomIn before → Shows a rs (length rs) after
+  unfolding inGrid
+  shows form grid rise room =
+      let long = long-written (flat rs) before after (room-runs rs before room) lent in
+      let here = stands rs before after lent in
       record {
-        even = f .slots-even;
+        even = formed-of a form .slots-even;
+        inside = leb-true (a .last) (a .limit) (both (leb (a .last) (a .limit)) (allWithin (a .limit) (a .merge-lasts)) grid .0);
         rising = rising-of (a .limit) (a .indexes) rise;
-        count = refl;
-        lists-even =
-            rw (eq-eqb (length (after .firsts)) (length (after .lasts)) (lf ∙ sym ll), eq-eqb (length (after .firsts)) (length (after .sizes)) (lf ∙ sym lz), eq-eqb (length (after .firsts)) (length (after .marks)) (lf ∙ sym lm));
-        room = omega arith;
-        firsts-are = front-written (λ (r : Run). r .first) rs (before .firsts) (after .firsts) (lent .firsts-are);
-        lasts-are = front-written (λ (r : Run). r .last) rs (before .lasts) (after .lasts) (lent .lasts-are);
-        sizes-are = front-written (λ (r : Run). r .size) rs (before .sizes) (after .sizes) (lent .sizes-are);
+        room = rw long room;
+        firsts-are = here .firsts-are;
+        lasts-are = here .lasts-are;
+        sizes-are = here .sizes-are;
       }
 
 -- ---- a finished plan
 
-pub record Done (s : Settings) (a b : AxisInput) (plan : Plan) (rows columns : RunLists) : Type 0 where
+pub record Done (s : Settings) (a b : AxisInput) (plan : Plan) (rows columns : List ℕ) : Type 0 where
   pub sides : Sides
   pub sides-are : contentSides s ≡ given sides
   pub plan-is : planOf s sides a b (chosenScale s sides a b) ≡ plan
@@ -102,33 +92,36 @@ pub record Done (s : Settings) (a b : AxisInput) (plan : Plan) (rows columns : R
   pub on-columns : Shows b (pageRuns (sides .width) b (plan .permille)) (plan .«column_runs») columns
   pub pages-are : plan .pages ≡ plan .«row_runs» * plan .«column_runs»
 
-module _ (s : Settings) (a b : AxisInput) (rows₀ columns₀ rows columns : RunLists) (r : Planning)
+module _ (s : Settings) (a b : AxisInput) (rows₀ columns₀ rows columns : List ℕ) (r : Planning)
     (p : Planned (planned s a b rows₀ columns₀) r rows₀ columns₀ rows columns) where
   laid : (l : Layout) → planned s a b rows₀ columns₀ ≡ given l → Done s a b (l .plan) rows columns
   unfolding planned roomFor layout layoutAt planOf
   laid l e =
-      let form = formed a (evenLists rows₀) && formed b (evenLists columns₀) in
+      let form = formed a && formed b in
       let rise = risingWithin (a .limit) (a .indexes) && risingWithin (b .limit) (b .indexes) in
-      let room : Sides → Outcome Layout = λ (c : Sides). roomFor (layout s c a b) (length (rows₀ .firsts)) (length (columns₀ .firsts)) (s .«page_limit») in
+      let room : Sides → Outcome Layout = λ (c : Sides). roomFor (layout s c a b) (roomIn rows₀) (roomIn columns₀) (s .«page_limit») in
       let y = all-yes (form && equallyLong (a .merge-firsts) (b .merge-firsts)) (inGrid a && inGrid b) rise (allSmall (a .sizes) && allSmall (b .sizes))
       (andThen (contentSides s) room) l e in
-      let (c, content, fits) = then-yes (contentSides s) room l (y .2) in
+      let (c, content, fits) = then-yes (contentSides s) room l (y .3) in
       let k : Layout = layout s c a b in
-      let enough = leb (length (k .rows)) (length (rows₀ .firsts)) && leb (length (k .columns)) (length (columns₀ .firsts)) in
+      let enough = leb (length (k .rows)) (roomIn rows₀) && leb (length (k .columns)) (roomIn columns₀) in
       let (eleven, pages) = ask-yes 11 enough (ask 12 (leb (k .plan .pages) (s .«page_limit»)) (given k)) l fits in
       let (twelve, last) = ask-yes 12 (leb (k .plan .pages) (s .«page_limit»)) (given k) l pages in
       let same : k ≡ l = cc in
       let q : Planned (given k) r rows₀ columns₀ rows columns =
       subst (λ (o : Outcome Layout). Planned o r rows₀ columns₀ rows columns) (e ∙ sym last) p in
-      let forms = both (formed a (evenLists rows₀)) (formed b (evenLists columns₀)) (both form (equallyLong (a .merge-firsts) (b .merge-firsts)) (y .0) .0) in
-      let rises = both (risingWithin (a .limit) (a .indexes)) (risingWithin (b .limit) (b .indexes)) (y .1) in
-      let rooms = both (leb (length (k .rows)) (length (rows₀ .firsts))) (leb (length (k .columns)) (length (columns₀ .firsts))) eleven in
+      let forms = both (formed a) (formed b) (both form (equallyLong (a .merge-firsts) (b .merge-firsts)) (y .0) .0) in
+      let grids = both (inGrid a) (inGrid b) (y .1) in
+      let rises = both (risingWithin (a .limit) (a .indexes)) (risingWithin (b .limit) (b .indexes)) (y .2) in
+      let rooms = both (leb (length (k .rows)) (roomIn rows₀)) (leb (length (k .columns)) (roomIn columns₀)) eleven in
+      let row-room = leb-true (length (k .rows)) (roomIn rows₀) (rooms .0) in
+      let column-room = leb-true (length (k .columns)) (roomIn columns₀) (rooms .1) in
       subst (λ (l : Layout). Done s a b (l .plan) rows columns) same (record {
         sides = c;
         sides-are = content;
         plan-is = refl;
-        on-rows = shows a (k .rows) rows₀ rows k (q .rows-are) (forms .0) (rises .0) (leb-true (length (k .rows)) (length (rows₀ .firsts)) (rooms .0));
-        on-columns = shows b (k .columns) columns₀ columns k (q .columns-are) (forms .1) (rises .1) (leb-true (length (k .columns)) (length (columns₀ .firsts)) (rooms .1));
+        on-rows = shows a (k .rows) rows₀ rows (q .rows-are) (forms .0) (grids .0) (rises .0) row-room;
+        on-columns = shows b (k .columns) columns₀ columns (q .columns-are) (forms .1) (grids .1) (rises .1) column-room;
         pages-are = refl;
       })
 
@@ -140,8 +133,7 @@ module _ (s : Settings) (a b : AxisInput) (rows₀ columns₀ rows columns : Run
 
 -- ---- covered
 
-module _ (plan : Plan) (rows columns : RunLists) (rows-even : evenLists rows ≡ true) (columns-even : evenLists columns ≡ true)
-    (rows-room : plan .«row_runs» ≤ length (rows .firsts)) (columns-room : plan .«column_runs» ≤ length (columns .firsts))
+module _ (plan : Plan) (rows columns : List ℕ) (rows-room : plan .«row_runs» ≤ roomIn rows) (columns-room : plan .«column_runs» ≤ roomIn columns)
     (pages-are : plan .pages ≡ plan .«row_runs» * plan .«column_runs») where
   abbrev down : ℕ
   down = plan .«row_runs»
@@ -158,7 +150,7 @@ module _ (plan : Plan) (rows columns : RunLists) (rows-even : evenLists rows ≡
 
   asked : (n : ℕ) → pageNumbered plan rows columns n ≡ numbered (take (plan .pages) (inOrder (plan .order) down over at)) n
   unfolding pageNumbered pagesOf
-  asked n = rw (rows-even, columns-even, le-leb down (length (rows .firsts)) rows-room, le-leb over (length (columns .firsts)) columns-room)
+  asked n = rw (le-leb down (roomIn rows) rows-room, le-leb over (roomIn columns) columns-room)
 
   page-is : (before : ℕ) → before < down * over → pageNumbered plan rows columns (suc before) ≡ given (after before)
   page-is before h =
@@ -180,22 +172,37 @@ module _ (plan : Plan) (rows columns : RunLists) (rows-even : evenLists rows ≡
       absurd (omega arith))
       (λ h. let same : given page ≡ given (after i) = sym e ∙ page-is i h in (i, h, refl, cc))
 
-  -- an index from first to last of a run of the page's lies in that run
-  lies : (n : ℕ) (l : RunLists) (index k : ℕ) → n ≤ length (l .firsts) → k < n → getD (l .firsts) k 0 ≤ index → index ≤ getD (l .lasts) k 0
-      → LiesIn (take n (l .firsts)) (take n (l .lasts)) index k
-  lies n l index k room h low high = record {
-    there = omega (arith, length-take-le n (l .firsts) room);
-    not-before = rw (getD-take n (l .firsts) k 0 h) low;
-    not-after = rw (getD-take n (l .lasts) k 0 h) high;
-  }
+  -- an index of the grid that lies from first to last of a page's run lies in that run of the list, and the other way round
+  module _ (n : ℕ) (l : List ℕ) (index k : ℕ) (small : index < 4294967295) (below : k < n) where
+    abbrev run : PageRun
+    run = runAt l true k
 
-  pub on-one-page : (row column : ℕ) → InOneRun (take down (rows .firsts)) (take down (rows .lasts)) row
-      → InOneRun (take over (columns .firsts)) (take over (columns .lasts)) column → OnOnePage plan rows columns row column
-  on-one-page row column i j =
+    first-is : getD (firsts (runsIn n l)) k 0 ≡ numberAt l k 0
+    first-is = field-at (λ (r : Run). r .first) 0 (λ l. refl) n l k below
+
+    last-is : getD (lasts (runsIn n l)) k 0 ≡ numberAt l k 1
+    last-is = field-at (λ (r : Run). r .last) 1 (λ l. refl) n l k below
+
+    lies : run .first ≤ index → index ≤ run .last → LiesIn (firsts (runsIn n l)) (lasts (runsIn n l)) index k
+    lies low high = record {
+      there = omega (arith, length-map (runsIn n l) (λ (r : Run). r .first), runs-length n l);
+      not-before = omega (arith, first-is);
+      not-after = omega (arith, last-is);
+    }
+
+    from-first : getD (firsts (runsIn n l)) k 0 ≤ index → run .first ≤ index
+    from-first h = omega (arith, first-is)
+
+    to-last : index ≤ getD (lasts (runsIn n l)) k 0 → index ≤ run .last
+    to-last h = omega (arith, last-is)
+
+  pub on-one-page : (row column : ℕ) → row < 4294967295 → column < 4294967295 → InOneRun (firsts (runsIn down rows)) (lasts (runsIn down rows)) row
+      → InOneRun (firsts (runsIn over columns)) (lasts (runsIn over columns)) column → OnOnePage plan rows columns row column
+  on-one-page row column low-row low-column i j =
       let v : ℕ = i .run in
       let h : ℕ = j .run in
-      let v-below : v < down = omega (arith, i .lies .there, length-take-le down (rows .firsts) rows-room) in
-      let h-below : h < over = omega (arith, j .lies .there, length-take-le over (columns .firsts) columns-room) in
+      let v-below : v < down = omega (arith, i .lies .there, length-map (runsIn down rows) (λ (r : Run). r .first), runs-length down rows) in
+      let h-below : h < over = omega (arith, j .lies .there, length-map (runsIn over columns) (λ (r : Run). r .first), runs-length over columns) in
       let before : ℕ = beforeOf (plan .order) down over v h in
       let inside : before < down * over = before-below down over v h v-below h-below (plan .order) in
       record {
@@ -205,31 +212,34 @@ module _ (plan : Plan) (rows columns : RunLists) (rows-even : evenLists rows ≡
         to-count = omega arith;
         has-number = rw (vertical-is down over v h v-below h-below (plan .order), horizontal-is down over v h v-below h-below (plan .order)) at (page-is before inside);
         on-it = record {
-          row-from-first = rw (getD-take down (rows .firsts) v 0 v-below) at (i .lies .not-before);
-          row-to-last = rw (getD-take down (rows .lasts) v 0 v-below) at (i .lies .not-after);
-          column-from-first = rw (getD-take over (columns .firsts) h 0 h-below) at (j .lies .not-before);
-          column-to-last = rw (getD-take over (columns .lasts) h 0 h-below) at (j .lies .not-after);
+          row-from-first = from-first down rows row v low-row v-below (i .lies .not-before);
+          row-to-last = to-last down rows row v low-row v-below (i .lies .not-after);
+          column-from-first = from-first over columns column h low-column h-below (j .lies .not-before);
+          column-to-last = to-last over columns column h low-column h-below (j .lies .not-after);
         };
         on-no-other = λ n other e o.
             let (b, l, number, page) = is-page n other e in
             let on : OnPage (after b) row column = rw page at o in
             let v′ : ℕ = verticalOf (plan .order) down over b in
             let h′ : ℕ = horizontalOf (plan .order) down over b in
-            let ev : v′ ≡ v = i .only v′ (lies down rows row v′ rows-room (vertical-below down over b l (plan .order)) (on .row-from-first) (on .row-to-last)) in
-            let eh : h′ ≡ h = j .only h′ (lies over columns column h′ columns-room (horizontal-below down over b l (plan .order)) (on .column-from-first) (on .column-to-last)) in
+            let v′-below = vertical-below down over b l (plan .order) in
+            let h′-below = horizontal-below down over b l (plan .order) in
+            let ev : v′ ≡ v = i .only v′ (lies down rows row v′ low-row v′-below (on .row-from-first) (on .row-to-last)) in
+            let eh : h′ ≡ h = j .only h′ (lies over columns column h′ low-column h′-below (on .column-from-first) (on .column-to-last)) in
             let same : beforeOf (plan .order) down over v′ h′ ≡ before = rw (ev, eh) refl in
             number ∙ ap suc (sym (before-of-place down over b l (plan .order)) ∙ same);
       }
 
-module _ (s : Settings) (a b : AxisInput) (rows₀ columns₀ rows columns : RunLists) (r : Planning)
+module _ (s : Settings) (a b : AxisInput) (rows₀ columns₀ rows columns : List ℕ) (r : Planning)
     (p : Planned (planned s a b rows₀ columns₀) r rows₀ columns₀ rows columns) where
-  pub covers : CoversPairs r a b rows columns
-  covers = record {
+  pub covers : a .limit < 4294967295 → b .limit < 4294967295 → CoversPairs r a b rows columns
+  covers low-a low-b = record {
     covered = λ plan f row column i j.
         let d = done s a b rows₀ columns₀ rows columns r p plan f in
         let u = d .on-rows in
         let w = d .on-columns in
-        on-one-page plan rows columns (u .lists-even) (w .lists-even) (u .room) (w .room) (d .pages-are) row column
+        on-one-page plan rows columns (u .room) (w .room) (d .pages-are) row column
+        (omega (arith, i .to-last, u .inside)) (omega (arith, j .to-last, w .inside))
         (rw (u .firsts-are, u .lasts-are) (page-runs-cover (d .sides .height) a (plan .permille) (u .even) (u .rising) row i))
         (rw (w .firsts-are, w .lasts-are) (page-runs-cover (d .sides .width) b (plan .permille) (w .even) (w .rising) column j));
   }
@@ -272,7 +282,7 @@ scale-is s c a b height width fit x y =
     rw fit (scale-chosen (spaceOn (c .height) a) (spaceOn (c .width) b) (bodyOf a) (bodyOf b) height width (a .target) (b .target) x y)
 
 module _ (s : Settings) (content : (c : Sides) × (contentSides s ≡ given c) × (mag (c .width) < 2 ^ 53) × (mag (c .height) < 2 ^ 53))
-    (a b : AxisInput) (rows₀ columns₀ rows columns : RunLists) (r : Planning)
+    (a b : AxisInput) (rows₀ columns₀ rows columns : List ℕ) (r : Planning)
     (p : Planned (planned s a b rows₀ columns₀) r rows₀ columns₀ rows columns) where
   pub largest-plan : LargestPlan r s a b
   unfolding planOf
@@ -288,7 +298,13 @@ module _ (s : Settings) (content : (c : Sides) × (contentSides s ≡ given c) �
   }
 
 -- ---- the clauses of the call, in their order
-pub clauses : (s : Settings) (a b : AxisInput) (rows₀ columns₀ rows columns : RunLists) (r : Planning) → Planned (planned s a b rows₀ columns₀) r rows₀ columns₀ rows columns
+pub clauses : (s : Settings) (a b : AxisInput) (rows₀ columns₀ rows columns : List ℕ) (r : Planning) → a .limit < 4294967295 → b .limit < 4294967295
+    → Planned (planned s a b rows₀ columns₀) r rows₀ columns₀ rows columns
     → Planned (planned s a b rows₀ columns₀) r rows₀ columns₀ rows columns × (CoversPairs r a b rows columns × (FewestPlan r s a b rows columns × LargestPlan r s a b))
-clauses s a b rows₀ columns₀ rows columns r p =
-    (p, (covers s a b rows₀ columns₀ rows columns r p, (fewest-plan s a b rows₀ columns₀ rows columns r p, largest-plan s (sides-given s) a b rows₀ columns₀ rows columns r p)))
+clauses s a b rows₀ columns₀ rows columns r low-a low-b p = (
+  p,
+  (
+    covers s a b rows₀ columns₀ rows columns r p low-a low-b,
+    (fewest-plan s a b rows₀ columns₀ rows columns r p, largest-plan s (sides-given s) a b rows₀ columns₀ rows columns r p),
+  ),
+)

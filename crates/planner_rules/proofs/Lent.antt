@@ -1,16 +1,16 @@
--- A loop that writes a lent list from its front, and four of them, one for each number of a run. Assumes nothing.
-use mathlib.Core.Path.{_≡_, refl, sym, ap, _∙_}
-use mathlib.Core.List.{List, [], _∷_, _++_, map, append-nil, append-assoc, map-append}
-use Prim.Native.Nat.{ℕ, suc, _+_, _-_, _≤_, _<_}
+-- A loop that writes a lent list from its front, and runs in it, one after another. Assumes nothing.
+use mathlib.Core.Path.{_≡_, refl, sym, ap, ap₂, _∙_}
+use mathlib.Core.List.{List, [], _∷_, _++_, map, append-nil, append-assoc}
+use Prim.Native.Nat.{ℕ, zero, suc, _+_, _*_, _/_, _-_, _≤_, _<_}
 use native.Mathlib.Numerals.{add-one}
 use native.Mathlib.Omega.{arith}
-use lib.ListN.{length, take, drop, set, length-set, take-append-drop, length-map, length-append, length-drop, drop-of-length-le}
-use lib.Seq.{take-suc-set, drop-set-lt, append-snoc, drop-drop, length-take-le, take-at, drop-at}
+use lib.ListN.{length, getD, take, drop, set, length-set, take-append-drop, length-append, length-drop, drop-of-length-le}
+use lib.Seq.{take-suc-set, drop-set-lt, append-snoc, drop-drop, getD-drop, length-take-le, take-at, drop-at}
 use borrow.Rule.Slice.PartMut.{putMid}
 use Rattle.planner_rules.proofs.Laws.{part, rest}
 use Rattle.planner_rules.specs.Slots.{written}
 use Rattle.planner_rules.specs.Runs.{Run}
-use Rattle.planner_rules.specs.Lent.{Room, Written, RoomAt, WrittenAt, firsts, lasts, sizes, marks}
+use Rattle.planner_rules.specs.Lent.{runNumbers, numbersOf, flat, roomIn, numberAt, firstRun, runsIn, firsts, lasts, sizes, Room, RoomAt, Written, WrittenAt}
 
 -- `new` is `old` with the first k values of `whole` written to its front; `left` are the values to come
 pub record Wrote (whole old : List ℕ) (k : ℕ) (left new : List ℕ) : Type 0 where
@@ -37,51 +37,93 @@ done whole old k new e w =
     ∙ ap (λ (l : List ℕ). l ++ drop k new) (sym (append-nil (take k new)) ∙ w .so-far)
     ∙ ap (λ (l : List ℕ). whole ++ l) (w .after ∙ ap (λ (n : ℕ). drop n old) e)
 
--- the four lists of runs: k of the runs are written, `left` are to come
-pub record Lists (whole : List Run) (f₀ l₀ s₀ m₀ : List ℕ) (k : ℕ) (left : List Run) (f l s m : List ℕ) : Type 0 where
-  pub counted : k + length left ≡ length whole
-  pub firsts-so : Wrote (firsts whole) f₀ k (firsts left) f
-  pub lasts-so : Wrote (lasts whole) l₀ k (lasts left) l
-  pub sizes-so : Wrote (sizes whole) s₀ k (sizes left) s
-  pub marks-so : Wrote (marks whole) m₀ k (marks left) m
+-- ---- runs as numbers
 
-pub lists-start : (whole : List Run) (f₀ l₀ s₀ m₀ : List ℕ) → Lists whole f₀ l₀ s₀ m₀ 0 whole f₀ l₀ s₀ m₀
-lists-start whole f₀ l₀ s₀ m₀ =
-    record { counted = omega arith; firsts-so = start _ f₀; lasts-so = start _ l₀; sizes-so = start _ s₀; marks-so = start _ m₀ }
+pub flat-append : (rs left : List Run) → flat (rs ++ left) ≡ flat rs ++ flat left
+unfolding flat
+flat-append [] left = refl
+flat-append (r ∷ rs) left = ap (λ (l : List ℕ). numbersOf r ++ l) (flat-append rs left)
 
--- one run more
-module _ (whole : List Run) (f₀ l₀ s₀ m₀ : List ℕ) (k : ℕ) (r : Run) (left : List Run) (f l s m : List ℕ) where
-  pub lists-store : (a b c d : ℕ) → a ≡ r .first → b ≡ r .last → c ≡ r .size → d ≡ r .manual
-      → k < length f → k < length l → k < length s → k < length m
-      → Lists whole f₀ l₀ s₀ m₀ k (r ∷ left) f l s m → Lists whole f₀ l₀ s₀ m₀ (k + 1) left (set f k a) (set l k b) (set s k c) (set m k d)
-  lists-store a b c d ea eb ec ed hf hl hs hm w =
-      rw (ea, eb, ec, ed) (record {
-        counted = omega (arith, w .counted);
-        firsts-so = store _ f₀ k (r .first) (firsts left) f hf (w .firsts-so);
-        lasts-so = store _ l₀ k (r .last) (lasts left) l hl (w .lasts-so);
-        sizes-so = store _ s₀ k (r .size) (sizes left) s hs (w .sizes-so);
-        marks-so = store _ m₀ k (r .manual) (marks left) m hm (w .marks-so);
-      })
+-- four numbers a run
+pub flat-length : (rs : List Run) → length (flat rs) ≡ runNumbers * length rs
+unfolding flat
+flat-length [] = refl
+flat-length (r ∷ rs) = omega (arith, flat-length rs)
+
+-- so many runs have room where so many are no more than the list has room for
+pub room-runs : (rs : List Run) (l : List ℕ) → length rs ≤ roomIn l → Room rs l
+room-runs rs l h = omega (arith, flat-length rs)
+
+pub runs-room : (rs : List Run) (l : List ℕ) → Room rs l → length rs ≤ roomIn l
+runs-room rs l h = omega (arith, flat-length rs)
+
+-- ---- numbers as runs
+
+-- a run as a list has it: its slots and its expansion are not there
+abbrev bare : Run → Run
+bare r = record { first = r .first; last = r .last; size = r .size; slots = 0; grown = 0; manual = r .manual }
+
+runs-bare : (rs : List Run) (more : List ℕ) → runsIn (length rs) (flat rs ++ more) ≡ map bare rs
+unfolding runsIn flat
+runs-bare [] more = refl
+runs-bare (r ∷ rs) more = ap (λ (l : List Run). bare r ∷ l) (runs-bare rs more)
+
+same-firsts : (rs : List Run) → firsts (map bare rs) ≡ firsts rs
+same-firsts [] = refl
+same-firsts (r ∷ rs) = ap (λ (l : List ℕ). r .first ∷ l) (same-firsts rs)
+
+same-lasts : (rs : List Run) → lasts (map bare rs) ≡ lasts rs
+same-lasts [] = refl
+same-lasts (r ∷ rs) = ap (λ (l : List ℕ). r .last ∷ l) (same-lasts rs)
+
+same-sizes : (rs : List Run) → sizes (map bare rs) ≡ sizes rs
+same-sizes [] = refl
+same-sizes (r ∷ rs) = ap (λ (l : List ℕ). r .size ∷ l) (same-sizes rs)
+
+-- what stands first in a list after runs were written to its front
+pub record Stands (rs : List Run) (l : List ℕ) : Type 0 where
+  pub firsts-are : firsts (runsIn (length rs) l) ≡ firsts rs
+  pub lasts-are : lasts (runsIn (length rs) l) ≡ lasts rs
+  pub sizes-are : sizes (runsIn (length rs) l) ≡ sizes rs
+
+pub stands : (rs : List Run) (old new : List ℕ) → new ≡ written (flat rs) old → Stands rs new
+stands rs old new w =
+    let e = ap (runsIn (length rs)) w ∙ runs-bare rs (drop (length (flat rs)) old) in
+    record { firsts-are = ap firsts e ∙ same-firsts rs; lasts-are = ap lasts e ∙ same-lasts rs; sizes-are = ap sizes e ∙ same-sizes rs }
+
+-- the list is as long as before
+pub long-written : (vs old new : List ℕ) → length vs ≤ length old → new ≡ written vs old → length new ≡ length old
+long-written vs old new h w = rw w (simp (length-append, length-drop) (omega arith))
+
+pub runs-length : (n : ℕ) (l : List ℕ) → length (runsIn n l) ≡ n
+unfolding runsIn
+runs-length zero l = refl
+runs-length (suc n) l = ap suc (runs-length n (drop runNumbers l))
+
+-- a number of a run that stands at a place among its numbers
+pub field-at : (g : Run → ℕ) (at : ℕ) → ((l : List ℕ) → g (firstRun l) ≡ getD l at 0)
+    → (n : ℕ) (l : List ℕ) (k : ℕ) → k < n → getD (map g (runsIn n l)) k 0 ≡ numberAt l k at
+unfolding runsIn
+field-at g at e zero l k h = absurd (omega arith)
+field-at g at e (suc n) l zero h = e l ∙ ap (λ (i : ℕ). getD l i 0) (omega arith)
+field-at g at e (suc n) l (suc k) h =
+    field-at g at e n (drop runNumbers l) k (omega arith) ∙ getD-drop runNumbers l (runNumbers * k + at) 0
+    ∙ ap (λ (i : ℕ). getD l i 0) (omega arith)
+
+-- ---- a loop that writes runs: `at` of the numbers are written, the runs `left` are to come
+pub record Writing (whole : List Run) (old : List ℕ) (at : ℕ) (left : List Run) (new : List ℕ) : Type 0 where
+  pub counted : at + length (flat left) ≡ length (flat whole)
+  pub so : Wrote (flat whole) old at (flat left) new
+
+pub writing-start : (whole : List Run) (old : List ℕ) → Writing whole old 0 whole old
+writing-start whole old = record { counted = omega arith; so = start _ old }
 
 -- all are written
-pub lists-done : (whole : List Run) (f₀ l₀ s₀ m₀ : List ℕ) (k : ℕ) (f l s m : List ℕ) → Lists whole f₀ l₀ s₀ m₀ k [] f l s m
-    → Written whole k f₀ l₀ s₀ m₀ f l s m
-lists-done whole f₀ l₀ s₀ m₀ k f l s m w =
-    let e : k ≡ length whole = omega (arith, w .counted) in
-    record {
-      count = e;
-      firsts-are = done _ f₀ k f (e ∙ sym (length-map whole (λ (r : Run). r .first))) (w .firsts-so);
-      lasts-are = done _ l₀ k l (e ∙ sym (length-map whole (λ (r : Run). r .last))) (w .lasts-so);
-      sizes-are = done _ s₀ k s (e ∙ sym (length-map whole (λ (r : Run). r .size))) (w .sizes-so);
-      marks-are = done _ m₀ k m (e ∙ sym (length-map whole (λ (r : Run). r .manual))) (w .marks-so);
-    }
-
--- what stands first after values were written to the front, and how long the list is
-pub front-written : {A : Type 0} (g : A → ℕ) (rs : List A) (old new : List ℕ) → new ≡ written (map g rs) old → take (length rs) new ≡ map g rs
-front-written g rs old new w = rw w (take-at (map g rs) (drop (length (map g rs)) old) (length rs) (length-map rs g))
-
-pub long-written : {A : Type 0} (g : A → ℕ) (rs : List A) (old new : List ℕ) → length rs ≤ length old → new ≡ written (map g rs) old → length new ≡ length old
-long-written g rs old new h w = rw w (simp (length-append, length-drop) (omega (arith, length-map rs g)))
+pub writing-done : (whole : List Run) (old : List ℕ) (at : ℕ) (new : List ℕ) → Writing whole old at [] new → Written whole at old new
+unfolding flat
+writing-done whole old at new w =
+    let e : at ≡ length (flat whole) = omega (arith, w .counted) in
+    record { count = e; list-is = done _ old at new e (w .so) }
 
 -- ---- a part `&mut old[at..]` was lent, and came back as `new`
 
@@ -116,30 +158,63 @@ stores whole old at vs left new new′ h w e =
           ∙ omega (arith, q, length-drop (at + length vs) new, w .long);
     }
 
-module _ (whole : List Run) (f₀ l₀ s₀ m₀ : List ℕ) (at : ℕ) (rs left : List Run) (f l s m : List ℕ) where
+module _ (whole : List Run) (old : List ℕ) (at : ℕ) (rs left : List Run) (new : List ℕ) where
   -- the runs of a stretch more
-  pub lists-stores : (n : ℕ) (f′ l′ s′ m′ : List ℕ) → RoomAt rs at f l s m → WrittenAt rs at n f l s m f′ l′ s′ m′
-      → Lists whole f₀ l₀ s₀ m₀ at (rs ++ left) f l s m → Lists whole f₀ l₀ s₀ m₀ (at + n) left f′ l′ s′ m′
-  lists-stores n f′ l′ s′ m′ room wr w =
+  pub writing-more : (n : ℕ) (new′ : List ℕ) → RoomAt rs at new → WrittenAt rs at n new new′ → Writing whole old at (rs ++ left) new
+      → Writing whole old (at + n) left new′
+  writing-more n new′ room wr w =
       rw (wr .count) (record {
-        counted = omega (arith, w .counted, length-append rs left);
-        firsts-so = one (λ (r : Run). r .first) f₀ f f′ (room .room) (wr .firsts-are) (w .firsts-so);
-        lasts-so = one (λ (r : Run). r .last) l₀ l l′ (omega (arith, room .room, room .lasts-even)) (wr .lasts-are) (w .lasts-so);
-        sizes-so = one (λ (r : Run). r .size) s₀ s s′ (omega (arith, room .room, room .sizes-even)) (wr .sizes-are) (w .sizes-so);
-        marks-so = one (λ (r : Run). r .manual) m₀ m m′ (omega (arith, room .room, room .marks-even)) (wr .marks-are) (w .marks-so);
+        counted = omega (arith, w .counted, ap length (flat-append rs left), length-append (flat rs) (flat left));
+        so = stores (flat whole) old at (flat rs) (flat left) new new′ room (rw (flat-append rs left) at (w .so)) (wr .list-is);
       })
-    where
-      one : (g : Run → ℕ) (old new new′ : List ℕ) → at + length rs ≤ length new → new′ ≡ take at new ++ written (map g rs) (drop at new)
-          → Wrote (map g whole) old at (map g (rs ++ left)) new → Wrote (map g whole) old (at + length rs) (map g left) new′
-      one g old new new′ h e w =
-          rw (length-map rs g) at
-          (stores (map g whole) old at (map g rs) (map g left) new new′ (rw (length-map rs g) h) (rw (map-append g rs left) at w) e)
 
   -- what is left has room
-  pub lists-room : Room whole f₀ l₀ s₀ m₀ → Lists whole f₀ l₀ s₀ m₀ at (rs ++ left) f l s m → RoomAt rs at f l s m
-  lists-room h w = record {
-    room = omega (arith, h .room, w .counted, length-append rs left, w .firsts-so .long);
-    lasts-even = omega (arith, h .lasts-even, w .firsts-so .long, w .lasts-so .long);
-    sizes-even = omega (arith, h .sizes-even, w .firsts-so .long, w .sizes-so .long);
-    marks-even = omega (arith, h .marks-even, w .firsts-so .long, w .marks-so .long);
-  }
+  pub writing-room : Room whole old → Writing whole old at (rs ++ left) new → RoomAt rs at new
+  writing-room h w = omega (arith, h, w .counted, ap length (flat-append rs left), length-append (flat rs) (flat left), w .so .long)
+
+-- one run more, whose numbers were put
+pub writing-one : (whole : List Run) (old : List ℕ) (at : ℕ) (r : Run) (left : List Run) (new new′ : List ℕ) → at + runNumbers ≤ length new
+    → new′ ≡ take at new ++ written (numbersOf r) (drop at new) → Writing whole old at (r ∷ left) new → Writing whole old (at + runNumbers) left new′
+unfolding flat
+writing-one whole old at r left new new′ h e w = record {
+  counted = omega (arith, w .counted);
+  so = stores (flat whole) old at (numbersOf r) (flat left) new new′ h (w .so) e;
+}
+
+-- ---- four numbers stored, one after another
+
+module _ (l : List ℕ) (at a b c d : ℕ) (h : at + 4 ≤ length l) where
+  abbrev one : List ℕ
+  one = set l at a
+
+  abbrev two : List ℕ
+  two = set one (at + 1) b
+
+  abbrev three : List ℕ
+  three = set two (at + 2) c
+
+  pub long-one : length one ≡ length l
+  long-one = length-set l at a
+
+  pub long-two : length two ≡ length l
+  long-two = length-set one (at + 1) b ∙ long-one
+
+  pub long-three : length three ≡ length l
+  long-three = length-set two (at + 2) c ∙ long-two
+
+  pub four-stored : set three (at + 3) d ≡ take at l ++ written (a ∷ b ∷ c ∷ d ∷ []) (drop at l)
+  four-stored =
+      let vs : List ℕ = a ∷ b ∷ c ∷ d ∷ [] in
+      let whole = take at l ++ vs in
+      let w0 : Wrote whole l at vs l = record { so-far = refl; after = refl; long = refl } in
+      let w1 = store whole l at a (b ∷ c ∷ d ∷ []) l (omega arith) w0 in
+      let e2 : at + 1 + 1 ≡ at + 2 = omega arith in
+      let w2 = rw e2 at (store whole l (at + 1) b (c ∷ d ∷ []) one (omega (arith, long-one)) w1) in
+      let e3 : at + 2 + 1 ≡ at + 3 = omega arith in
+      let w3 = rw e3 at (store whole l (at + 2) c (d ∷ []) two (omega (arith, long-two)) w2) in
+      let e4 : at + 3 + 1 ≡ at + 4 = omega arith in
+      let w4 = rw e4 at (store whole l (at + 3) d [] three (omega (arith, long-three)) w3) in
+      let n : at + 4 ≡ length whole = omega (arith, length-append (take at l) vs, length-take-le at l (omega arith)) in
+      done whole l (at + 4) (set three (at + 3) d) n w4
+      ∙ append-assoc (take at l) vs (drop (length whole) l)
+      ∙ ap (λ (t : List ℕ). take at l ++ (vs ++ t)) (ap (λ (m : ℕ). drop m l) (sym n) ∙ sym (drop-drop 4 at l))

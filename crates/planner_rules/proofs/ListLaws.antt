@@ -15,12 +15,11 @@ use Rattle.units.specs.Outcome.{Outcome, given, refused}
 use Rattle.planner_rules.specs.declared.pages.Page.{Page}
 use Rattle.planner_rules.specs.declared.pages.Plan.{Plan}
 use Rattle.planner_rules.specs.Questions.{ask, noOr}
-use Rattle.planner_rules.specs.Partition.{Even}
-use Rattle.planner_rules.specs.Pages.{RunLists, pageAt, inOrder, pagesOf, evenLists, numbered, pageNumbered, pageAfter, listPages, pagesLent, countIn, pageCount, listsNo}
-use Rattle.planner_rules.proofs.QuestionLaws.{asked-no, asked-yes, no-number, both}
+use Rattle.planner_rules.specs.Lent.{roomIn}
+use Rattle.planner_rules.specs.Pages.{pageAt, inOrder, pagesOf, holdsRuns, numbered, pageNumbered, pageAfter, listPages, pagesLent, countIn, pageCount, listsNo}
+use Rattle.planner_rules.proofs.QuestionLaws.{asked-no, asked-yes, no-number}
 use Rattle.planner_rules.proofs.PageLaws.{numbered-first, page-count}
-use Rattle.planner_rules.proofs.PagesCode.{is-page, page-some}
-use Rattle.planner_rules.proofs.PartitionLaws.{even-of}
+use Rattle.planner_rules.proofs.PagesCode.{is-page, page-some, rooms-of}
 use Rattle.planner_rules.proofs.Laws.{split}
 
 -- ---- how many pages a plan has
@@ -44,72 +43,69 @@ module _ (p : Plan) where
   pub count-places : 0 < p .«row_runs» → p .«column_runs» ≤ p .pages / p .«row_runs» → places ≡ pageCount p
   count-places k h = omega (arith, places-within k h)
 
-  pub list-length : (rows columns : RunLists) → length (pagesOf p rows columns) ≡ pageCount p
+  pub list-length : (rows columns : List ℕ) → length (pagesOf p rows columns) ≡ pageCount p
   unfolding pagesOf
   list-length rows columns =
       length-take (p .pages) (inOrder (p .order) (p .«row_runs») (p .«column_runs») (pageAt rows columns p))
       ∙ ap (min (p .pages)) (page-count (p .«row_runs») (p .«column_runs») (pageAt rows columns p) (p .order))
 
--- ---- 6 and 11, way by way
+-- ---- 11, way by way
 
-module _ (p : Plan) (even : Bool) (rows columns : ℕ) where
-  pub lists-uneven : even ≡ false → 6 ≡ listsNo p even rows columns
+module _ (p : Plan) (rows columns : ℕ) where
+  pub lists-few-rows : rows < p .«row_runs» → 11 ≡ listsNo p rows columns
   unfolding listsNo
-  lists-uneven e = rw e
+  lists-few-rows h = rw (lt-leb (p .«row_runs») rows h)
 
-  module _ (e : even ≡ true) where
-    pub lists-few-rows : rows < p .«row_runs» → 11 ≡ listsNo p even rows columns
+  module _ (r : p .«row_runs» ≤ rows) where
+    pub lists-few-columns : columns < p .«column_runs» → 11 ≡ listsNo p rows columns
     unfolding listsNo
-    lists-few-rows h = rw (e, lt-leb (p .«row_runs») rows h)
+    lists-few-columns h = rw (le-leb (p .«row_runs») rows r, lt-leb (p .«column_runs») columns h)
 
-    module _ (r : p .«row_runs» ≤ rows) where
-      pub lists-few-columns : columns < p .«column_runs» → 11 ≡ listsNo p even rows columns
-      unfolding listsNo
-      lists-few-columns h = rw (e, le-leb (p .«row_runs») rows r, lt-leb (p .«column_runs») columns h)
-
-      pub lists-hold : p .«column_runs» ≤ columns → 0 ≡ listsNo p even rows columns
-      unfolding listsNo
-      lists-hold h = rw (e, le-leb (p .«row_runs») rows r, le-leb (p .«column_runs») columns h)
+    pub lists-hold : p .«column_runs» ≤ columns → 0 ≡ listsNo p rows columns
+    unfolding listsNo
+    lists-hold h = rw (le-leb (p .«row_runs») rows r, le-leb (p .«column_runs») columns h)
 
 -- ---- what is answered
 
-stops : {A : Type 0} (a b : Bool) (k : ℕ) (o : Outcome A) → k ≡ noOr 6 a (noOr 11 b 0) → 0 < k → refused k ≡ ask 6 a (ask 11 b o)
-stops a b k o e h = sym (rw e (asked-no 6 a _ _ (asked-no 11 b 0 o (no-number o)) (rw e at h)))
+stops : {A : Type 0} (b : Bool) (k : ℕ) (o : Outcome A) → k ≡ noOr 11 b 0 → 0 < k → refused k ≡ ask 11 b o
+stops b k o e h = sym (rw e (asked-no 11 b 0 o (no-number o) (rw e at h)))
 
-goes : {A : Type 0} (a b : Bool) (o : Outcome A) → 0 ≡ noOr 6 a (noOr 11 b 0) → o ≡ ask 6 a (ask 11 b o)
-goes a b o e = let six = asked-yes 6 a _ (omega arith) e in rw (six .0, asked-yes 11 b _ (omega arith) (six .1) .0)
+goes : {A : Type 0} (b : Bool) (o : Outcome A) → 0 ≡ noOr 11 b 0 → o ≡ ask 11 b o
+goes b o e = rw (asked-yes 11 b _ (omega arith) e .0)
 
-module _ (p : Plan) (room : ℕ) (rows columns : RunLists) (a b : Bool) (k : ℕ) (ea : a ≡ evenLists rows) (eb : b ≡ evenLists columns)
-    (e : k ≡ listsNo p (a && b) (length (rows .firsts)) (length (columns .firsts))) where
+module _ (p : Plan) (room : ℕ) (rows columns : List ℕ) (k : ℕ) (e : k ≡ listsNo p (roomIn rows) (roomIn columns)) where
   abbrev hold : Bool
-  hold = leb (p .«row_runs») (length (rows .firsts)) && leb (p .«column_runs») (length (columns .firsts))
+  hold = holdsRuns p rows columns
 
-  asked : k ≡ noOr 6 (evenLists rows && evenLists columns) (noOr 11 hold 0)
+  abbrev all : List Page
+  all = pagesOf p rows columns
+
+  asked : k ≡ noOr 11 hold 0
   unfolding listsNo
-  asked = e ∙ ap (λ (t : Bool). noOr 6 (t && b) (noOr 11 hold 0)) ea ∙ ap (λ (t : Bool). noOr 6 (evenLists rows && t) (noOr 11 hold 0)) eb
+  asked = e
 
   pub list-refused : 0 < k → refused k ≡ listPages p rows columns room
   unfolding listPages
-  list-refused h = stops (evenLists rows && evenLists columns) hold k _ asked h
+  list-refused h = stops hold k _ asked h
 
   module _ (h : k ≤ 0) (n : ℕ) (counted : n ≡ pageCount p) where
-    none-asked : 0 ≡ noOr 6 (evenLists rows && evenLists columns) (noOr 11 hold 0)
+    none-asked : 0 ≡ noOr 11 hold 0
     none-asked = let z : 0 ≡ k = omega arith in z ∙ asked
 
-    so-many : n ≡ length (pagesOf p rows columns)
+    so-many : n ≡ length all
     so-many = counted ∙ sym (list-length p rows columns)
 
     pub list-long : room < n → refused 13 ≡ listPages p rows columns room
     unfolding listPages
     list-long l =
-        let m : room < length (pagesOf p rows columns) = omega (arith, so-many) in
-        (rw (lt-leb (length (pagesOf p rows columns)) room m) refl) ∙ goes (evenLists rows && evenLists columns) hold (ask 13 (leb (length (pagesOf p rows columns)) room) (given (length (pagesOf p rows columns)))) none-asked
+        let m : room < length all = omega (arith, so-many) in
+        (rw (lt-leb (length all) room m) refl) ∙ goes hold (ask 13 (leb (length all) room) (given (length all))) none-asked
 
     pub list-fits : n ≤ room → given n ≡ listPages p rows columns room
     unfolding listPages
     list-fits l =
-        let m : length (pagesOf p rows columns) ≤ room = omega (arith, so-many) in
-        ap given so-many ∙ (rw (le-leb (length (pagesOf p rows columns)) room m) refl) ∙ goes (evenLists rows && evenLists columns) hold (ask 13 (leb (length (pagesOf p rows columns)) room) (given (length (pagesOf p rows columns)))) none-asked
+        let m : length all ≤ room = omega (arith, so-many) in
+        ap given so-many ∙ (rw (le-leb (length all) room m) refl) ∙ goes hold (ask 13 (leb (length all) room) (given (length all))) none-asked
 
 -- ---- a lent list, written from the front
 
@@ -150,53 +146,52 @@ measured μ = record { apply = λ x. acc-of μ (suc (μ x)) x (omega arith) }
 
 -- ---- what the questions say of the count
 
-abbrev three : Bool → Bool → Bool → ℕ → Outcome ℕ
-three a b d n = ask 6 a (ask 11 b (ask 13 d (given n)))
+abbrev two : Bool → Bool → ℕ → Outcome ℕ
+two b d n = ask 11 b (ask 13 d (given n))
 
-all-yes : (a b d : Bool) (n i : ℕ) → i < countIn (three a b d n) → (a ≡ true) × (b ≡ true) × (d ≡ true) × (i < n)
-all-yes false b d n i h = absurd (omega arith)
-all-yes true false d n i h = absurd (omega arith)
-all-yes true true false n i h = absurd (omega arith)
-all-yes true true true n i h = (refl, refl, refl, h)
+all-yes : (b d : Bool) (n i : ℕ) → i < countIn (two b d n) → (b ≡ true) × (d ≡ true) × (i < n)
+all-yes false d n i h = absurd (omega arith)
+all-yes true false n i h = absurd (omega arith)
+all-yes true true n i h = (refl, refl, h)
 
-at-most : (a b d : Bool) (n m : ℕ) → (d ≡ true → n ≤ m) → countIn (three a b d n) ≤ m
-at-most false b d n m f = zero-le
-at-most true false d n m f = zero-le
-at-most true true false n m f = zero-le
-at-most true true true n m f = f refl
+at-most : (b d : Bool) (n m : ℕ) → (d ≡ true → n ≤ m) → countIn (two b d n) ≤ m
+at-most false d n m f = zero-le
+at-most true false n m f = zero-le
+at-most true true n m f = f refl
 
-all-lent : (a b d : Bool) (xs ys : List Page) → take (countIn (three a b d (length xs))) xs ++ drop (countIn (three a b d (length xs))) ys ≡ pagesLent (three a b d (length xs)) xs ys
-all-lent false b d xs ys = refl
-all-lent true false d xs ys = refl
-all-lent true true false xs ys = refl
-all-lent true true true xs ys = ap (λ (l : List Page). l ++ drop (length xs) ys) (take-length xs)
+all-lent : (b d : Bool) (xs ys : List Page)
+    → take (countIn (two b d (length xs))) xs ++ drop (countIn (two b d (length xs))) ys ≡ pagesLent (two b d (length xs)) xs ys
+all-lent false d xs ys = refl
+all-lent true false xs ys = refl
+all-lent true true xs ys = ap (λ (l : List Page). l ++ drop (length xs) ys) (take-length xs)
 
-module _ (p : Plan) (rows columns : RunLists) (room : ℕ) where
+module _ (p : Plan) (rows columns : List ℕ) (room : ℕ) where
   abbrev pages : List Page
   pages = pagesOf p rows columns
+
+  abbrev fit : Bool
+  fit = leb (length pages) room
 
   abbrev count : ℕ
   count = countIn (listPages p rows columns room)
 
   pub count-room : count ≤ room
   unfolding listPages
-  count-room = at-most (evenLists rows && evenLists columns) (leb (p .«row_runs») (length (rows .firsts)) && leb (p .«column_runs») (length (columns .firsts))) (leb (length pages) room) (length pages) room (leb-true (length pages) room)
+  count-room = at-most (holdsRuns p rows columns) fit (length pages) room (leb-true (length pages) room)
 
   pub count-pages-of : count ≤ length pages
   unfolding listPages
-  count-pages-of = at-most (evenLists rows && evenLists columns) (leb (p .«row_runs») (length (rows .firsts)) && leb (p .«column_runs») (length (columns .firsts))) (leb (length pages) room) (length pages) (length pages) (λ _. le-refl (length pages))
+  count-pages-of = at-most (holdsRuns p rows columns) fit (length pages) (length pages) (λ _. le-refl (length pages))
 
   -- what `page_after` relies on for the page that has i pages before it
   pub page-asked : (i : ℕ) → i < count
-      → Even (rows .firsts) (rows .lasts) (rows .sizes) (rows .marks) × (Even (columns .firsts) (columns .lasts) (columns .sizes) (columns .marks)
-      × ((p .«row_runs» ≤ length (rows .firsts)) × ((p .«column_runs» ≤ length (columns .firsts)) × (i < p .«row_runs» * p .«column_runs»))))
+      → (p .«row_runs» ≤ roomIn rows) × ((p .«column_runs» ≤ roomIn columns) × (i < p .«row_runs» * p .«column_runs»))
   unfolding listPages
   page-asked i h =
-      let y = all-yes (evenLists rows && evenLists columns) (leb (p .«row_runs») (length (rows .firsts)) && leb (p .«column_runs») (length (columns .firsts))) (leb (length pages) room) (length pages) i h in
-      let two = both (evenLists rows) (evenLists columns) (y .0) in
-      let rooms = both (leb (p .«row_runs») (length (rows .firsts))) (leb (p .«column_runs») (length (columns .firsts))) (y .1) in
-      let low = y .3 in
-      (even-of (rows .firsts) (rows .lasts) (rows .sizes) (rows .marks) (two .0), (even-of (columns .firsts) (columns .lasts) (columns .sizes) (columns .marks) (two .1), (leb-true (p .«row_runs») (length (rows .firsts)) (rooms .0), (leb-true (p .«column_runs») (length (columns .firsts)) (rooms .1), omega (arith, low, list-length p rows columns)))))
+      let y = all-yes (holdsRuns p rows columns) fit (length pages) i h in
+      let rooms = rooms-of p rows columns (y .0) in
+      let low = y .2 in
+      (rooms .0, (rooms .1, omega (arith, low, list-length p rows columns)))
 
   -- that page is the next of the list
   pub page-next : (i : ℕ) → i < count → numbered pages (suc i) ≡ given (pageAfter p rows columns i)
@@ -206,23 +201,25 @@ module _ (p : Plan) (rows columns : RunLists) (room : ℕ) where
       rw e at (page-some p (suc i) rows columns (is-page p (suc i) (omega arith) (omega arith) (omega arith)))
 
 -- when all are written
-pub pages-lent : (p : Plan) (rows columns : RunLists) (ys : List Page)
-    → take (countIn (listPages p rows columns (length ys))) (pagesOf p rows columns) ++ drop (countIn (listPages p rows columns (length ys))) ys ≡ pagesLent (listPages p rows columns (length ys)) (pagesOf p rows columns) ys
+pub pages-lent : (p : Plan) (rows columns : List ℕ) (ys : List Page)
+    → let outcome = listPages p rows columns (length ys) in
+    take (countIn outcome) (pagesOf p rows columns) ++ drop (countIn outcome) ys ≡ pagesLent outcome (pagesOf p rows columns) ys
 unfolding listPages
-pages-lent p rows columns ys = all-lent (evenLists rows && evenLists columns) (leb (p .«row_runs») (length (rows .firsts)) && leb (p .«column_runs») (length (columns .firsts))) (leb (length (pagesOf p rows columns)) (length ys)) (pagesOf p rows columns) ys
+pages-lent p rows columns ys = all-lent (holdsRuns p rows columns) (leb (length (pagesOf p rows columns)) (length ys)) (pagesOf p rows columns) ys
 
 -- ---- the list and the page by number
 
 -- where every question up to 13 is answered yes, a page by number is one of the list
-by-number : (a b d : Bool) (xs ys : List Page) (n k : ℕ) → three a b d (length xs) ≡ given n → k ≤ n → numbered (pagesLent (three a b d (length xs)) xs ys) k ≡ ask 6 a (ask 11 b (numbered xs k))
-by-number false b d xs ys n k e h = let z : _≡_ {A = ℕ} 0 1 = ap tag e in absurd (omega arith)
-by-number true false d xs ys n k e h = let z : _≡_ {A = ℕ} 0 1 = ap tag e in absurd (omega arith)
-by-number true true false xs ys n k e h = let z : _≡_ {A = ℕ} 0 1 = ap tag e in absurd (omega arith)
-by-number true true true xs ys n k e h = let z : length xs ≡ n = ap countIn e in numbered-first xs (drop (length xs) ys) k (omega arith)
+by-number : (b d : Bool) (xs ys : List Page) (n k : ℕ) → two b d (length xs) ≡ given n → k ≤ n
+    → numbered (pagesLent (two b d (length xs)) xs ys) k ≡ ask 11 b (numbered xs k)
+by-number false d xs ys n k e h = let z : _≡_ {A = ℕ} 0 1 = ap tag e in absurd (omega arith)
+by-number true false xs ys n k e h = let z : _≡_ {A = ℕ} 0 1 = ap tag e in absurd (omega arith)
+by-number true true xs ys n k e h = let z : length xs ≡ n = ap countIn e in numbered-first xs (drop (length xs) ys) k (omega arith)
 
--- "For a plan left as it was answered, both give the same pages, numbers 1 to its count.": of any plan whose list was written, the k-th of the lent list is what the page by its number k is, up to as
--- many as were written
-pub list-agrees : (p : Plan) (rows columns : RunLists) (old : List Page) (n k : ℕ) → listPages p rows columns (length old) ≡ given n → k ≤ n
+-- "For a plan left as it was answered, both give the same pages, numbers 1 to its count.": of any plan whose list was written, the k-th of
+-- the lent list is what the page by its number k is, up to as many as were written
+pub list-agrees : (p : Plan) (rows columns : List ℕ) (old : List Page) (n k : ℕ) → listPages p rows columns (length old) ≡ given n → k ≤ n
     → numbered (pagesLent (listPages p rows columns (length old)) (pagesOf p rows columns) old) k ≡ pageNumbered p rows columns k
 unfolding listPages pageNumbered
-list-agrees p rows columns old n k e h = by-number (evenLists rows && evenLists columns) (leb (p .«row_runs») (length (rows .firsts)) && leb (p .«column_runs») (length (columns .firsts))) (leb (length (pagesOf p rows columns)) (length old)) (pagesOf p rows columns) old n k e h
+list-agrees p rows columns old n k e h =
+    by-number (holdsRuns p rows columns) (leb (length (pagesOf p rows columns)) (length old)) (pagesOf p rows columns) old n k e h

@@ -1,6 +1,7 @@
 -- Refusal 10, "Arithmetic above within i64?", never arises in a plan: the content's sides are given and moderate, a capacity and a scaled size
 -- of moderate lengths are given, and the questions refuse with other numbers. Assumes nothing.
 use mathlib.Core.Path.{_≡_, refl, sym, ap, _∙_}
+use mathlib.Core.List.{List}
 use mathlib.Core.Bool.{Bool, true, false, cond, _&&_}
 use Prim.Native.Nat.{ℕ, zero, suc, _+_, _*_, _/_, _^_, _≤_, _<_}
 use native.Mathlib.Omega.{arith}
@@ -18,7 +19,7 @@ use Rattle.geometry.proofs.Content.{paper-given, content-given}
 use Rattle.planner_rules.specs.declared.planning.Settings.{Settings}
 use Rattle.planner_rules.specs.Questions.{ask, equallyLong, risingWithin, allSmall}
 use Rattle.planner_rules.specs.Scale.{units}
-use Rattle.planner_rules.specs.Pages.{RunLists, evenLists}
+use Rattle.planner_rules.specs.Lent.{roomIn}
 use Rattle.planner_rules.specs.Plan.{AxisInput, Sides, Layout, contentSides, layout, formed, inGrid, roomFor, planned}
 use Rattle.planner_rules.proofs.Laws.{split}
 
@@ -94,20 +95,20 @@ pub not-given : {A : Type 0} (a : A) (k : ℕ) → given a ≡ refused k → ⊥
 not-given a k e = let z : _≡_ {A = ℕ} 0 1 = cc in omega arith
 
 -- a plan that is refused with none of 6 to 9: 6 was answered yes, the content has sides, and the refusal is that of the room
-pub record PastNine (s : Settings) (rows columns : AxisInput) (lr lc : RunLists) (k : ℕ) : Type 0 where
+pub record PastNine (s : Settings) (rows columns : AxisInput) (lr lc : List ℕ) (k : ℕ) : Type 0 where
   pub sides : Sides
-  pub six : formed rows (evenLists lr) && formed columns (evenLists lc) && equallyLong (rows .merge-firsts) (columns .merge-firsts) ≡ true
-  pub room : roomFor (layout s sides rows columns) (length (lr .firsts)) (length (lc .firsts)) (s .«page_limit») ≡ refused k
+  pub six : formed rows && formed columns && equallyLong (rows .merge-firsts) (columns .merge-firsts) ≡ true
+  pub room : roomFor (layout s sides rows columns) (roomIn lr) (roomIn lc) (s .«page_limit») ≡ refused k
 
-pub past-nine : (s : Settings) (rows columns : AxisInput) (lr lc : RunLists) (k : ℕ) → ((n : ℕ) → 6 ≤ n → n ≤ 9 → n ≡ k → ⊥)
+pub past-nine : (s : Settings) (rows columns : AxisInput) (lr lc : List ℕ) (k : ℕ) → ((n : ℕ) → 6 ≤ n → n ≤ 9 → n ≡ k → ⊥)
     → planned s rows columns lr lc ≡ refused k → PastNine s rows columns lr lc k
 unfolding planned
 past-nine s rows columns lr lc k h e =
-    let q6 = formed rows (evenLists lr) && formed columns (evenLists lc) && equallyLong (rows .merge-firsts) (columns .merge-firsts) in
+    let q6 = formed rows && formed columns && equallyLong (rows .merge-firsts) (columns .merge-firsts) in
     let q7 = inGrid rows && inGrid columns in
     let q8 = risingWithin (rows .limit) (rows .indexes) && risingWithin (columns .limit) (columns .indexes) in
     let q9 = allSmall (rows .sizes) && allSmall (columns .sizes) in
-    let next : Sides → Outcome Layout = λ x. roomFor (layout s x rows columns) (length (lr .firsts)) (length (lc .firsts)) (s .«page_limit») in
+    let next : Sides → Outcome Layout = λ x. roomFor (layout s x rows columns) (roomIn lr) (roomIn lc) (s .«page_limit») in
     let after = andThen (contentSides s) next in
     let six = asked 6 k q6 (ask 7 q7 (ask 8 q8 (ask 9 q9 after))) (h 6 (omega arith) (omega arith)) e in
     let seven = asked 7 k q7 (ask 8 q8 (ask 9 q9 after)) (h 7 (omega arith) (omega arith)) (six .1) in
@@ -127,7 +128,7 @@ room-numbers l row-room column-room limit k e = go (leb (length (l .rows)) row-r
     go true true e = absurd (not-given l k e)
 
 -- a plan is refused with 6 to 9, 11 or 12
-pub plan-numbers : (s : Settings) (rows columns : AxisInput) (lr lc : RunLists) (k : ℕ) → planned s rows columns lr lc ≡ refused k
+pub plan-numbers : (s : Settings) (rows columns : AxisInput) (lr lc : List ℕ) (k : ℕ) → planned s rows columns lr lc ≡ refused k
     → (6 ≤ k) × (k ≤ 12) × (k ≡ 10 → ⊥)
 plan-numbers s rows columns lr lc k e =
     split 6 k (λ h. split k 9 (λ g. (h, omega arith, λ i. omega arith)) (λ g. let r = of-room (λ n low high i. omega arith) in (omega arith, r .1, λ i. omega arith)))
@@ -136,5 +137,5 @@ plan-numbers s rows columns lr lc k e =
     of-room : ((n : ℕ) → 6 ≤ n → n ≤ 9 → n ≡ k → ⊥) → (11 ≤ k) × (k ≤ 12)
     of-room h = let w = past-nine s rows columns lr lc k h e in room-numbers (layout s (w .sides) rows columns) _ _ _ k (w .room)
 
-pub never-ten : (s : Settings) (rows columns : AxisInput) (lr lc : RunLists) → planned s rows columns lr lc ≡ refused 10 → ⊥
+pub never-ten : (s : Settings) (rows columns : AxisInput) (lr lc : List ℕ) → planned s rows columns lr lc ≡ refused 10 → ⊥
 never-ten s rows columns lr lc e = plan-numbers s rows columns lr lc 10 e .2 refl

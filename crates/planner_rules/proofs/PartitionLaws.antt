@@ -19,8 +19,8 @@ use Rattle.planner_rules.specs.Slots.{Slots, below, mid}
 use Rattle.planner_rules.specs.Questions.{ask, noOr, equallyLong, wellFormed, allOrdered, allWithin, risingWithin, allSmall}
 use Rattle.planner_rules.specs.Titles.{bodyStart}
 use Rattle.planner_rules.specs.Runs.{Run, runsBy, runs, firstMarked, stretch, kept, placed, nextCut, axisRuns, shifts, expansions, tallies, axisTally}
-use Rattle.planner_rules.specs.Lent.{Written}
-use Rattle.planner_rules.specs.Partition.{lentEven, firstNo, fits, partition, Even, frameOf, bodyRuns, bodyTally, roomFor, Answered}
+use Rattle.planner_rules.specs.Lent.{Written, roomIn, flat}
+use Rattle.planner_rules.specs.Partition.{firstNo, fits, partition, frameOf, bodyRuns, bodyTally, roomFor, Answered}
 use Rattle.planner_rules.proofs.Laws.{either-lt}
 use Rattle.planner_rules.proofs.QuestionLaws.{asked-no, asked-yes, no-number, both, slots-of}
 
@@ -40,38 +40,31 @@ goes a b c d e =
     let eight = asked-yes 8 c _ (omega arith) (seven .1) in
     (six .0, seven .0, eight .0, asked-yes 9 d _ (omega arith) (eight .1) .0)
 
--- the lent lists are equally long
-pub even-of : (f l z m : List ℕ) → lentEven f l z m ≡ true → Even f l z m
-even-of f l z m h =
-    let three = both (equallyLong f l && equallyLong f z) (equallyLong f m) h in
-    let two = both (equallyLong f l) (equallyLong f z) (three .0) in
-    record { lasts-even = eqb-true _ _ (two .0); sizes-even = eqb-true _ _ (two .1); marks-even = eqb-true _ _ (three .1) }
+module _ (limit : ℕ) (s : AxisSetup) (is ss fs ls bs list : List ℕ) (n : ℕ) (e : n ≡ firstNo limit s is ss fs ls) where
+  abbrev six : Bool
+  six = wellFormed (s .first) (s .last) is ss fs ls
 
-module _ (limit : ℕ) (s : AxisSetup) (is ss fs ls bs f l z m : List ℕ) (n : ℕ) (e : n ≡ firstNo limit s is ss fs ls (lentEven f l z m)) where
-  pub is-refused : 0 < n → partition limit s is ss fs ls bs f l z m ≡ refused n
+  abbrev seven : Bool
+  seven = leb (s .last) limit && allWithin limit ls
+
+  pub is-refused : 0 < n → partition limit s is ss fs ls bs list ≡ refused n
   unfolding partition firstNo
-  is-refused h = stops (wellFormed (s .first) (s .last) (lentEven f l z m) is ss fs ls) (leb (s .last) limit && allWithin limit ls) (risingWithin limit is) (allSmall ss) n _ e h
+  is-refused h = stops six seven (risingWithin limit is) (allSmall ss) n _ e h
 
   -- what the private functions rely on
   pub record Asked : Type 0 where
     pub slots : Slots is ss
-    pub lists : Even f l z m
-    pub goes-on : partition limit s is ss fs ls bs f l z m ≡ fits s is ss fs ls bs (length f)
+    pub goes-on : partition limit s is ss fs ls bs list ≡ fits s is ss fs ls bs (roomIn list)
 
   pub is-asked : n ≤ 0 → limit ≤ 1048575 → Asked
   unfolding partition firstNo
   is-asked h bound =
       let z0 : 0 ≡ n = omega arith in
-      let y = goes (wellFormed (s .first) (s .last) (lentEven f l z m) is ss fs ls) (leb (s .last) limit && allWithin limit ls) (risingWithin limit is) (allSmall ss) (z0 ∙ e) in
-      let five = both (equallyLong is ss && equallyLong fs ls && lentEven f l z m && leb (s .first) (s .last)) (allOrdered fs ls) (y .0) .0 in
-      let upto = both (equallyLong is ss && equallyLong fs ls && lentEven f l z m) (leb (s .first) (s .last)) five .0 in
-      let four = both (equallyLong is ss && equallyLong fs ls) (lentEven f l z m) upto in
-      let two = both (equallyLong is ss) (equallyLong fs ls) (four .0) in
-      record {
-        slots = slots-of limit is ss bound (eqb-true (length is) (length ss) (two .0)) (y .2) (y .3);
-        lists = even-of f l z m (four .1);
-        goes-on = rw (y .0, y .1, y .2, y .3);
-      }
+      let y = goes six seven (risingWithin limit is) (allSmall ss) (z0 ∙ e) in
+      let three = both (equallyLong is ss && equallyLong fs ls && leb (s .first) (s .last)) (allOrdered fs ls) (y .0) .0 in
+      let two = both (equallyLong is ss && equallyLong fs ls) (leb (s .first) (s .last)) three .0 in
+      let one = both (equallyLong is ss) (equallyLong fs ls) two .0 in
+      record { slots = slots-of limit is ss bound (eqb-true (length is) (length ss) one) (y .2) (y .3); goes-on = rw (y .0, y .1, y .2, y .3) }
 
 -- ---- no slots
 
@@ -119,21 +112,14 @@ module _ (s : AxisSetup) (is ss fs ls bs : List ℕ) (h : below (s .last + 1) is
   unfolding bodyTally axisTally expansions
   empty-tally = rw (mid-none _ _ is h, mid-none _ _ ss h) (rw (none-runs (frameOf s) fs ls bs, none-shifts (frameOf s) fs ls bs))
 
--- ---- the answer and the lent lists
+-- ---- the answer and the lent list
 
-pub refuses : (o : Outcome Tally) (rs : List Run) (n : ℕ) (f l s m : List ℕ) → o ≡ refused n → Answered o rs (Refused n) f l s m f l s m
-refuses o rs n f l s m e = rw e (record { answer = refl; firsts-are = refl; lasts-are = refl; sizes-are = refl; marks-are = refl })
+pub refuses : (o : Outcome Tally) (rs : List Run) (n : ℕ) (l : List ℕ) → o ≡ refused n → Answered o rs (Refused n) l l
+refuses o rs n l e = rw e (record { answer = refl; list-is = refl })
 
-pub answers : (o : Outcome Tally) (rs : List Run) (t : Tally) (n : ℕ) (f₀ l₀ s₀ m₀ f l s m : List ℕ) → o ≡ given t → Written rs n f₀ l₀ s₀ m₀ f l s m
-    → Answered o rs (Value t) f₀ l₀ s₀ m₀ f l s m
-answers o rs t n f₀ l₀ s₀ m₀ f l s m e w =
-    rw e (record {
-      answer = refl;
-      firsts-are = w .firsts-are;
-      lasts-are = w .lasts-are;
-      sizes-are = w .sizes-are;
-      marks-are = w .marks-are;
-    })
+pub answers : (o : Outcome Tally) (rs : List Run) (t : Tally) (n : ℕ) (old new : List ℕ) → o ≡ given t → Written rs n old new
+    → Answered o rs (Value t) old new
+answers o rs t n old new e w = rw e (record { answer = refl; list-is = w .list-is })
 
 pub no-room : (rs : List Run) (t : Tally) (room : ℕ) → room < length rs → roomFor rs t room ≡ refused 11
 no-room rs t room h = rw (lt-leb (length rs) room h)
@@ -142,11 +128,12 @@ pub room-enough : (rs : List Run) (t : Tally) (room : ℕ) → length rs ≤ roo
 room-enough rs t room h = rw (le-leb (length rs) room h)
 
 -- an empty body: nothing is written
-pub answers-empty : (s : AxisSetup) (is ss fs ls bs f l z m : List ℕ) → below (s .last + 1) is ≤ below (bodyStart (s .title) (s .first)) is
-    → Answered (fits s is ss fs ls bs (length f)) (bodyRuns s is ss fs ls bs) (Value (tallies 0 0 0)) f l z m f l z m
-answers-empty s is ss fs ls bs f l z m h =
-    rw (empty-runs s is ss fs ls bs h, empty-tally s is ss fs ls bs h, le-leb 0 (length f) (omega arith))
-    (record { answer = refl; firsts-are = refl; lasts-are = refl; sizes-are = refl; marks-are = refl })
+pub answers-empty : (s : AxisSetup) (is ss fs ls bs list : List ℕ) → below (s .last + 1) is ≤ below (bodyStart (s .title) (s .first)) is
+    → Answered (fits s is ss fs ls bs (roomIn list)) (bodyRuns s is ss fs ls bs) (Value (tallies 0 0 0)) list list
+unfolding flat
+answers-empty s is ss fs ls bs list h =
+    rw (empty-runs s is ss fs ls bs h, empty-tally s is ss fs ls bs h, le-leb 0 (roomIn list) (omega arith))
+    (record { answer = refl; list-is = refl })
 
 -- the runs of the slots that were found are the body's
 abbrev pub frameAt : AxisSetup → ℕ → Frame
@@ -160,7 +147,7 @@ module _ (s : AxisSetup) (is ss fs ls bs : List ℕ) (start from to : ℕ) where
   foundTally = axisTally (frameAt s start) fs ls (mid from to is) (mid from to ss) bs
 
   pub found-body : start ≡ bodyStart (s .title) (s .first) → from ≡ below start is → to ≡ below (s .last + 1) is
-      → (n : ℕ) (r : Partition) (f₀ l₀ s₀ m₀ f l z m : List ℕ) → Answered (roomFor found foundTally n) found r f₀ l₀ s₀ m₀ f l z m
-      → Answered (fits s is ss fs ls bs n) (bodyRuns s is ss fs ls bs) r f₀ l₀ s₀ m₀ f l z m
+      → (n : ℕ) (r : Partition) (old new : List ℕ) → Answered (roomFor found foundTally n) found r old new
+      → Answered (fits s is ss fs ls bs n) (bodyRuns s is ss fs ls bs) r old new
   unfolding bodyRuns bodyTally
-  found-body e₁ e₂ e₃ n r f₀ l₀ s₀ m₀ f l z m h = rw (← e₁, ← e₂, ← e₃) h
+  found-body e₁ e₂ e₃ n r old new h = rw (← e₁, ← e₂, ← e₃) h

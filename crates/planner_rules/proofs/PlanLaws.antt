@@ -7,8 +7,8 @@ use native.Mathlib.Omega.{arith}
 use native.Mathlib.Nat.{mul-le-mul-left, le-trans}
 use lib.Dec.{leb}
 use lib.IntN.{ℤ}
-use lib.ListN.{length, getD, take, drop, length-map}
-use lib.Seq.{take-all}
+use lib.ListN.{length, getD, take, drop}
+use lib.Seq.{take-all, take-at, getD-drop}
 use borrow.Author.Tests.{leb-true, eqb-true, ne-eqb}
 use Rattle.units.specs.Outcome.{Outcome, given, refused, andThen}
 use Rattle.planner_rules.specs.declared.titles.Title.{Title}
@@ -21,22 +21,21 @@ use Rattle.planner_rules.specs.declared.planning.Ready.{Ready}
 use Rattle.planner_rules.specs.declared.planning.FinalCut.{FinalCut}
 use Rattle.planner_rules.specs.declared.planning.Planning.{Planning}
 use Rattle.planner_rules.specs.declared.planning.Planning.the-variants.{Value, Refused}
-use Rattle.planner_rules.specs.Slots.{Slots, sum, below}
+use Rattle.planner_rules.specs.Slots.{Slots, sum, below, written}
 use Rattle.planner_rules.specs.Questions.{equallyLong, allOrdered, allWithin, risingWithin, allSmall, noOr}
 use Rattle.planner_rules.specs.Titles.{limitOf, widened, bodyStart}
 use Rattle.planner_rules.specs.Runs.{Run, axisRuns, shifts, expansions, tallies}
-use Rattle.planner_rules.specs.Lent.{firsts, sizes, Room, Written}
-use Rattle.planner_rules.specs.Partition.{Even}
+use Rattle.planner_rules.specs.Lent.{runNumbers, flat, roomIn, runsIn, sizes, Room}
 use Rattle.planner_rules.specs.Scale.{Scale, Space, spaceOf, bodyFor, frameFor, fitsSide, printed, axisPasses, fitPasses, fitScale, fixedScale}
-use Rattle.planner_rules.specs.Pages.{RunLists, runLists, evenLists, none, orEmpty, overflowing, Moderate}
-use Rattle.planner_rules.specs.Plan.{AxisInput, rowsOf, columnsOf, AreRows, AreColumns, Sides, titleOf, startOf, bodyPart, bodyOf, spaceOn, lookedAt, contentSides, chosenScale, cutRuns, cutShifts, pageRuns, overflows, Layout, planOf, layoutAt, layout, RunsLent, roomFor, planned, formed, inGrid, firstNo, Planned, axisFor, Fine, ReadyFor, within, readyFrame, readyRuns, readyShifts, cutOf, cutFrom, roomNo, Cuttable}
+use Rattle.planner_rules.specs.Pages.{none, orEmpty, overflowing, Moderate}
+use Rattle.planner_rules.specs.Plan.{AxisInput, rowsOf, columnsOf, AreRows, AreColumns, Sides, titleOf, startOf, bodyPart, bodyOf, spaceOn, lookedAt, contentSides, chosenScale, cutRuns, cutShifts, pageRuns, overflows, Layout, planOf, layoutAt, layout, roomFor, planned, formed, inGrid, firstNo, Planned, axisFor, Fine, ReadyFor, within, readyFrame, readyRuns, readyShifts, cutOf, cutFrom, roomNo, Cuttable}
 use Rattle.planner_rules.proofs.QuestionLaws.{asked-no, asked-yes, no-number, both, slots-of}
 use Rattle.planner_rules.proofs.PartitionLaws.{stops, goes}
 use Rattle.planner_rules.proofs.Laws.{either}
 use Rattle.planner_rules.proofs.EndLaws.{below-le}
 use Rattle.planner_rules.specs.Division.{pieces}
 use Rattle.planner_rules.proofs.TitleLaws.{widened-pair, body-start-le, small-sum}
-use Rattle.planner_rules.proofs.Lent.{front-written, long-written}
+use Rattle.planner_rules.proofs.Lent.{long-written, flat-length, room-runs}
 use Rattle.planner_rules.proofs.Whole.{axis-tells}
 
 -- ---- the first no
@@ -60,40 +59,34 @@ no-none a b c d e f g h = rw (e, f, g, h)
 -- ---- an axis that was asked
 
 -- the questions 6 to 9 of an axis were answered with yes
-pub record Yes (a : AxisInput) (even : Bool) : Type 0 where
-  pub is-formed : formed a even ≡ true
+pub record Yes (a : AxisInput) : Type 0 where
+  pub is-formed : formed a ≡ true
   pub in-grid : inGrid a ≡ true
   pub rises : risingWithin (a .limit) (a .indexes) ≡ true
   pub small : allSmall (a .sizes) ≡ true
 
 -- what 6 says, one by one
-pub record Formed (a : AxisInput) (even : Bool) : Type 0 where
+pub record Formed (a : AxisInput) : Type 0 where
   pub slots-even : length (a .indexes) ≡ length (a .sizes)
   pub merges-even : length (a .merge-firsts) ≡ length (a .merge-lasts)
-  pub lent-even : even ≡ true
   pub range : a .first ≤ a .last
   pub ordered : allOrdered (a .merge-firsts) (a .merge-lasts) ≡ true
 
-pub formed-of : (a : AxisInput) (even : Bool) → formed a even ≡ true → Formed a even
+pub formed-of : (a : AxisInput) → formed a ≡ true → Formed a
 unfolding formed
-formed-of a even h =
-    let five = both (equallyLong (a .indexes) (a .sizes) && equallyLong (a .merge-firsts) (a .merge-lasts) && even && leb (a .first) (a .last)) (allOrdered (a .merge-firsts) (a .merge-lasts)) h in
-    let four = both (equallyLong (a .indexes) (a .sizes) && equallyLong (a .merge-firsts) (a .merge-lasts) && even) (leb (a .first) (a .last)) (five .0) in
-    let three = both (equallyLong (a .indexes) (a .sizes) && equallyLong (a .merge-firsts) (a .merge-lasts)) even (four .0) in
-    let two = both (equallyLong (a .indexes) (a .sizes)) (equallyLong (a .merge-firsts) (a .merge-lasts)) (three .0) in
-    record {
-      slots-even = eqb-true _ _ (two .0);
-      merges-even = eqb-true _ _ (two .1);
-      lent-even = three .1;
-      range = leb-true _ _ (four .1);
-      ordered = five .1;
-    }
+formed-of a h =
+    let slots = equallyLong (a .indexes) (a .sizes) in
+    let merges = equallyLong (a .merge-firsts) (a .merge-lasts) in
+    let four = both (slots && merges && leb (a .first) (a .last)) (allOrdered (a .merge-firsts) (a .merge-lasts)) h in
+    let three = both (slots && merges) (leb (a .first) (a .last)) (four .0) in
+    let two = both slots merges (three .0) in
+    record { slots-even = eqb-true _ _ (two .0); merges-even = eqb-true _ _ (two .1); range = leb-true _ _ (three .1); ordered = four .1 }
 
 -- what the private functions rely on
-pub fine-of : (r : AxisRange) (is ss fs ls bs : List ℕ) (even : Bool) → r .limit ≤ 1048575 → r .headings ≤ 2 ^ 50 → Yes (axisFor r is ss fs ls bs) even → Fine r is ss fs ls
+pub fine-of : (r : AxisRange) (is ss fs ls bs : List ℕ) → r .limit ≤ 1048575 → r .headings ≤ 2 ^ 50 → Yes (axisFor r is ss fs ls bs) → Fine r is ss fs ls
 unfolding inGrid
-fine-of r is ss fs ls bs even low h y =
-    let f = formed-of (axisFor r is ss fs ls bs) even (y .is-formed) in
+fine-of r is ss fs ls bs low h y =
+    let f = formed-of (axisFor r is ss fs ls bs) (y .is-formed) in
     let g = both (leb (r .last) (r .limit)) (allWithin (r .limit) ls) (y .in-grid) in
     record {
       slots = slots-of (r .limit) is ss low (f .slots-even) (y .rises) (y .small);
@@ -104,33 +97,40 @@ fine-of r is ss fs ls bs even low h y =
       headings-low = h;
     }
 
-module _ (s : Settings) (a b : AxisInput) (la lb : RunLists) (n : ℕ) (e : n ≡ firstNo a b (evenLists la) (evenLists lb)) where
+module _ (s : Settings) (a b : AxisInput) (la lb : List ℕ) (n : ℕ) (e : n ≡ firstNo a b) where
+  abbrev six : Bool
+  six = formed a && formed b && equallyLong (a .merge-firsts) (b .merge-firsts)
+
+  abbrev eight : Bool
+  eight = risingWithin (a .limit) (a .indexes) && risingWithin (b .limit) (b .indexes)
+
+  -- what is planned where no question is answered no
+  abbrev then : Outcome Layout
+  then = andThen (contentSides s) (λ (c : Sides). roomFor (layout s c a b) (roomIn la) (roomIn lb) (s .«page_limit»))
+
   pub is-refused : 0 < n → planned s a b la lb ≡ refused n
   unfolding planned firstNo
-  is-refused h =
-      stops (formed a (evenLists la) && formed b (evenLists lb) && equallyLong (a .merge-firsts) (b .merge-firsts)) (inGrid a && inGrid b) (risingWithin (a .limit) (a .indexes) && risingWithin (b .limit) (b .indexes)) (allSmall (a .sizes) && allSmall (b .sizes)) n
-      (andThen (contentSides s) (λ (c : Sides). roomFor (layout s c a b) (length (la .firsts)) (length (lb .firsts)) (s .«page_limit»))) e h
+  is-refused h = stops six (inGrid a && inGrid b) eight (allSmall (a .sizes) && allSmall (b .sizes)) n then e h
 
   -- after four yeses
   pub record Asked : Type 0 where
-    pub rows-yes : Yes a (evenLists la)
-    pub columns-yes : Yes b (evenLists lb)
-    pub goes-on : planned s a b la lb ≡ andThen (contentSides s)
-        (λ (c : Sides). roomFor (layout s c a b) (length (la .firsts)) (length (lb .firsts)) (s .«page_limit»))
+    pub rows-yes : Yes a
+    pub columns-yes : Yes b
+    pub goes-on : planned s a b la lb ≡ then
 
   pub is-asked : n ≤ 0 → Asked
   unfolding planned firstNo
   is-asked h =
       let z : 0 ≡ n = omega arith in
-      let y = goes (formed a (evenLists la) && formed b (evenLists lb) && equallyLong (a .merge-firsts) (b .merge-firsts)) (inGrid a && inGrid b) (risingWithin (a .limit) (a .indexes) && risingWithin (b .limit) (b .indexes)) (allSmall (a .sizes) && allSmall (b .sizes)) (z ∙ e) in
-      let six = both (formed a (evenLists la) && formed b (evenLists lb)) (equallyLong (a .merge-firsts) (b .merge-firsts)) (y .0) in
-      let two = both (formed a (evenLists la)) (formed b (evenLists lb)) (six .0) in
+      let y = goes six (inGrid a && inGrid b) eight (allSmall (a .sizes) && allSmall (b .sizes)) (z ∙ e) in
+      let forms = both (formed a && formed b) (equallyLong (a .merge-firsts) (b .merge-firsts)) (y .0) in
+      let two = both (formed a) (formed b) (forms .0) in
       let seven = both (inGrid a) (inGrid b) (y .1) in
-      let eight = both (risingWithin (a .limit) (a .indexes)) (risingWithin (b .limit) (b .indexes)) (y .2) in
+      let rise = both (risingWithin (a .limit) (a .indexes)) (risingWithin (b .limit) (b .indexes)) (y .2) in
       let nine = both (allSmall (a .sizes)) (allSmall (b .sizes)) (y .3) in
       record {
-        rows-yes = record { is-formed = two .0; in-grid = seven .0; rises = eight .0; small = nine .0 };
-        columns-yes = record { is-formed = two .1; in-grid = seven .1; rises = eight .1; small = nine .1 };
+        rows-yes = record { is-formed = two .0; in-grid = seven .0; rises = rise .0; small = nine .0 };
+        columns-yes = record { is-formed = two .1; in-grid = seven .1; rises = rise .1; small = nine .1 };
         goes-on = rw (y .0, y .1, y .2, y .3);
       }
 
@@ -203,54 +203,40 @@ pub cut-of : (r : Ready) (side : ℤ) (a : AxisInput) → ReadyFor r side a → 
     → c ≡ cutOf (cutRuns side a p) (cutShifts side a p)
 cut-of r side a y p c e = e ∙ ap₂ cutOf (runs-of r side a y p) (shifts-of r side a y p)
 
-pub written-of : (r : Ready) (side : ℤ) (a : AxisInput) → ReadyFor r side a → (p n : ℕ) (f₀ l₀ z₀ m₀ f l z m : List ℕ)
-    → Written (orEmpty (a .first) (readyRuns r p (a .indexes) (a .sizes) (a .merge-firsts) (a .merge-lasts) (a .breaks))) n f₀ l₀ z₀ m₀ f l z m
-    → Written (pageRuns side a p) n f₀ l₀ z₀ m₀ f l z m
+pub written-of : (r : Ready) (side : ℤ) (a : AxisInput) → ReadyFor r side a → (p : ℕ) (old new : List ℕ)
+    → new ≡ written (flat (orEmpty (a .first) (readyRuns r p (a .indexes) (a .sizes) (a .merge-firsts) (a .merge-lasts) (a .breaks)))) old
+    → new ≡ written (flat (pageRuns side a p)) old
 unfolding pageRuns
-written-of r side a y p n f₀ l₀ z₀ m₀ f l z m w =
-    subst (λ (rs : List Run). Written (orEmpty (a .first) rs) n f₀ l₀ z₀ m₀ f l z m) (runs-of r side a y p) w
+written-of r side a y p old new w = subst (λ (rs : List Run). new ≡ written (flat (orEmpty (a .first) rs)) old) (runs-of r side a y p) w
 
 -- the overflowing runs of a ready axis
 abbrev pub readyOverflows : Ready → ℕ → ℕ → List Run → ℕ
 readyOverflows r first p rs =
-    overflowing (spaceOf (r .fit .page)) (r .fit .stretch .title) p (none rs) (firsts (orEmpty first rs)) (sizes (orEmpty first rs))
+    overflowing (spaceOf (r .fit .page)) (r .fit .stretch .title) p (none rs) (orEmpty first rs)
 
 pub overflows-of : (r : Ready) (side : ℤ) (a : AxisInput) → ReadyFor r side a → (p : ℕ)
     → readyOverflows r (a .first) p (readyRuns r p (a .indexes) (a .sizes) (a .merge-firsts) (a .merge-lasts) (a .breaks)) ≡ overflows side a p
 unfolding pageRuns
 overflows-of r side a y p =
     ap (λ (rs : List Run). readyOverflows r (a .first) p rs) (runs-of r side a y p)
-    ∙ ap₂ (λ (s : Space) (t : Title). overflowing s t p (none (cutRuns side a p)) (firsts (orEmpty (a .first) (cutRuns side a p))) (sizes (orEmpty (a .first) (cutRuns side a p)))) (y .space-is) (y .title-is)
+    ∙ ap₂ (λ (s : Space) (t : Title). overflowing s t p (none (cutRuns side a p)) (orEmpty (a .first) (cutRuns side a p))) (y .space-is) (y .title-is)
 
-pub overflowing-le : (s : Space) (t : Title) (p : ℕ) (empty : Bool) (fs zs : List ℕ) → overflowing s t p empty fs zs ≤ length fs
+pub overflowing-le : (s : Space) (t : Title) (p : ℕ) (empty : Bool) (rs : List Run) → overflowing s t p empty rs ≤ length rs
 unfolding overflowing
-overflowing-le s t p empty [] zs = omega arith
-overflowing-le s t p empty (f ∷ fs) [] = omega arith
-overflowing-le s t p empty (f ∷ fs) (z ∷ zs) =
-    either (λ (n : ℕ). n + overflowing s t p empty fs zs ≤ suc (length fs)) (fitsSide s p (printed s t empty f z)) (omega (arith, overflowing-le s t p empty fs zs)) (omega (arith, overflowing-le s t p empty fs zs))
+overflowing-le s t p empty [] = omega arith
+overflowing-le s t p empty (r ∷ rs) =
+    let more = overflowing-le s t p empty rs in
+    either (λ (n : ℕ). n + overflowing s t p empty rs ≤ suc (length rs)) (fitsSide s p (printed s t empty (r .first) (r .size))) (omega arith) (omega arith)
 
 -- ---- the answer and the lent lists
 
-pub refuses-plan : (o : Outcome Layout) (n : ℕ) (rows columns : RunLists) → o ≡ refused n → Planned o (Refused n) rows columns rows columns
-refuses-plan o n rows columns e =
-    rw e (record {
-      answer = refl;
-      rows-are = record { firsts-are = refl; lasts-are = refl; sizes-are = refl; marks-are = refl };
-      columns-are = record { firsts-are = refl; lasts-are = refl; sizes-are = refl; marks-are = refl };
-    })
-
-lent-of : (l : Layout) (rs : List Run) (n : ℕ) (f₀ l₀ z₀ m₀ f g z m : List ℕ) → Written rs n f₀ l₀ z₀ m₀ f g z m → RunsLent (given l) rs (runLists f₀ l₀ z₀ m₀) (runLists f g z m)
-lent-of l rs n f₀ l₀ z₀ m₀ f g z m w = record { firsts-are = w .firsts-are; lasts-are = w .lasts-are; sizes-are = w .sizes-are; marks-are = w .marks-are }
+pub refuses-plan : (o : Outcome Layout) (n : ℕ) (rows columns : List ℕ) → o ≡ refused n → Planned o (Refused n) rows columns rows columns
+refuses-plan o n rows columns e = rw e (record { answer = refl; rows-are = refl; columns-are = refl })
 
 module _ (o : Outcome Layout) (l : Layout) (p : Plan) (e : o ≡ given l) (q : p ≡ l .plan) where
-  pub answers-plan : (m n : ℕ) (f₀ l₀ z₀ m₀ f g z k f₁ l₁ z₁ m₁ f₂ g₂ z₂ k₂ : List ℕ) → Written (l .rows) m f₀ l₀ z₀ m₀ f g z k → Written (l .columns) n f₁ l₁ z₁ m₁ f₂ g₂ z₂ k₂
-      → Planned o (Value p) (runLists f₀ l₀ z₀ m₀) (runLists f₁ l₁ z₁ m₁) (runLists f g z k) (runLists f₂ g₂ z₂ k₂)
-  answers-plan m n f₀ l₀ z₀ m₀ f g z k f₁ l₁ z₁ m₁ f₂ g₂ z₂ k₂ v w =
-      rw e (record {
-        answer = ap (λ (x : Plan). given x) q;
-        rows-are = lent-of l (l .rows) m f₀ l₀ z₀ m₀ f g z k v;
-        columns-are = lent-of l (l .columns) n f₁ l₁ z₁ m₁ f₂ g₂ z₂ k₂ w;
-      })
+  pub answers-plan : (rows₀ columns₀ rows columns : List ℕ) → rows ≡ written (flat (l .rows)) rows₀ → columns ≡ written (flat (l .columns)) columns₀
+      → Planned o (Value p) rows₀ columns₀ rows columns
+  answers-plan rows₀ columns₀ rows columns v w = rw e (record { answer = ap (λ (x : Plan). given x) q; rows-are = v; columns-are = w })
 
 -- 11 and 12 of m runs of rows and n of columns, by the number r of the first that is answered no
 module _ (l : Layout) (m n row-room column-room limit r : ℕ) (rows-are : length (l .rows) ≡ m) (columns-are : length (l .columns) ≡ n)
@@ -352,49 +338,44 @@ pub some-is : (first : ℕ) (rs : List Run) → none rs ≡ false → orEmpty fi
 some-is first [] e = absurd (true≢false e)
 some-is first (r ∷ rs) e = refl
 
-module _ (first : ℕ) (rs : List Run) (f₀ l₀ z₀ m₀ f l z m : List ℕ) where
-  pub empty-room : none rs ≡ true → Room (orEmpty first rs) f₀ l₀ z₀ m₀ → Room (orEmpty first []) f₀ l₀ z₀ m₀
-  empty-room e w = subst (λ (x : List Run). Room (orEmpty first x) f₀ l₀ z₀ m₀) (none-is rs e) w
+module _ (first : ℕ) (rs : List Run) (old new : List ℕ) where
+  pub empty-room : none rs ≡ true → Room (orEmpty first rs) old → Room (orEmpty first []) old
+  empty-room e w = subst (λ (x : List Run). Room (orEmpty first x) old) (none-is rs e) w
 
-  pub empty-written : none rs ≡ true → Written (orEmpty first []) 1 f₀ l₀ z₀ m₀ f l z m → Written (orEmpty first rs) (length (orEmpty first rs)) f₀ l₀ z₀ m₀ f l z m
-  empty-written e w = subst (λ (x : List Run). Written (orEmpty first x) (length (orEmpty first x)) f₀ l₀ z₀ m₀ f l z m) (sym (none-is rs e)) w
+  pub empty-written : none rs ≡ true → new ≡ written (flat (orEmpty first [])) old → new ≡ written (flat (orEmpty first rs)) old
+  empty-written e w = subst (λ (x : List Run). new ≡ written (flat (orEmpty first x)) old) (sym (none-is rs e)) w
 
-  pub some-room : none rs ≡ false → Room (orEmpty first rs) f₀ l₀ z₀ m₀ → Room rs f₀ l₀ z₀ m₀
-  some-room e w = subst (λ (x : List Run). Room x f₀ l₀ z₀ m₀) (some-is first rs e) w
+  pub some-room : none rs ≡ false → Room (orEmpty first rs) old → Room rs old
+  some-room e w = subst (λ (x : List Run). Room x old) (some-is first rs e) w
 
-  pub some-written : (n : ℕ) → none rs ≡ false → Written rs n f₀ l₀ z₀ m₀ f l z m → Written (orEmpty first rs) (length (orEmpty first rs)) f₀ l₀ z₀ m₀ f l z m
-  some-written n e w =
-      subst (λ (x : List Run). Written x (length x) f₀ l₀ z₀ m₀ f l z m) (sym (some-is first rs e))
-      (record { count = refl; firsts-are = w .firsts-are; lasts-are = w .lasts-are; sizes-are = w .sizes-are; marks-are = w .marks-are })
+  pub some-written : none rs ≡ false → new ≡ written (flat rs) old → new ≡ written (flat (orEmpty first rs)) old
+  some-written e w = subst (λ (x : List Run). new ≡ written (flat x) old) (sym (some-is first rs e)) w
 
 -- ---- what was written, read again
 
--- n runs stand first in the lists of firsts and of sizes
-pub record Front (rs : List Run) (n : ℕ) (f z : List ℕ) : Type 0 where
-  pub firsts-long : n ≤ length f
-  pub sizes-long : n ≤ length z
-  pub firsts-are : take n f ≡ firsts rs
-  pub sizes-are : take n z ≡ sizes rs
+-- the runs stand first in the list, whose front has n numbers
+pub record Front (rs : List Run) (n : ℕ) (l : List ℕ) : Type 0 where
+  pub long : n ≤ length l
+  pub runs-long : roomIn (take n l) ≡ length rs
+  pub front-is : take n l ≡ flat rs
 
-pub front-of : (rs : List Run) (n k : ℕ) (f₀ l₀ z₀ m₀ f l z m : List ℕ) → n ≡ length rs → Room rs f₀ l₀ z₀ m₀ → Written rs k f₀ l₀ z₀ m₀ f l z m → Front rs n f z
-front-of rs n k f₀ l₀ z₀ m₀ f l z m e r w =
-    let lf = long-written (λ (r : Run). r .first) rs f₀ f (r .room) (w .firsts-are) in
-    let lz = long-written (λ (r : Run). r .size) rs z₀ z (omega (arith, r .room, r .sizes-even)) (w .sizes-are) in
-    record {
-      firsts-long = omega (arith, e, lf, r .room);
-      sizes-long = omega (arith, e, lz, r .room, r .sizes-even);
-      firsts-are = rw e (front-written (λ (r : Run). r .first) rs f₀ f (w .firsts-are));
-      sizes-are = rw e (front-written (λ (r : Run). r .size) rs z₀ z (w .sizes-are));
-    }
+pub front-of : (rs : List Run) (n : ℕ) (old new : List ℕ) → n ≡ length (flat rs) → Room rs old → new ≡ written (flat rs) old → Front rs n new
+front-of rs n old new e r w =
+    let long = long-written (flat rs) old new r w in
+    let front : take n new ≡ flat rs = rw w (take-at (flat rs) (drop (length (flat rs)) old) n (sym e)) in
+    record { long = omega arith; runs-long = omega (arith, ap length front, flat-length rs); front-is = front }
 
--- the count of runs may be told by another number
-pub recount : (rs : List Run) (n k : ℕ) (f₀ l₀ z₀ m₀ f l z m : List ℕ) → n ≡ length rs → Written rs k f₀ l₀ z₀ m₀ f l z m → Written rs n f₀ l₀ z₀ m₀ f l z m
-recount rs n k f₀ l₀ z₀ m₀ f l z m e w =
-    record { count = e; firsts-are = w .firsts-are; lasts-are = w .lasts-are; sizes-are = w .sizes-are; marks-are = w .marks-are }
+-- a run of a list weighs what the run weighs
+flat-overflowing : (s : Space) (t : Title) (p : ℕ) (empty : Bool) (rs : List Run) → overflowing s t p empty (runsIn (length rs) (flat rs)) ≡ overflowing s t p empty rs
+unfolding overflowing runsIn flat
+flat-overflowing s t p empty [] = refl
+flat-overflowing s t p empty (r ∷ rs) =
+    ap (λ (n : ℕ). cond (fitsSide s p (printed s t empty (r .first) (r .size))) 0 1 + n) (flat-overflowing s t p empty rs)
 
-pub overflow-front : (s : Space) (t : Title) (p : ℕ) (empty : Bool) (first : ℕ) (rs : List Run) (n : ℕ) (f z : List ℕ) → empty ≡ none rs → Front (orEmpty first rs) n f z
-    → overflowing s t p empty (take n f) (take n z) ≡ overflowing s t p (none rs) (firsts (orEmpty first rs)) (sizes (orEmpty first rs))
-overflow-front s t p empty first rs n f z e y = rw (e, y .firsts-are, y .sizes-are)
+pub overflow-front : (s : Space) (t : Title) (p : ℕ) (empty : Bool) (first : ℕ) (rs : List Run) (n : ℕ) (l : List ℕ) → empty ≡ none rs
+    → Front (orEmpty first rs) n l
+    → overflowing s t p empty (runsIn (roomIn (take n l)) (take n l)) ≡ overflowing s t p (none rs) (orEmpty first rs)
+overflow-front s t p empty first rs n l e y = rw (e, y .runs-long, y .front-is) (flat-overflowing s t p (none rs) (orEmpty first rs))
 
 -- ---- sizes of runs
 
@@ -416,42 +397,46 @@ pieces-le [] xs k = omega arith
 pieces-le (n ∷ ns) xs zero = sum-take-le n xs
 pieces-le (n ∷ ns) xs (suc k) = omega (arith, pieces-le ns (drop n xs) k, sum-drop-le n xs)
 
-empty-moderate : (first : ℕ) (rs : List Run) → Moderate (sizes rs) → Moderate (sizes (orEmpty first rs))
+empty-moderate : (first : ℕ) (rs : List Run) → ((k : ℕ) → getD (sizes rs) k 0 ≤ 2 ^ 50) → (k : ℕ) → getD (sizes (orEmpty first rs)) k 0 ≤ 2 ^ 50
 empty-moderate first [] h zero = omega arith
 empty-moderate first [] h (suc k) = omega arith
 empty-moderate first (r ∷ rs) h k = h k
 
+flat-moderate : (rs : List Run) → ((k : ℕ) → getD (sizes rs) k 0 ≤ 2 ^ 50) → Moderate (flat rs)
+unfolding flat
+flat-moderate [] h k = omega arith
+flat-moderate (r ∷ rs) h zero = h 0
+flat-moderate (r ∷ rs) h (suc k) =
+    let e : runNumbers * suc k + 2 ≡ 4 + (runNumbers * k + 2) = omega arith in
+    rw (e, ← (getD-drop 4 (flat (r ∷ rs)) (runNumbers * k + 2) 0)) (flat-moderate rs (λ j. h (suc j)) k)
+
 -- no run is larger than all slots together
-pub runs-moderate : (first : ℕ) (k : Frame) (fs ls is ss bs : List ℕ) → Slots is ss → Moderate (sizes (orEmpty first (axisRuns k fs ls is ss 0 bs)))
+pub runs-moderate : (first : ℕ) (k : Frame) (fs ls is ss bs : List ℕ) → Slots is ss → Moderate (flat (orEmpty first (axisRuns k fs ls is ss 0 bs)))
 runs-moderate first k fs ls is ss bs y =
-    empty-moderate first (axisRuns k fs ls is ss 0 bs)
-    (rw (axis-tells k fs ls is ss bs (y .even) .totals-are) (λ j. le-trans (pieces-le _ ss j) (small-sum ss (y .small))))
+    flat-moderate (orEmpty first (axisRuns k fs ls is ss 0 bs))
+    (empty-moderate first (axisRuns k fs ls is ss 0 bs)
+    (rw (axis-tells k fs ls is ss bs (y .even) .totals-are) (λ j. le-trans (pieces-le _ ss j) (small-sum ss (y .small)))))
 
-pub taken-moderate : (rs : List Run) (n : ℕ) (f z : List ℕ) → Front rs n f z → Moderate (sizes rs) → Moderate (take n z)
-taken-moderate rs n f z y h = rw (y .sizes-are) h
-
-pub taken-even : (rs : List Run) (n : ℕ) (f z : List ℕ) → Front rs n f z → length (take n f) ≡ length (take n z)
-taken-even rs n f z y = rw (y .firsts-are, y .sizes-are) (length-map rs (λ (r : Run). r .first) ∙ sym (length-map rs (λ (r : Run). r .size)))
+pub front-moderate : (rs : List Run) (n : ℕ) (l : List ℕ) → Front rs n l → Moderate (flat rs) → Moderate (take n l)
+front-moderate rs n l y h = rw (y .front-is) h
 
 -- ---- what the plan's last steps rely on
 
-pub room-of : (first : ℕ) (rs : List Run) (k : ℕ) (c : FinalCut) (f l z m : List ℕ) → c ≡ cutOf rs k → c .runs ≤ length f → Even f l z m → Room (orEmpty first rs) f l z m
-room-of first rs k c f l z m e h y =
-    record {
-      room = omega (arith, as-many first rs, ap (λ (x : FinalCut). x .runs) e);
-      lasts-even = y .lasts-even;
-      sizes-even = y .sizes-even;
-      marks-even = y .marks-even;
-    }
+pub room-of : (first : ℕ) (rs : List Run) (k : ℕ) (c : FinalCut) (l : List ℕ) → c ≡ cutOf rs k → c .runs ≤ roomIn l → Room (orEmpty first rs) l
+room-of first rs k c l e h = room-runs (orEmpty first rs) l (omega (arith, as-many first rs, ap (λ (x : FinalCut). x .runs) e))
+
+-- the numbers of a final cut's runs
+pub cut-numbers : (first : ℕ) (rs : List Run) (k : ℕ) (c : FinalCut) → c ≡ cutOf rs k → c .runs * runNumbers ≡ length (flat (orEmpty first rs))
+cut-numbers first rs k c e = omega (arith, flat-length (orEmpty first rs), as-many first rs, ap (λ (x : FinalCut). x .runs) e)
 
 pub few-pages : (m n : ℕ) → m ≤ 2 ^ 20 → n ≤ 2 ^ 20 → m * n ≤ 2 ^ 40
 few-pages m n h k = let a : m * n ≤ m * 2 ^ 20 = mul-le-mul-left m k in omega arith
 
 -- an overflow count is no more than the runs
 pub overflows-few : (s : Space) (t : Title) (p : ℕ) (empty : Bool) (first : ℕ) (rs : List Run) (n k : ℕ) (c : FinalCut) → c ≡ cutOf rs k
-    → n ≡ overflowing s t p empty (firsts (orEmpty first rs)) (sizes (orEmpty first rs)) → n ≤ c .runs
+    → n ≡ overflowing s t p empty (orEmpty first rs) → n ≤ c .runs
 overflows-few s t p empty first rs n k c e h =
-    omega (arith, h, overflowing-le s t p empty (firsts (orEmpty first rs)) (sizes (orEmpty first rs)), length-map (orEmpty first rs) (λ (r : Run). r .first), as-many first rs, ap (λ (x : FinalCut). x .runs) e)
+    omega (arith, h, overflowing-le s t p empty (orEmpty first rs), as-many first rs, ap (λ (x : FinalCut). x .runs) e)
 
 pub plan-value : (s : Settings) (c : Sides) (a b : AxisInput) (scale : Scale) (rows columns : Ready) → ReadyFor rows (c .height) a → ReadyFor columns (c .width) b
     → (rc cc : FinalCut) → rc ≡ cutOf (cutRuns (c .height) a (scale .permille)) (cutShifts (c .height) a (scale .permille)) → cc ≡ cutOf (cutRuns (c .width) b (scale .permille)) (cutShifts (c .width) b (scale .permille))
@@ -479,44 +464,44 @@ looked-few true m n e = omega arith
 looked-few false m n e = omega arith
 
 -- the questions look at no break
-pub no-breaks : (q k : AxisRange) (is ss fs ls bs js ts gs ms cs : List ℕ) (x y : Bool)
-    → firstNo (axisFor q is ss fs ls []) (axisFor k js ts gs ms []) x y ≡ firstNo (axisFor q is ss fs ls bs) (axisFor k js ts gs ms cs) x y
+pub no-breaks : (q k : AxisRange) (is ss fs ls bs js ts gs ms cs : List ℕ)
+    → firstNo (axisFor q is ss fs ls []) (axisFor k js ts gs ms []) ≡ firstNo (axisFor q is ss fs ls bs) (axisFor k js ts gs ms cs)
 unfolding firstNo formed inGrid
-no-breaks q k is ss fs ls bs js ts gs ms cs x y = refl
+no-breaks q k is ss fs ls bs js ts gs ms cs = refl
 
 -- ---- the call
 
-pub relay-scale : (s : Settings) (c : Sides) (a b : AxisInput) (z : Scale) (m n limit : ℕ) (r : Planning) (R C R′ C′ : RunLists) → z ≡ chosenScale s c a b
+pub relay-scale : (s : Settings) (c : Sides) (a b : AxisInput) (z : Scale) (m n limit : ℕ) (r : Planning) (R C R′ C′ : List ℕ) → z ≡ chosenScale s c a b
     → Planned (roomFor (layoutAt s c a b z) m n limit) r R C R′ C′ → Planned (roomFor (layout s c a b) m n limit) r R C R′ C′
 unfolding layout
 relay-scale s c a b z m n limit r R C R′ C′ e p = subst (λ (z : Scale). Planned (roomFor (layoutAt s c a b z) m n limit) r R C R′ C′) e p
 
-module _ (s : Settings) (a b : AxisInput) (R C : RunLists) (n : ℕ) (e : n ≡ firstNo a b (evenLists R) (evenLists C)) (y : Asked s a b R C n e) where
+module _ (s : Settings) (a b : AxisInput) (R C : List ℕ) (n : ℕ) (e : n ≡ firstNo a b) (y : Asked s a b R C n e) where
   pub ten-of : contentSides s ≡ refused 10 → planned s a b R C ≡ refused 10
   ten-of t = y .goes-on ∙ rw t
 
-  pub sides-of : (c : Sides) → contentSides s ≡ given c → planned s a b R C ≡ roomFor (layout s c a b) (length (R .firsts)) (length (C .firsts)) (s .«page_limit»)
+  pub sides-of : (c : Sides) → contentSides s ≡ given c → planned s a b R C ≡ roomFor (layout s c a b) (roomIn R) (roomIn C) (s .«page_limit»)
   sides-of c t = y .goes-on ∙ rw t
 
-pub relay-call : (s : Settings) (c : Sides) (a b a′ b′ : AxisInput) (R C : RunLists) (r : Planning) (R′ C′ : RunLists) → a′ ≡ a → b′ ≡ b
-    → planned s a b R C ≡ roomFor (layout s c a b) (length (R .firsts)) (length (C .firsts)) (s .«page_limit»)
-    → Planned (roomFor (layout s c a′ b′) (length (R .firsts)) (length (C .firsts)) (s .«page_limit»)) r R C R′ C′ → Planned (planned s a b R C) r R C R′ C′
+pub relay-call : (s : Settings) (c : Sides) (a b a′ b′ : AxisInput) (R C : List ℕ) (r : Planning) (R′ C′ : List ℕ) → a′ ≡ a → b′ ≡ b
+    → planned s a b R C ≡ roomFor (layout s c a b) (roomIn R) (roomIn C) (s .«page_limit»)
+    → Planned (roomFor (layout s c a′ b′) (roomIn R) (roomIn C) (s .«page_limit»)) r R C R′ C′ → Planned (planned s a b R C) r R C R′ C′
 relay-call s c a b a′ b′ R C r R′ C′ ea eb e p =
-    let o : roomFor (layout s c a′ b′) (length (R .firsts)) (length (C .firsts)) (s .«page_limit») ≡ planned s a b R C =
-    ap₂ (λ (x y : AxisInput). roomFor (layout s c x y) (length (R .firsts)) (length (C .firsts)) (s .«page_limit»)) ea eb ∙ sym e in
+    let o : roomFor (layout s c a′ b′) (roomIn R) (roomIn C) (s .«page_limit») ≡ planned s a b R C =
+    ap₂ (λ (x y : AxisInput). roomFor (layout s c x y) (roomIn R) (roomIn C) (s .«page_limit»)) ea eb ∙ sym e in
     subst (λ (x : Outcome Layout). Planned x r R C R′ C′) o p
 
 -- an axis as the settings make it is within the grid, and its headings are low
-fine-as : (q : AxisRange) (is ss fs ls bs : List ℕ) (a : AxisInput) (even : Bool) → axisFor q is ss fs ls bs ≡ a → a .limit ≤ 1048575 → a .headings ≤ 2 ^ 50 → Yes a even → Fine q is ss fs ls
-fine-as q is ss fs ls bs a even e low h y =
-    fine-of q is ss fs ls bs even (rw (ap (λ (x : AxisInput). x .limit) e) low) (rw (ap (λ (x : AxisInput). x .headings) e) h) (subst (λ (x : AxisInput). Yes x even) (sym e) y)
+fine-as : (q : AxisRange) (is ss fs ls bs : List ℕ) (a : AxisInput) → axisFor q is ss fs ls bs ≡ a → a .limit ≤ 1048575 → a .headings ≤ 2 ^ 50 → Yes a → Fine q is ss fs ls
+fine-as q is ss fs ls bs a e low h y =
+    fine-of q is ss fs ls bs (rw (ap (λ (x : AxisInput). x .limit) e) low) (rw (ap (λ (x : AxisInput). x .headings) e) h) (subst (λ (x : AxisInput). Yes x) (sym e) y)
 
-pub rows-fine : (q : AxisRange) (s : Settings) (g : PrintRange) (t : Title) (is ss fs ls bs : List ℕ) (even : Bool) → AreRows q s g t → Yes (rowsOf s g t is ss fs ls bs) even → Fine q is ss fs ls
+pub rows-fine : (q : AxisRange) (s : Settings) (g : PrintRange) (t : Title) (is ss fs ls bs : List ℕ) → AreRows q s g t → Yes (rowsOf s g t is ss fs ls bs) → Fine q is ss fs ls
 unfolding limitOf
-rows-fine q s g t is ss fs ls bs even e y =
-    fine-as q is ss fs ls (lookedAt (s .fit) bs) (rowsOf s g t is ss fs ls bs) even (e is ss fs ls bs) (omega arith) (either (λ (n : ℕ). n ≤ 2 ^ 50) (s .headings) (omega arith) (omega arith)) y
+rows-fine q s g t is ss fs ls bs e y =
+    fine-as q is ss fs ls (lookedAt (s .fit) bs) (rowsOf s g t is ss fs ls bs) (e is ss fs ls bs) (omega arith) (either (λ (n : ℕ). n ≤ 2 ^ 50) (s .headings) (omega arith) (omega arith)) y
 
-pub columns-fine : (q : AxisRange) (s : Settings) (g : PrintRange) (t : Title) (is ss fs ls bs : List ℕ) (even : Bool) → AreColumns q s g t → Yes (columnsOf s g t is ss fs ls bs) even → Fine q is ss fs ls
+pub columns-fine : (q : AxisRange) (s : Settings) (g : PrintRange) (t : Title) (is ss fs ls bs : List ℕ) → AreColumns q s g t → Yes (columnsOf s g t is ss fs ls bs) → Fine q is ss fs ls
 unfolding limitOf
-columns-fine q s g t is ss fs ls bs even e y =
-    fine-as q is ss fs ls (lookedAt (s .fit) bs) (columnsOf s g t is ss fs ls bs) even (e is ss fs ls bs) (omega arith) (either (λ (n : ℕ). n ≤ 2 ^ 50) (s .headings) (omega arith) (omega arith)) y
+columns-fine q s g t is ss fs ls bs e y =
+    fine-as q is ss fs ls (lookedAt (s .fit) bs) (columnsOf s g t is ss fs ls bs) (e is ss fs ls bs) (omega arith) (either (λ (n : ℕ). n ≤ 2 ^ 50) (s .headings) (omega arith) (omega arith)) y

@@ -15,7 +15,7 @@ use Rattle.planner_rules.specs.Slots.{sum}
 use Rattle.planner_rules.specs.Questions.{equallyLong}
 use Rattle.planner_rules.specs.Runs.{Run}
 use Rattle.planner_rules.specs.Scale.{frameFor}
-use Rattle.planner_rules.specs.Pages.{RunLists, evenLists}
+use Rattle.planner_rules.specs.Lent.{roomIn}
 use Rattle.planner_rules.specs.Plan.{AxisInput, bodyOf, spaceOn, cutRuns, pageRuns, formed, chosenScale, layoutAt, layout, roomFor, planned}
 use Rattle.planner_rules.specs.Division.{_∈_, Division}
 use Rattle.planner_rules.specs.Demand.{bodyIndexes, bodySizes}
@@ -52,16 +52,16 @@ module _ (a : AxisInput) (even : length (a .indexes) ≡ length (a .sizes)) (sid
 -- ---- the plan call
 
 -- lists as long as the slots, with room for one run, never meet 11
-pub never-eleven : (s : Settings) (a b : AxisInput) (rows columns : RunLists) → length (a .indexes) ≤ length (rows .firsts) → 1 ≤ length (rows .firsts)
-    → length (b .indexes) ≤ length (columns .firsts) → 1 ≤ length (columns .firsts) → planned s a b rows columns ≡ refused 11 → ⊥
+pub never-eleven : (s : Settings) (a b : AxisInput) (rows columns : List ℕ) → length (a .indexes) ≤ roomIn rows → 1 ≤ roomIn rows
+    → length (b .indexes) ≤ roomIn columns → 1 ≤ roomIn columns → planned s a b rows columns ≡ refused 11 → ⊥
 unfolding roomFor layout layoutAt
 never-eleven s a b rows columns ra oa rb ob e =
     let w = past-nine s a b rows columns 11 (λ n low high i. omega arith) e in
-    let six = both (formed a (evenLists rows) && formed b (evenLists columns)) (equallyLong (a .merge-firsts) (b .merge-firsts)) (w .six) in
-    let each = both (formed a (evenLists rows)) (formed b (evenLists columns)) (six .0) in
+    let six = both (formed a && formed b) (equallyLong (a .merge-firsts) (b .merge-firsts)) (w .six) in
+    let each = both (formed a) (formed b) (six .0) in
     let p = chosenScale s (w .sides) a b .permille in
-    let f = le-leb _ _ (page-runs-few a (formed-of a (evenLists rows) (each .0) .slots-even) (w .sides .height) p _ ra oa) in
-    let g = le-leb _ _ (page-runs-few b (formed-of b (evenLists columns) (each .1) .slots-even) (w .sides .width) p _ rb ob) in
+    let f = le-leb _ _ (page-runs-few a (formed-of a (each .0) .slots-even) (w .sides .height) p _ ra oa) in
+    let g = le-leb _ _ (page-runs-few b (formed-of b (each .1) .slots-even) (w .sides .width) p _ rb ob) in
     let l = layout s (w .sides) a b in
     let few = leb (l .plan .pages) (s .«page_limit») in
     not-given l 11 (asked 12 11 few (given l) (λ i. omega arith) (rw (f, g) at (w .room)) .1)

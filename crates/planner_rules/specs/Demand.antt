@@ -5,7 +5,7 @@ use mathlib.Core.Bool.{true}
 use mathlib.Core.List.{List, []}
 use Prim.Native.Nat.{ℕ, _≤_, _<_}
 use lib.IntN.{ℤ, pos}
-use lib.ListN.{length, take}
+use lib.ListN.{length}
 use Rattle.units.specs.Outcome.{given}
 use Rattle.units.specs.Units.{unscaledCapacity}
 use Rattle.planner_rules.specs.declared.titles.Title.the-variants.{Absent}
@@ -14,7 +14,8 @@ use Rattle.planner_rules.specs.declared.pages.Plan.{Plan}
 use Rattle.planner_rules.specs.declared.planning.Settings.{Settings}
 use Rattle.planner_rules.specs.declared.planning.Planning.{Planning}
 use Rattle.planner_rules.specs.Scale.{units}
-use Rattle.planner_rules.specs.Pages.{RunLists, pageNumbered}
+use Rattle.planner_rules.specs.Lent.{runsIn, firsts, lasts, sizes}
+use Rattle.planner_rules.specs.Pages.{pageNumbered}
 use Rattle.planner_rules.specs.Plan.{AxisInput, Sides, startOf, bodyPart, contentSides, planOutcome}
 use Rattle.planner_rules.specs.Division.{_∈_, keptBreaks, FewestRuns}
 use Rattle.planner_rules.specs.Fitting.{Reaches, Chosen}
@@ -40,7 +41,7 @@ pub record OnPage (page : Page) (row column : ℕ) : Type 0 where
   pub column-to-last : column ≤ page .columns .last
 
 -- "on exactly one page": a page of the plan, "by its number, from 1", and no page with another number
-pub record OnOnePage (plan : Plan) (rows columns : RunLists) (row column : ℕ) : Type 0 where
+pub record OnOnePage (plan : Plan) (rows columns : List ℕ) (row column : ℕ) : Type 0 where
   pub number : ℕ
   pub page : Page
   pub from-one : 1 ≤ number
@@ -50,7 +51,7 @@ pub record OnOnePage (plan : Plan) (rows columns : RunLists) (row column : ℕ) 
   pub on-no-other : (n : ℕ) (other : Page) → pageNumbered plan rows columns n ≡ given other → OnPage other row column → n ≡ number
 
 -- "Found in every finished plan, whatever its merges, titles and breaks: each pair of a body row and a body column on exactly one page."
-pub record CoversPairs (r : Planning) (a b : AxisInput) (rows columns : RunLists) : Type 0 where
+pub record CoversPairs (r : Planning) (a b : AxisInput) (rows columns : List ℕ) : Type 0 where
   pub covered : (plan : Plan) → Finished r plan → (row column : ℕ) → IsBody a row → IsBody b column → OnOnePage plan rows columns row column
 
 -- ---- fewest
@@ -79,15 +80,15 @@ abbrev pub capacityBeside : ℤ → AxisInput → ℕ → ℕ
 capacityBeside side a permille = units (unscaledCapacity side permille (pos 0) (pos (a .headings)))
 
 -- an axis "with a body: the plan's runs are a division that cuts at every kept manual break and keeps runs of two or more slots within
--- capacity, and no division that does both has fewer runs"; the plan's runs are the first n of the lists
-abbrev pub FewestOnAxis : ℤ → ℕ → AxisInput → ℕ → RunLists → Type 0
-FewestOnAxis side permille a n runs =
+-- capacity, and no division that does both has fewer runs"; the plan's runs are the first n of the list
+abbrev pub FewestOnAxis : ℤ → ℕ → AxisInput → ℕ → List ℕ → Type 0
+FewestOnAxis side permille a n list =
     0 < length (bodyIndexes a)
     → FewestRuns (capacityBeside side a permille) (keptBreaks (bodyIndexes a) 0 (a .breaks)) (bodyIndexes a) (bodySizes a)
-    (take n (runs .firsts)) (take n (runs .lasts)) (take n (runs .sizes))
+    (firsts (runsIn n list)) (lasts (runsIn n list)) (sizes (runsIn n list))
 
 -- "Found where no merges or titles exist, on each axis"
-pub record FewestPlan (r : Planning) (s : Settings) (a b : AxisInput) (rows columns : RunLists) : Type 0 where
+pub record FewestPlan (r : Planning) (s : Settings) (a b : AxisInput) (rows columns : List ℕ) : Type 0 where
   pub fewest : (plan : Plan) → Finished r plan → (c : Sides) → contentSides s ≡ given c → NoMergesNoTitles a b
       → FewestOnAxis (c .height) (plan .permille) a (plan .«row_runs») rows × FewestOnAxis (c .width) (plan .permille) b (plan .«column_runs») columns
 

@@ -1,8 +1,8 @@
--- Runs in four lent lists, one for each number of a run: firsts, lasts, sizes and marks of manual breaks. Assumes nothing.
+-- Runs in a lent list: a run is four numbers, and one run stands after another. Assumes nothing.
 use mathlib.Core.Path.{_≡_}
-use mathlib.Core.List.{List, _++_, map}
-use Prim.Native.Nat.{ℕ, _+_, _≤_}
-use lib.ListN.{length, take, drop}
+use mathlib.Core.List.{List, [], _∷_, _++_, map}
+use Prim.Native.Nat.{ℕ, zero, suc, _+_, _*_, _/_, _≤_}
+use lib.ListN.{length, getD, take, drop}
 use Rattle.planner_rules.specs.declared.runs.Counted.{Counted}
 use Rattle.planner_rules.specs.Slots.{written}
 use Rattle.planner_rules.specs.Runs.{Run, expansions}
@@ -15,7 +15,41 @@ counts n g = record { runs = n; grown = g }
 abbrev pub counted : List Run → Counted
 counted rs = counts (length rs) (expansions rs)
 
--- the four lists of runs: firsts, lasts, sizes, and marks of manual breaks
+-- ---- runs as numbers
+
+-- how many numbers a run has in a list
+abbrev pub runNumbers : ℕ
+runNumbers = 4
+
+-- a run's numbers, in the order of "A run has first, last, size, .. manual-break mark"
+abbrev pub numbersOf : Run → List ℕ
+numbersOf r = r .first ∷ r .last ∷ r .size ∷ r .manual ∷ []
+
+-- the numbers of runs, one run after another
+unfoldable pub flat : List Run → List ℕ
+flat [] = []
+flat (r ∷ rs) = numbersOf r ++ flat rs
+
+-- a list of n numbers has room for n / 4 runs
+abbrev pub roomIn : List ℕ → ℕ
+roomIn l = length l / runNumbers
+
+-- ---- numbers as runs
+
+-- the number of the run k that stands at the place `at` among its numbers
+abbrev pub numberAt : List ℕ → ℕ → ℕ → ℕ
+numberAt l k at = getD l (runNumbers * k + at) 0
+
+-- the run that stands first in a list; how many slots it has and whether a merge took it further is not in the list
+abbrev pub firstRun : List ℕ → Run
+firstRun l = record { first = getD l 0 0; last = getD l 1 0; size = getD l 2 0; slots = 0; grown = 0; manual = getD l 3 0 }
+
+-- the first n runs of a list
+unfoldable pub runsIn : ℕ → List ℕ → List Run
+runsIn zero l = []
+runsIn (suc n) l = firstRun l ∷ runsIn n (drop runNumbers l)
+
+-- the firsts, the lasts, the sizes and the marks of runs
 abbrev pub firsts : List Run → List ℕ
 firsts = map (λ (r : Run). r .first)
 
@@ -28,32 +62,21 @@ sizes = map (λ (r : Run). r .size)
 abbrev pub marks : List Run → List ℕ
 marks = map (λ (r : Run). r .manual)
 
--- the lent lists are equally long, and hold the runs from the place `at` on
-pub record RoomAt (rs : List Run) (at : ℕ) (f l s m : List ℕ) : Type 0 where
-  pub room : at + length rs ≤ length f
-  pub lasts-even : length f ≡ length l
-  pub sizes-even : length f ≡ length s
-  pub marks-even : length f ≡ length m
+-- ---- for the private functions
 
--- of four lists that were f₀, l₀, s₀, m₀: the runs' numbers stand there from the place `at` on, and n is how many
-pub record WrittenAt (rs : List Run) (at n : ℕ) (f₀ l₀ s₀ m₀ f l s m : List ℕ) : Type 0 where
-  pub count : n ≡ length rs
-  pub firsts-are : f ≡ take at f₀ ++ written (firsts rs) (drop at f₀)
-  pub lasts-are : l ≡ take at l₀ ++ written (lasts rs) (drop at l₀)
-  pub sizes-are : s ≡ take at s₀ ++ written (sizes rs) (drop at s₀)
-  pub marks-are : m ≡ take at m₀ ++ written (marks rs) (drop at m₀)
+-- the list holds the runs from the place `at` on
+abbrev pub RoomAt : List Run → ℕ → List ℕ → Type 0
+RoomAt rs at l = at + length (flat rs) ≤ length l
+
+-- of a list that was `old`: the runs' numbers stand there from the place `at` on, and n is how many
+pub record WrittenAt (rs : List Run) (at n : ℕ) (old new : List ℕ) : Type 0 where
+  pub count : n ≡ length (flat rs)
+  pub list-is : new ≡ take at old ++ written (flat rs) (drop at old)
 
 -- the same from the front
-pub record Room (rs : List Run) (f l s m : List ℕ) : Type 0 where
-  pub room : length rs ≤ length f
-  pub lasts-even : length f ≡ length l
-  pub sizes-even : length f ≡ length s
-  pub marks-even : length f ≡ length m
+abbrev pub Room : List Run → List ℕ → Type 0
+Room rs l = length (flat rs) ≤ length l
 
--- the same of lists that are written from their front on
-pub record Written (rs : List Run) (n : ℕ) (f₀ l₀ s₀ m₀ f l s m : List ℕ) : Type 0 where
-  pub count : n ≡ length rs
-  pub firsts-are : f ≡ written (firsts rs) f₀
-  pub lasts-are : l ≡ written (lasts rs) l₀
-  pub sizes-are : s ≡ written (sizes rs) s₀
-  pub marks-are : m ≡ written (marks rs) m₀
+pub record Written (rs : List Run) (n : ℕ) (old new : List ℕ) : Type 0 where
+  pub count : n ≡ length (flat rs)
+  pub list-is : new ≡ written (flat rs) old

@@ -18,7 +18,7 @@ use Rattle.planner_rules.specs.declared.pages.Listing.{Listing}
 use Rattle.planner_rules.specs.declared.pages.Listing.the-variants as listing
 use Rattle.planner_rules.specs.Questions.{ask, noOr}
 use Rattle.planner_rules.specs.Runs.{Run}
-use Rattle.planner_rules.specs.Partition.{lentEven}
+use Rattle.planner_rules.specs.Lent.{roomIn, numberAt}
 use Rattle.planner_rules.specs.Scale.{Space, fitsSide, printed}
 
 -- ---- the runs that pages are made of
@@ -39,32 +39,35 @@ orEmpty first (r ∷ rs) = r ∷ rs
 
 -- ---- overflowing runs
 
--- of runs by their firsts and sizes: how many are such that this, "scaled and rounded at the final permille, exceeds the content side"
-unfoldable pub overflowing : Space → Title → ℕ → Bool → List ℕ → List ℕ → ℕ
-overflowing s t p empty [] zs = 0
-overflowing s t p empty (f ∷ fs) [] = 0
-overflowing s t p empty (f ∷ fs) (z ∷ zs) = cond (fitsSide s p (printed s t empty f z)) 0 1 + overflowing s t p empty fs zs
+-- how many of the runs are such that this, "scaled and rounded at the final permille, exceeds the content side"
+unfoldable pub overflowing : Space → Title → ℕ → Bool → List Run → ℕ
+overflowing s t p empty [] = 0
+overflowing s t p empty (r ∷ rs) = cond (fitsSide s p (printed s t empty (r .first) (r .size))) 0 1 + overflowing s t p empty rs
 
 -- ---- pages
 
--- the run lists of an axis: firsts, lasts, sizes and marks of manual breaks
-pub record RunLists : Type 0 where
-  pub firsts : List ℕ
-  pub lasts : List ℕ
-  pub sizes : List ℕ
-  pub marks : List ℕ
+-- an index as a page has it: a number that no u32 holds, which no plan writes, counts as the largest that one holds
+abbrev pub indexOf : ℕ → ℕ
+indexOf n = min n 4294967295
 
--- four lists of runs together
-abbrev pub runLists : List ℕ → List ℕ → List ℕ → List ℕ → RunLists
-runLists f l z m = record { firsts = f; lasts = l; sizes = z; marks = m }
-
--- "A run has first, last, size, empty-body mark, manual-break mark": the run with the number k
-abbrev pub runAt : RunLists → Bool → ℕ → PageRun
-runAt l empty k = record { first = getD (l .firsts) k 0; last = getD (l .lasts) k 0; size = getD (l .sizes) k 0; «empty_body» = empty; «manual_break» = ltb 0 (getD (l .marks) k 0) }
+-- "A run has first, last, size, empty-body mark, manual-break mark": the run with the number k of a list
+abbrev pub runAt : List ℕ → Bool → ℕ → PageRun
+runAt l empty k = record {
+  first = indexOf (numberAt l k 0);
+  last = indexOf (numberAt l k 1);
+  size = numberAt l k 2;
+  «empty_body» = empty;
+  «manual_break» = ltb 0 (numberAt l k 3);
+}
 
 -- "A page has its vertical and horizontal run numbers from 0 and both runs."
-abbrev pub pageAt : RunLists → RunLists → Plan → ℕ → ℕ → Page
-pageAt rows columns p v h = record { vertical = v; horizontal = h; rows = runAt rows (p .«rows_empty») v; columns = runAt columns (p .«columns_empty») h }
+abbrev pub pageAt : List ℕ → List ℕ → Plan → ℕ → ℕ → Page
+pageAt rows columns p v h = record {
+  vertical = v;
+  horizontal = h;
+  rows = runAt rows (p .«rows_empty») v;
+  columns = runAt columns (p .«columns_empty») h;
+}
 
 -- the numbers from k on, so many
 unfoldable pub upFrom : ℕ → ℕ → List ℕ
@@ -83,15 +86,15 @@ inOrder DownThenOver rows columns page = joined (map (λ (h : ℕ). map (λ (v :
 inOrder OverThenDown rows columns page = joined (map (λ (v : ℕ). map (λ (h : ℕ). page v h) (upFrom 0 columns)) (upFrom 0 rows))
 
 -- the pages of a plan, in order; no more than its count
-unfoldable pub pagesOf : Plan → RunLists → RunLists → List Page
+unfoldable pub pagesOf : Plan → List ℕ → List ℕ → List Page
 unfolding inOrder
 pagesOf p rows columns = take (p .pages) (inOrder (p .order) (p .«row_runs») (p .«column_runs») (pageAt rows columns p))
 
 -- ---- one page by its number
 
--- 6: the lists of an axis' runs are equally long
-abbrev pub evenLists : RunLists → Bool
-evenLists l = lentEven (l .firsts) (l .lasts) (l .sizes) (l .marks)
+-- 11 of a plan and the two lists of its runs: they have room for as many as the plan says
+abbrev pub holdsRuns : Plan → List ℕ → List ℕ → Bool
+holdsRuns p rows columns = leb (p .«row_runs») (roomIn rows) && leb (p .«column_runs») (roomIn columns)
 
 -- the n-th of a list, from 1: "Page number from 1 to the count?"
 unfoldable pub numbered : {A : Type 0} → List A → ℕ → Outcome A
@@ -100,13 +103,10 @@ numbered (x ∷ xs) zero = refused 14
 numbered (x ∷ xs) (suc zero) = given x
 numbered (x ∷ xs) (suc (suc n)) = numbered xs (suc n)
 
--- 6: the lists of an axis are equally long; 11: they have as many runs as the plan says; 14
-unfoldable pub pageNumbered : Plan → RunLists → RunLists → ℕ → Outcome Page
+-- 11, 14, and the page
+unfoldable pub pageNumbered : Plan → List ℕ → List ℕ → ℕ → Outcome Page
 unfolding pagesOf numbered
-pageNumbered p rows columns n =
-    ask 6 (evenLists rows && evenLists columns)
-    (ask 11 (leb (p .«row_runs») (length (rows .firsts)) && leb (p .«column_runs») (length (columns .firsts)))
-    (numbered (pagesOf p rows columns) n))
+pageNumbered p rows columns n = ask 11 (holdsRuns p rows columns) (numbered (pagesOf p rows columns) n)
 
 -- the value or the number that each case of `PageAnswer` stands for
 abbrev pub pageOutcome : PageAnswer → Outcome Page
@@ -115,14 +115,11 @@ pageOutcome (Refused n) = refused n
 
 -- ---- the whole list
 
--- 6, 11, and 13: "Pages fit the lent list of page records?", of which there is so much room; and how many they are
-unfoldable pub listPages : Plan → RunLists → RunLists → ℕ → Outcome ℕ
+-- 11, and 13: "Pages fit the lent list of page records?", of which there is so much room; and how many they are
+unfoldable pub listPages : Plan → List ℕ → List ℕ → ℕ → Outcome ℕ
 unfolding pagesOf
 listPages p rows columns room =
-    ask 6 (evenLists rows && evenLists columns)
-    (ask 11 (leb (p .«row_runs») (length (rows .firsts)) && leb (p .«column_runs») (length (columns .firsts)))
-    (ask 13 (leb (length (pagesOf p rows columns)) room)
-    (given (length (pagesOf p rows columns)))))
+    ask 11 (holdsRuns p rows columns) (ask 13 (leb (length (pagesOf p rows columns)) room) (given (length (pagesOf p rows columns))))
 
 -- the number that each case of `Listing` stands for
 abbrev pub listOutcome : Listing → Outcome ℕ
@@ -145,14 +142,13 @@ countIn (refused n) = 0
 abbrev pub pageCount : Plan → ℕ
 pageCount p = min (p .pages) (p .«row_runs» * p .«column_runs»)
 
--- the first of the questions 6 and 11 whose answer is no, or 0; of the lists, whether they are equally long and how long those of rows and
--- of columns are
-unfoldable pub listsNo : Plan → Bool → ℕ → ℕ → ℕ
-listsNo p even rows columns = noOr 6 even (noOr 11 (leb (p .«row_runs») rows && leb (p .«column_runs») columns) 0)
+-- 11 of lists with room for so many runs of rows and of columns, as the number of its no or 0
+unfoldable pub listsNo : Plan → ℕ → ℕ → ℕ
+listsNo p row-room column-room = noOr 11 (leb (p .«row_runs») row-room && leb (p .«column_runs») column-room) 0
 
 -- sizes of runs
 abbrev pub Moderate : List ℕ → Type 0
-Moderate zs = (k : ℕ) → getD zs k 0 ≤ 2 ^ 50
+Moderate l = (k : ℕ) → numberAt l k 2 ≤ 2 ^ 50
 
 -- where the page stands that has so many pages before it, of so many runs of rows and of columns: "down, then over", or the other order
 abbrev pub placeOf : PageOrder → ℕ → ℕ → ℕ → Place
@@ -160,7 +156,7 @@ placeOf DownThenOver rows columns before = record { vertical = before % rows; ho
 placeOf OverThenDown rows columns before = record { vertical = before / columns; horizontal = before % columns }
 
 -- the page there
-unfoldable pub pageAfter : Plan → RunLists → RunLists → ℕ → Page
+unfoldable pub pageAfter : Plan → List ℕ → List ℕ → ℕ → Page
 pageAfter p rows columns before =
     let place = placeOf (p .order) (p .«row_runs») (p .«column_runs») before in
     pageAt rows columns p (place .vertical) (place .horizontal)
@@ -169,8 +165,8 @@ pageAfter p rows columns before =
 unfoldable pub hasPage : Plan → ℕ → Bool
 hasPage p n = leb 1 n && leb n (pageCount p)
 
--- the first of the questions 6, 11 and 14 whose answer is no, or 0; of the lists, whether they are equally long and how long those of rows and
--- of columns are
-unfoldable pub firstNo : Plan → ℕ → Bool → ℕ → ℕ → ℕ
+-- the first of the questions 11 and 14 whose answer is no, or 0
+unfoldable pub firstNo : Plan → ℕ → ℕ → ℕ → ℕ
 unfolding hasPage
-firstNo p n even rows columns = noOr 6 even (noOr 11 (leb (p .«row_runs») rows && leb (p .«column_runs») columns) (noOr 14 (hasPage p n) 0))
+firstNo p n row-room column-room =
+    noOr 11 (leb (p .«row_runs») row-room && leb (p .«column_runs») column-room) (noOr 14 (hasPage p n) 0)

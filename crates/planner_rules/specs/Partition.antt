@@ -1,10 +1,10 @@
 -- The call that cuts an axis into lent lists: the body of a range (document 01, "Titles"), its runs ("Runs") and what is asked first
 -- ("Questions in order"). Assumes nothing.
 use mathlib.Core.Path.{_≡_}
-use mathlib.Core.Bool.{Bool, _&&_}
+use mathlib.Core.Bool.{_&&_}
 use mathlib.Core.List.{List}
 use Prim.Native.Nat.{ℕ, _+_}
-use lib.Dec.{leb, eqb}
+use lib.Dec.{leb}
 use lib.ListN.{length}
 use Rattle.units.specs.Outcome.{Outcome, given, refused}
 use Rattle.planner_rules.specs.declared.runs.Frame.{Frame}
@@ -16,7 +16,7 @@ use Rattle.planner_rules.specs.Slots.{below, mid, written}
 use Rattle.planner_rules.specs.Questions.{ask, noOr, wellFormed, allWithin, risingWithin, allSmall}
 use Rattle.planner_rules.specs.Titles.{bodyStart}
 use Rattle.planner_rules.specs.Runs.{Run, axisRuns, axisTally}
-use Rattle.planner_rules.specs.Lent.{firsts, lasts, sizes, marks}
+use Rattle.planner_rules.specs.Lent.{roomIn, flat}
 
 -- merges are clipped to "the stretch from the body's start to the range's last index"
 abbrev pub frameOf : AxisSetup → Frame
@@ -42,21 +42,14 @@ roomFor rs t room = ask 11 (leb (length rs) room) (given t)
 abbrev pub fits : AxisSetup → List ℕ → List ℕ → List ℕ → List ℕ → List ℕ → ℕ → Outcome Tally
 fits s is ss fs ls bs room = roomFor (bodyRuns s is ss fs ls bs) (bodyTally s is ss fs ls bs) room
 
--- four lists of these lengths are equally long
-abbrev pub evenLengths : ℕ → ℕ → ℕ → ℕ → Bool
-evenLengths f l s m = eqb f l && eqb f s && eqb f m
-
-abbrev pub lentEven : List ℕ → List ℕ → List ℕ → List ℕ → Bool
-lentEven f l s m = evenLengths (length f) (length l) (length s) (length m)
-
--- questions 6, 7, 8, 9 and 11 in order, then how many runs, expansions and shifts; f, l, z and m are the lent lists
-unfoldable pub partition : ℕ → AxisSetup → List ℕ → List ℕ → List ℕ → List ℕ → List ℕ → List ℕ → List ℕ → List ℕ → List ℕ → Outcome Tally
-partition limit s is ss fs ls bs f l z m =
-    ask 6 (wellFormed (s .first) (s .last) (lentEven f l z m) is ss fs ls)
+-- questions 6, 7, 8, 9 and 11 in order, then how many runs, expansions and shifts; `list` is the lent list
+unfoldable pub partition : ℕ → AxisSetup → List ℕ → List ℕ → List ℕ → List ℕ → List ℕ → List ℕ → Outcome Tally
+partition limit s is ss fs ls bs list =
+    ask 6 (wellFormed (s .first) (s .last) is ss fs ls)
     (ask 7 (leb (s .last) limit && allWithin limit ls)
     (ask 8 (risingWithin limit is)
     (ask 9 (allSmall ss)
-    (fits s is ss fs ls bs (length f)))))
+    (fits s is ss fs ls bs (roomIn list)))))
 
 -- the value or the number that each case of `Partition` stands for
 abbrev pub partitionOutcome : Partition → Outcome Tally
@@ -68,24 +61,15 @@ abbrev pub lent : {A : Type 0} → Outcome A → List ℕ → List ℕ → List 
 lent (given a) values old = written values old
 lent (refused n) values old = old
 
--- the answer r and the four lent lists, which were f₀, l₀, s₀, m₀, where the outcome is o and the runs are rs
-pub record Answered (o : Outcome Tally) (rs : List Run) (r : Partition) (f₀ l₀ s₀ m₀ f l s m : List ℕ) : Type 0 where
+-- the answer r and the lent list, which was `before`, where the outcome is o and the runs are rs
+pub record Answered (o : Outcome Tally) (rs : List Run) (r : Partition) (before after : List ℕ) : Type 0 where
   pub answer : partitionOutcome r ≡ o
-  pub firsts-are : f ≡ lent o (firsts rs) f₀
-  pub lasts-are : l ≡ lent o (lasts rs) l₀
-  pub sizes-are : s ≡ lent o (sizes rs) s₀
-  pub marks-are : m ≡ lent o (marks rs) m₀
+  pub list-is : after ≡ lent o (flat rs) before
 
 -- ---- for the private functions
 
--- four lists of these lengths are equally long
-pub record Even (f l s m : List ℕ) : Type 0 where
-  pub lasts-even : length f ≡ length l
-  pub sizes-even : length f ≡ length s
-  pub marks-even : length f ≡ length m
-
 -- the first of the questions 6 to 9 with the answer no, or 0
-unfoldable pub firstNo : ℕ → AxisSetup → List ℕ → List ℕ → List ℕ → List ℕ → Bool → ℕ
-firstNo limit s is ss fs ls even-lent =
-    noOr 6 (wellFormed (s .first) (s .last) even-lent is ss fs ls)
+unfoldable pub firstNo : ℕ → AxisSetup → List ℕ → List ℕ → List ℕ → List ℕ → ℕ
+firstNo limit s is ss fs ls =
+    noOr 6 (wellFormed (s .first) (s .last) is ss fs ls)
     (noOr 7 (leb (s .last) limit && allWithin limit ls) (noOr 8 (risingWithin limit is) (noOr 9 (allSmall ss) 0)))

@@ -30,10 +30,10 @@ use Rattle.planner_rules.specs.Slots.{Slots, below, mid}
 use Rattle.planner_rules.specs.Questions.{ask, wellFormed, equallyLong, allWithin, risingWithin, allSmall, noOr}
 use Rattle.planner_rules.specs.Titles.{limitOf, widened, bodyStart, titleTotal}
 use Rattle.planner_rules.specs.Runs.{Run, axisRuns, shifts, expansions}
-use Rattle.planner_rules.specs.Lent.{firsts, lasts, sizes, marks}
+use Rattle.planner_rules.specs.Lent.{roomIn, flat}
 use Rattle.planner_rules.specs.Partition.{lent}
 use Rattle.planner_rules.specs.Scale.{Scale, Space, Body, orElse, frameFor, fixedScale, axisPasses, fitScale, spaceOf, bodyFor, Low}
-use Rattle.planner_rules.specs.Pages.{RunLists, evenLists, none, orEmpty, overflowing}
+use Rattle.planner_rules.specs.Pages.{none, orEmpty, overflowing}
 
 -- ---- an axis, as it is handed over
 
@@ -170,8 +170,7 @@ bodyIsEmpty side a p = none (cutRuns side a p)
 -- how many runs of an axis overflow
 abbrev pub overflows : ℤ → AxisInput → ℕ → ℕ
 overflows side a p =
-    let rs = pageRuns side a p in
-    overflowing (spaceOn side a) (titleOf a .title) p (bodyIsEmpty side a p) (firsts rs) (sizes rs)
+    overflowing (spaceOn side a) (titleOf a .title) p (bodyIsEmpty side a p) (pageRuns side a p)
 
 -- ---- a plan
 
@@ -221,8 +220,8 @@ layout s c rows columns = layoutAt s c rows columns (chosenScale s c rows column
 -- ---- the call
 
 -- 6 of an axis
-unfoldable pub formed : AxisInput → Bool → Bool
-formed a lent-even = wellFormed (a .first) (a .last) lent-even (a .indexes) (a .sizes) (a .merge-firsts) (a .merge-lasts)
+unfoldable pub formed : AxisInput → Bool
+formed a = wellFormed (a .first) (a .last) (a .indexes) (a .sizes) (a .merge-firsts) (a .merge-lasts)
 
 -- 7 of an axis: "AR and every MR inside the grid"
 unfoldable pub inGrid : AxisInput → Bool
@@ -234,15 +233,15 @@ roomFor l row-room column-room limit =
     ask 11 (leb (length (l .rows)) row-room && leb (length (l .columns)) column-room)
     (ask 12 (leb (l .plan .pages) limit) (given l))
 
--- questions 6 to 12 in order, then the plan; the lent lists are those of the rows and those of the columns
-unfoldable pub planned : Settings → AxisInput → AxisInput → RunLists → RunLists → Outcome Layout
+-- questions 6 to 12 in order, then the plan; the lent lists are that of the row runs and that of the column runs
+unfoldable pub planned : Settings → AxisInput → AxisInput → List ℕ → List ℕ → Outcome Layout
 planned s rows columns lent-rows lent-columns =
-    ask 6 (formed rows (evenLists lent-rows) && formed columns (evenLists lent-columns) && equallyLong (rows .merge-firsts) (columns .merge-firsts))
+    ask 6 (formed rows && formed columns && equallyLong (rows .merge-firsts) (columns .merge-firsts))
     (ask 7 (inGrid rows && inGrid columns)
     (ask 8 (risingWithin (rows .limit) (rows .indexes) && risingWithin (columns .limit) (columns .indexes))
     (ask 9 (allSmall (rows .sizes) && allSmall (columns .sizes))
     (andThen (contentSides s)
-    (λ (c : Sides). roomFor (layout s c rows columns) (length (lent-rows .firsts)) (length (lent-columns .firsts)) (s .«page_limit»))))))
+    (λ (c : Sides). roomFor (layout s c rows columns) (roomIn lent-rows) (roomIn lent-columns) (s .«page_limit»))))))
 
 -- the value or the number that each case of `Planning` stands for
 abbrev pub planOutcome : Planning → Outcome Plan
@@ -259,18 +258,11 @@ abbrev pub columnsIn : Outcome Layout → List Run
 columnsIn (given l) = l .columns
 columnsIn (refused n) = []
 
--- four lent lists of an axis, which were `before`, where the outcome is o and the runs are rs
-pub record RunsLent (o : Outcome Layout) (rs : List Run) (before after : RunLists) : Type 0 where
-  pub firsts-are : after .firsts ≡ lent o (firsts rs) (before .firsts)
-  pub lasts-are : after .lasts ≡ lent o (lasts rs) (before .lasts)
-  pub sizes-are : after .sizes ≡ lent o (sizes rs) (before .sizes)
-  pub marks-are : after .marks ≡ lent o (marks rs) (before .marks)
-
--- the answer and the lent lists of both axes
-pub record Planned (o : Outcome Layout) (r : Planning) (rows₀ columns₀ rows columns : RunLists) : Type 0 where
+-- the answer and the lent lists of both axes, which were rows₀ and columns₀
+pub record Planned (o : Outcome Layout) (r : Planning) (rows₀ columns₀ rows columns : List ℕ) : Type 0 where
   pub answer : planOutcome r ≡ andThen o (λ (l : Layout). given (l .plan))
-  pub rows-are : RunsLent o (rowsIn o) rows₀ rows
-  pub columns-are : RunsLent o (columnsIn o) columns₀ columns
+  pub rows-are : rows ≡ lent o (flat (rowsIn o)) rows₀
+  pub columns-are : columns ≡ lent o (flat (columnsIn o)) columns₀
 
 -- ---- for the private functions
 
@@ -378,9 +370,9 @@ pub record Cuttable (r : Ready) (is ss : List ℕ) : Type 0 where
   pub low : Low (r .fit .page)
 
 -- the first of the questions 6 to 9 with the answer no, or 0
-unfoldable pub firstNo : AxisInput → AxisInput → Bool → Bool → ℕ
-firstNo rows columns rows-even columns-even =
-    noOr 6 (formed rows rows-even && formed columns columns-even && equallyLong (rows .merge-firsts) (columns .merge-firsts))
+unfoldable pub firstNo : AxisInput → AxisInput → ℕ
+firstNo rows columns =
+    noOr 6 (formed rows && formed columns && equallyLong (rows .merge-firsts) (columns .merge-firsts))
     (noOr 7 (inGrid rows && inGrid columns)
     (noOr 8 (risingWithin (rows .limit) (rows .indexes) && risingWithin (columns .limit) (columns .indexes))
     (noOr 9 (allSmall (rows .sizes) && allSmall (columns .sizes)) 0)))

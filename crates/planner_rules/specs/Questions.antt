@@ -26,10 +26,10 @@ allOrdered [] ls = true
 allOrdered (f ∷ fs) [] = true
 allOrdered (f ∷ fs) (l ∷ ls) = leb f l && allOrdered fs ls
 
--- 6 of an axis, whose range is from first to last and whose lent lists are equally long or not: "Slices that make up one list equally long,
--- and firsts not above lasts in AR and every MR"
-abbrev pub wellFormed : ℕ → ℕ → Bool → List ℕ → List ℕ → List ℕ → List ℕ → Bool
-wellFormed first last lent-even is ss fs ls = equallyLong is ss && equallyLong fs ls && lent-even && leb first last && allOrdered fs ls
+-- 6 of an axis, whose range is from first to last: "Slices that make up one list equally long, and firsts not above lasts in AR and every
+-- MR"
+abbrev pub wellFormed : ℕ → ℕ → List ℕ → List ℕ → List ℕ → List ℕ → Bool
+wellFormed first last is ss fs ls = equallyLong is ss && equallyLong fs ls && leb first last && allOrdered fs ls
 
 -- 7: "every MR inside the grid", whose last index is the limit
 unfoldable pub allWithin : ℕ → List ℕ → Bool

@@ -1,6 +1,7 @@
 // What the plan call takes and answers: document 01, sections "Scale" and "Pages".
 use crate::pages::PageOrder;
 use crate::pages::Plan;
+use crate::scale::ChosenScale;
 use crate::scale::Fit;
 use crate::titles::Title;
 use geometry::MarginSetting;
@@ -51,6 +52,13 @@ pub struct Ready {
     pub to: usize,
     pub ignored: u64,
     pub expanded: u64,
+}
+
+// Both axes, ready to be cut, and the scale that was chosen for them.
+pub struct Prepared {
+    pub rows: Ready,
+    pub columns: Ready,
+    pub scale: ChosenScale,
 }
 
 // The final cut of an axis: how many runs its pages are made of, whether its body is empty, and the notes on the cut.

@@ -1,6 +1,9 @@
 // Runs: document 01, section "Runs".
 use crate::titles::Title;
 
+// How many numbers a run has in a list of runs: first, last, size, and 1 where a manual break stands before it.
+pub const RUN_NUMBERS: usize = 4;
+
 // What holds a boundary: nothing, or a pair of a first and a last index.
 pub enum Held {
     Free,

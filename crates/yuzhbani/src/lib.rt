@@ -14,7 +14,7 @@ use yuzhbani_request::request_from;
 ghost use mathlib.Core.Path.{_≡_};
 ghost use Prim.Native.Nat.{_≤_};
 ghost use lib.ListN.{length, take};
-ghost use Rattle.planner_rules.specs.Pages.{runLists, pageNumbered};
+ghost use Rattle.planner_rules.specs.Pages.{pageNumbered};
 ghost use Rattle.planner_rules.specs.Plan.{planned, planOutcome};
 ghost use Rattle.planner_rules.specs.Demand.{CoversPairs, FewestPlan, LargestPlan};
 ghost use Rattle.job.specs.PlanJob as job;
@@ -25,69 +25,43 @@ ghost use Rattle.yuzhbani_answers.specs.Answers.{PageHanded};
 ghost use Rattle.yuzhbani_request.specs.Request.{settingsFrom, rowsRequested, columnsRequested};
 ghost use Rattle.yuzhbani.specs.Calls.{PlanHanded, blockTo};
 
-// Plans the pages of a job: 0, with the plan's numbers in `numbers` and its runs at the fronts of eight lent lists; or the number of a
+// Plans the pages of a job: 0, with the plan's numbers in `numbers` and its runs at the fronts of two lent lists; or the number of a
 // refusal, and nothing is written.
 #[no_mangle]
 pub extern "C" fn yuzhbani_plan(
     bytes: &[u8],
     numbers: &mut [u64; 16],
-    row_run_firsts: &mut [u32],
-    row_run_lasts: &mut [u32],
-    row_run_sizes: &mut [u64],
-    row_run_marks: &mut [u8],
-    column_run_firsts: &mut [u32],
-    column_run_lasts: &mut [u32],
-    column_run_sizes: &mut [u64],
-    column_run_marks: &mut [u8],
+    row_runs: &mut [u64],
+    column_runs: &mut [u64],
 ) -> u8
     ensures planned { λ r. ⌜
         PlanHanded
         (job.planJob (now (bytes .entry))
-        (runLists (now («row_run_firsts» .entry)) (now («row_run_lasts» .entry)) (now («row_run_sizes» .entry))
-        (now («row_run_marks» .entry)))
-        (runLists (now («column_run_firsts» .entry)) (now («column_run_lasts» .entry)) (now («column_run_sizes» .entry))
-        (now («column_run_marks» .entry))))
+        (now («row_runs» .entry))
+        (now («column_runs» .entry)))
         r (now (numbers .entry)) (now (numbers .exit))
-        (runLists (now («row_run_firsts» .entry)) (now («row_run_lasts» .entry)) (now («row_run_sizes» .entry))
-        (now («row_run_marks» .entry)))
-        (runLists (now («column_run_firsts» .entry)) (now («column_run_lasts» .entry)) (now («column_run_sizes» .entry))
-        (now («column_run_marks» .entry)))
-        (runLists (now («row_run_firsts» .exit)) (now («row_run_lasts» .exit)) (now («row_run_sizes» .exit))
-        (now («row_run_marks» .exit)))
-        (runLists (now («column_run_firsts» .exit)) (now («column_run_lasts» .exit)) (now («column_run_sizes» .exit))
-        (now («column_run_marks» .exit)))
+        (now («row_runs» .entry))
+        (now («column_runs» .entry))
+        (now («row_runs» .exit))
+        (now («column_runs» .exit))
         ⌝ }
     ensures covered { λ r. ⌜
         CoversPairs (section.told r (now (numbers .exit))) (job.jobRows (now (bytes .entry))) (job.jobColumns (now (bytes .entry)))
-        (runLists (now («row_run_firsts» .exit)) (now («row_run_lasts» .exit)) (now («row_run_sizes» .exit))
-        (now («row_run_marks» .exit)))
-        (runLists (now («column_run_firsts» .exit)) (now («column_run_lasts» .exit)) (now («column_run_sizes» .exit))
-        (now («column_run_marks» .exit)))
+        (now («row_runs» .exit))
+        (now («column_runs» .exit))
         ⌝ }
     ensures fewest { λ r. ⌜
         FewestPlan (section.told r (now (numbers .exit))) (job.jobSettings (now (bytes .entry))) (job.jobRows (now (bytes .entry)))
         (job.jobColumns (now (bytes .entry)))
-        (runLists (now («row_run_firsts» .exit)) (now («row_run_lasts» .exit)) (now («row_run_sizes» .exit))
-        (now («row_run_marks» .exit)))
-        (runLists (now («column_run_firsts» .exit)) (now («column_run_lasts» .exit)) (now («column_run_sizes» .exit))
-        (now («column_run_marks» .exit)))
+        (now («row_runs» .exit))
+        (now («column_runs» .exit))
         ⌝ }
     ensures largest { λ r. ⌜
         LargestPlan (section.told r (now (numbers .exit))) (job.jobSettings (now (bytes .entry))) (job.jobRows (now (bytes .entry)))
         (job.jobColumns (now (bytes .entry)))
         ⌝ }
 {
-    let planning = plan_job(
-        bytes,
-        row_run_firsts,
-        row_run_lasts,
-        row_run_sizes,
-        row_run_marks,
-        column_run_firsts,
-        column_run_lasts,
-        column_run_sizes,
-        column_run_marks,
-    );
+    let planning = plan_job(bytes, row_runs, column_runs);
     put_planning(planning, numbers)
 }
 
@@ -107,14 +81,8 @@ pub extern "C" fn yuzhbani_plan_lists(
     row_breaks: &[u32],
     column_breaks: &[u32],
     numbers: &mut [u64; 16],
-    row_run_firsts: &mut [u32],
-    row_run_lasts: &mut [u32],
-    row_run_sizes: &mut [u64],
-    row_run_marks: &mut [u8],
-    column_run_firsts: &mut [u32],
-    column_run_lasts: &mut [u32],
-    column_run_sizes: &mut [u64],
-    column_run_marks: &mut [u8],
+    row_runs: &mut [u64],
+    column_runs: &mut [u64],
 ) -> u8
     ensures planned { λ r. ⌜
         PlanHanded
@@ -123,19 +91,13 @@ pub extern "C" fn yuzhbani_plan_lists(
         (now («merge_first_rows» .entry)) (now («merge_last_rows» .entry)) (now («row_breaks» .entry)))
         (columnsRequested (now (request .entry)) (now («column_indexes» .entry)) (now («column_sizes» .entry))
         (now («merge_first_columns» .entry)) (now («merge_last_columns» .entry)) (now («column_breaks» .entry)))
-        (runLists (now («row_run_firsts» .entry)) (now («row_run_lasts» .entry)) (now («row_run_sizes» .entry))
-        (now («row_run_marks» .entry)))
-        (runLists (now («column_run_firsts» .entry)) (now («column_run_lasts» .entry)) (now («column_run_sizes» .entry))
-        (now («column_run_marks» .entry))))
+        (now («row_runs» .entry))
+        (now («column_runs» .entry)))
         r (now (numbers .entry)) (now (numbers .exit))
-        (runLists (now («row_run_firsts» .entry)) (now («row_run_lasts» .entry)) (now («row_run_sizes» .entry))
-        (now («row_run_marks» .entry)))
-        (runLists (now («column_run_firsts» .entry)) (now («column_run_lasts» .entry)) (now («column_run_sizes» .entry))
-        (now («column_run_marks» .entry)))
-        (runLists (now («row_run_firsts» .exit)) (now («row_run_lasts» .exit)) (now («row_run_sizes» .exit))
-        (now («row_run_marks» .exit)))
-        (runLists (now («column_run_firsts» .exit)) (now («column_run_lasts» .exit)) (now («column_run_sizes» .exit))
-        (now («column_run_marks» .exit)))
+        (now («row_runs» .entry))
+        (now («column_runs» .entry))
+        (now («row_runs» .exit))
+        (now («column_runs» .exit))
         ⌝ }
     ensures covered { λ r. ⌜
         CoversPairs (section.told r (now (numbers .exit)))
@@ -143,10 +105,8 @@ pub extern "C" fn yuzhbani_plan_lists(
         (now («merge_last_rows» .entry)) (now («row_breaks» .entry)))
         (columnsRequested (now (request .entry)) (now («column_indexes» .entry)) (now («column_sizes» .entry))
         (now («merge_first_columns» .entry)) (now («merge_last_columns» .entry)) (now («column_breaks» .entry)))
-        (runLists (now («row_run_firsts» .exit)) (now («row_run_lasts» .exit)) (now («row_run_sizes» .exit))
-        (now («row_run_marks» .exit)))
-        (runLists (now («column_run_firsts» .exit)) (now («column_run_lasts» .exit)) (now («column_run_sizes» .exit))
-        (now («column_run_marks» .exit)))
+        (now («row_runs» .exit))
+        (now («column_runs» .exit))
         ⌝ }
     ensures fewest { λ r. ⌜
         FewestPlan (section.told r (now (numbers .exit))) (settingsFrom (now (request .entry)))
@@ -154,10 +114,8 @@ pub extern "C" fn yuzhbani_plan_lists(
         (now («merge_last_rows» .entry)) (now («row_breaks» .entry)))
         (columnsRequested (now (request .entry)) (now («column_indexes» .entry)) (now («column_sizes» .entry))
         (now («merge_first_columns» .entry)) (now («merge_last_columns» .entry)) (now («column_breaks» .entry)))
-        (runLists (now («row_run_firsts» .exit)) (now («row_run_lasts» .exit)) (now («row_run_sizes» .exit))
-        (now («row_run_marks» .exit)))
-        (runLists (now («column_run_firsts» .exit)) (now («column_run_lasts» .exit)) (now («column_run_sizes» .exit))
-        (now («column_run_marks» .exit)))
+        (now («row_runs» .exit))
+        (now («column_runs» .exit))
         ⌝ }
     ensures largest { λ r. ⌜
         LargestPlan (section.told r (now (numbers .exit))) (settingsFrom (now (request .entry)))
@@ -187,14 +145,8 @@ pub extern "C" fn yuzhbani_plan_lists(
         merge_last_columns,
         row_breaks,
         column_breaks,
-        row_run_firsts,
-        row_run_lasts,
-        row_run_sizes,
-        row_run_marks,
-        column_run_firsts,
-        column_run_lasts,
-        column_run_sizes,
-        column_run_marks,
+        row_runs,
+        column_runs,
     );
     put_planning(planning, numbers)
 }
@@ -205,39 +157,21 @@ pub extern "C" fn yuzhbani_plan_lists(
 pub extern "C" fn yuzhbani_page(
     numbers: &[u64; 16],
     number: u64,
-    row_firsts: &[u32],
-    row_lasts: &[u32],
-    row_sizes: &[u64],
-    row_marks: &[u8],
-    column_firsts: &[u32],
-    column_lasts: &[u32],
-    column_sizes: &[u64],
-    column_marks: &[u8],
+    row_runs: &[u64],
+    column_runs: &[u64],
     page: &mut [u64; 12],
 ) -> u8
     ensures { λ r. ⌜
         PageHanded
         (pageNumbered (section.planFrom (now (numbers .entry)))
-        (runLists (now («row_firsts» .entry)) (now («row_lasts» .entry)) (now («row_sizes» .entry)) (now («row_marks» .entry)))
-        (runLists (now («column_firsts» .entry)) (now («column_lasts» .entry)) (now («column_sizes» .entry))
-        (now («column_marks» .entry)))
+        (now («row_runs» .entry))
+        (now («column_runs» .entry))
         number)
         r (now (page .entry)) (now (page .exit))
         ⌝ }
 {
     let plan = plan_from(numbers);
-    let answer = page_numbered(
-        plan,
-        number,
-        row_firsts,
-        row_lasts,
-        row_sizes,
-        row_marks,
-        column_firsts,
-        column_lasts,
-        column_sizes,
-        column_marks,
-    );
+    let answer = page_numbered(plan, number, row_runs, column_runs);
     put_page(answer, page)
 }
 
@@ -258,39 +192,20 @@ pub extern "C" fn yuzhbani_head(answer: u8, numbers: &[u64; 16], out: &mut [u8; 
 pub extern "C" fn yuzhbani_block(
     numbers: &[u64; 16],
     next: &mut u64,
-    row_firsts: &[u32],
-    row_lasts: &[u32],
-    row_sizes: &[u64],
-    row_marks: &[u8],
-    column_firsts: &[u32],
-    column_lasts: &[u32],
-    column_sizes: &[u64],
-    column_marks: &[u8],
+    row_runs: &[u64],
+    column_runs: &[u64],
     out: &mut [u8; 65536],
 ) -> usize
     ensures { λ r. ⌜
         BlockOf (section.planFrom (now (numbers .entry)))
-        (runLists (now («row_firsts» .entry)) (now («row_lasts» .entry)) (now («row_sizes» .entry)) (now («row_marks» .entry)))
-        (runLists (now («column_firsts» .entry)) (now («column_lasts» .entry)) (now («column_sizes» .entry))
-        (now («column_marks» .entry)))
+        (now («row_runs» .entry))
+        (now («column_runs» .entry))
         (now (next .entry)) (blockTo (now (next .exit)) r) (now (out .exit))
         ⌝ }
 {
     let plan = plan_from(numbers);
     let from = *next;
-    let block = page_block(
-        plan,
-        from,
-        row_firsts,
-        row_lasts,
-        row_sizes,
-        row_marks,
-        column_firsts,
-        column_lasts,
-        column_sizes,
-        column_marks,
-        out,
-    );
+    let block = page_block(plan, from, row_runs, column_runs, out);
     *next = block.next;
     block.end
 }

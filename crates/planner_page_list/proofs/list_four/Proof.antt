@@ -322,5 +322,5 @@ list-four-spec 𝓤 H 𝓜 𝓖 𝓡 =
     entered 𝓤 H (tripleOf 𝓤 H (𝓖 .A) f.signature (f.spec 𝓤 H (𝓖 .A) (𝓜 .mem) (𝓡 .run)))
     (tables 𝓤 H 𝓜 𝓡 code.env .C) (tables 𝓤 H 𝓜 𝓡 code.env .Λ) #list-four code.function (code.unfolded 𝓤 H 𝓜 𝓡)
     (meets 𝓤 H (𝓖 .A) (givenOf 𝓤 H 𝓜 𝓖) (𝓜 .mem) (𝓡 .run) (tablesOf 𝓤 H 𝓜 (tables 𝓤 H 𝓜 𝓡 code.env))
-    (cited 𝓤 H (ListPages 𝓤 H (𝓖 .A) (𝓜 .mem) (𝓡 .run)) 𝓜 𝓡 code.env #list-pages list-pages-def.routine code.calls-pages·list-pages (list-pages-thm.met 𝓤 H 𝓜 𝓖 𝓡))
-    (cited 𝓤 H (Both 𝓤 H (𝓖 .A) (𝓜 .mem) (𝓡 .run)) 𝓜 𝓡 code.env #both both-def.routine code.calls-listed·both (both-thm.met 𝓤 H 𝓜 𝓖 𝓡)))
+    (cited 𝓤 H (ListPages 𝓤 H (𝓖 .A) (𝓜 .mem) (𝓡 .run)) 𝓜 𝓡 code.env #list-pages list-pages-def.routine code.calls-planner-pages·list-pages (list-pages-thm.met 𝓤 H 𝓜 𝓖 𝓡))
+    (cited 𝓤 H (Both 𝓤 H (𝓖 .A) (𝓜 .mem) (𝓡 .run)) 𝓜 𝓡 code.env #both both-def.routine code.calls-planner-page-list·both (both-thm.met 𝓤 H 𝓜 𝓖 𝓡)))
