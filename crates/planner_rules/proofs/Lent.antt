@@ -173,13 +173,15 @@ module _ (whole : List Run) (old : List ℕ) (at : ℕ) (rs left : List Run) (ne
   writing-room h w = omega (arith, h, w .counted, ap length (flat-append rs left), length-append (flat rs) (flat left), w .so .long)
 
 -- one run more, whose numbers were put
-pub writing-one : (whole : List Run) (old : List ℕ) (at : ℕ) (r : Run) (left : List Run) (new new′ : List ℕ) → at + runNumbers ≤ length new
-    → new′ ≡ take at new ++ written (numbersOf r) (drop at new) → Writing whole old at (r ∷ left) new → Writing whole old (at + runNumbers) left new′
-unfolding flat
-writing-one whole old at r left new new′ h e w = record {
-  counted = omega (arith, w .counted);
-  so = stores (flat whole) old at (numbersOf r) (flat left) new new′ h (w .so) e;
-}
+module _ (whole : List Run) (old : List ℕ) (at : ℕ) (r : Run) (left : List Run) (new new′ : List ℕ) where
+  pub writing-one : (a b c d : ℕ) → a ≡ r .first → b ≡ r .last → c ≡ r .size → d ≡ r .manual → at + runNumbers ≤ length new
+      → new′ ≡ take at new ++ written (a ∷ b ∷ c ∷ d ∷ []) (drop at new) → Writing whole old at (r ∷ left) new
+      → Writing whole old (at + runNumbers) left new′
+  unfolding flat
+  writing-one a b c d ea eb ec ed h e w = record {
+    counted = omega (arith, w .counted);
+    so = stores (flat whole) old at (numbersOf r) (flat left) new new′ h (w .so) (rw (ea, eb, ec, ed) at e);
+  }
 
 -- ---- four numbers stored, one after another
 

@@ -7,6 +7,7 @@ use native.Mathlib.Nat.{div-lt-iff-lt-mul}
 use native.Mathlib.Omega.{arith}
 use lib.Dec.{leb, ltb}
 use lib.ListN.{length, getD, drop, length-drop}
+use lib.Seq.{getD-drop}
 use borrow.Author.Tests.{lt-ltb, le-ltb, le-leb, lt-leb, leb-true}
 use Rattle.units.specs.Outcome.{Outcome, given, refused}
 use Rattle.planner_rules.specs.declared.titles.Title.{Title}
@@ -17,7 +18,7 @@ use Rattle.planner_rules.specs.declared.pages.Plan.{Plan}
 use Rattle.planner_rules.specs.Questions.{ask, noOr}
 use Rattle.planner_rules.specs.Lent.{runNumbers, roomIn, runsIn}
 use Rattle.planner_rules.specs.Scale.{Space, fitsSide, printed}
-use Rattle.planner_rules.specs.Pages.{overflowing, runAt, pageAt, inOrder, pagesOf, holdsRuns, numbered, pageNumbered, placeOf, pageAfter, hasPage, listsNo, firstNo}
+use Rattle.planner_rules.specs.Pages.{overflowing, Moderate, runAt, pageAt, inOrder, pagesOf, holdsRuns, numbered, pageNumbered, placeOf, pageAfter, hasPage, listsNo, firstNo}
 use Rattle.planner_rules.proofs.QuestionLaws.{asked-no, asked-yes, both}
 use Rattle.planner_rules.proofs.PageLaws.{numbered-zero, numbered-take, numbered-take-past, page-of, page-beyond}
 use Rattle.planner_rules.proofs.Laws.{split}
@@ -25,7 +26,7 @@ use Rattle.planner_rules.proofs.Laws.{split}
 -- ---- overflowing runs: the run at the head of a list, and those after it
 
 module _ (s : Space) (t : Title) (p : ℕ) (empty : Bool) (l : List ℕ) where
-  abbrev over : List ℕ → ℕ
+  abbrev pub over : List ℕ → ℕ
   over l = overflowing s t p empty (runsIn (roomIn l) l)
 
   abbrev fits : Bool
@@ -46,6 +47,12 @@ module _ (s : Space) (t : Title) (p : ℕ) (empty : Bool) (l : List ℕ) where
   pub overflow-end : length l < runNumbers → over l ≡ 0
   unfolding overflowing runsIn
   overflow-end h = let e : roomIn l ≡ 0 = omega arith in ap (λ (n : ℕ). overflowing s t p empty (runsIn n l)) e
+
+-- the sizes of those after it
+pub moderate-rest : (l : List ℕ) → Moderate l → Moderate (drop runNumbers l)
+moderate-rest l m k =
+    let e : runNumbers + (runNumbers * k + 2) ≡ runNumbers * suc k + 2 = omega arith in
+    rw (getD-drop runNumbers l (runNumbers * k + 2) 0, e) (m (suc k))
 
 -- ---- the place of a page
 

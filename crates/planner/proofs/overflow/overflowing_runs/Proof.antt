@@ -2,45 +2,42 @@
 -- counts of the runs that are left, are all. Assumes nothing.
 use mathlib.Core.Path.{_≡_, sym, ap, _∙_}
 use mathlib.Core.Logic.{⊎-elim}
-use Prim.Native.Nat.{_+_, _-_, _≤_, _<_}
-use native.Mathlib.Omega.{arith}
-use lib.ListN.{length, drop}
+use Prim.Native.Nat.{_+_, _≤_}
+use lib.ListN.{length, length-drop}
 use borrow.Author.Tests.{not-true, not-false}
 use Rattle.planner_rules.specs.Scale.{fitsSide, spaceOf}
-use Rattle.planner_rules.specs.Pages.{overflowing}
-use Rattle.planner_rules.proofs.PagesCode.{overflow-fits, overflow-exceeds, overflow-end}
+use Rattle.planner_rules.specs.Pages.{Moderate}
+use Rattle.planner_rules.proofs.Laws.{rest}
+use Rattle.planner_rules.proofs.PagesCode.{over, overflow-fits, overflow-exceeds, overflow-end, moderate-rest}
 use borrow.Author.Needs.{needs}
+use native.Mathlib.Omega.{arith}
 use Rattle.planner.proofs.overflow.overflowing_runs.Statement.{statement}
 use Rattle.planner.proofs.overflow.overflowing_runs.Tie as tie
 
 abbrev Inv-loop : tie.InvT-loop
-Inv-loop page title permille empty firsts sizes count₀ i₀ count i =
-    (i ≤ length firsts) × (count ≤ i)
-    × (count + overflowing (spaceOf page) title permille empty (drop i firsts) (drop i sizes) ≡ overflowing (spaceOf page) title permille empty firsts sizes)
+Inv-loop page title permille empty list left₀ count₀ left count =
+    (count + length left ≤ length list) × Moderate left
+    × (count + over (spaceOf page) title permille empty left left ≡ over (spaceOf page) title permille empty list list)
 
 abbrev μ-loop : tie.MeasureT-loop
-μ-loop page title permille empty firsts sizes count₀ i₀ count i = length firsts - i
+μ-loop page title permille empty list left₀ count₀ left count = length left
 
 loop-holds : tie.Need-loop-holds Inv-loop μ-loop
-loop-holds c = (search needs, search needs, omega arith)
-
-mul-printed : tie.Need-mul-printed Inv-loop μ-loop
-mul-printed c = search needs
+loop-holds c =
+    let start : tie.Start Inv-loop μ-loop = search in
+    (omega arith, start .pre .1, omega arith)
 
 shared-slice-read-printed : tie.Need-shared-slice-read-printed Inv-loop μ-loop
 shared-slice-read-printed c = search needs
-
-mul-printed-2 : tie.Need-mul-printed-2 Inv-loop μ-loop
-mul-printed-2 c = search needs
 
 shared-slice-read-printed-2 : tie.Need-shared-slice-read-printed-2 Inv-loop μ-loop
 shared-slice-read-printed-2 c = search needs
 
 printed-requires : tie.Need-printed-requires Inv-loop μ-loop
 printed-requires c κs =
-    let s : tie.Start Inv-loop μ-loop = search in
+    let start : tie.Start Inv-loop μ-loop = search in
     let at-loop : tie.At-loop Inv-loop μ-loop = search in
-    (s .pre .0, s .pre .1 .1 (at-loop .loop .i))
+    (start .pre .0, at-loop .loop .inv .1 0)
 
 fits-side-requires : tie.Need-fits-side-requires Inv-loop μ-loop
 fits-side-requires c κs = c .printed .ensures .1
@@ -48,35 +45,46 @@ fits-side-requires c κs = c .printed .ensures .1
 add-count : tie.Need-add-count Inv-loop μ-loop
 add-count c = search needs
 
-add-i : tie.Need-add-i Inv-loop μ-loop
-add-i c = search needs
+sub-left : tie.Need-sub-left Inv-loop μ-loop
+sub-left c = search needs
+
+part-left-start : tie.Need-part-left-start Inv-loop μ-loop
+part-left-start c = search needs
+
+part-left-end : tie.Need-part-left-end Inv-loop μ-loop
+part-left-end c = search needs
 
 loop-less : tie.Need-loop-less Inv-loop μ-loop
 loop-less c = search needs
 
 loop-again : tie.Need-loop-again Inv-loop μ-loop
 loop-again c =
-    let s : tie.Start Inv-loop μ-loop = search in
-    let t : tie.In-loop Inv-loop μ-loop = search in
-    let f = c .before .fits-side in
-    let l = t .before .loop in
-    let a = s .args in
-    let taken : l .i < length (a .firsts .now) = t .loop-test .taken in
-    let other : l .i < length (a .sizes .now) = omega (arith, s .pre .1 .0) in
-    let here = f .ensures ∙ ap (fitsSide (spaceOf (a .page)) (a .permille)) (c .before .before .printed .ensures .0) in
-    ⊎-elim
+    let start : tie.Start Inv-loop μ-loop = search in
+    let turn : tie.In-loop Inv-loop μ-loop = search in
+    let asked : tie.After-fits-side Inv-loop μ-loop = search in
+    let f = asked .fits-side in
+    let l = turn .before .loop in
+    let a = start .args in
+    let left = l .left .now in
+    let long = turn .loop-test .taken in
+    let fewer = length-drop 4 left in
+    let here = f .ensures ∙ ap (fitsSide (spaceOf (a .page)) (a .permille)) (asked .before .printed .ensures .0) in
+    let exceeds = overflow-exceeds (spaceOf (a .page)) (a .title) (a .permille) (a .empty) left long in
+    let fits = overflow-fits (spaceOf (a .page)) (a .title) (a .permille) (a .empty) left long in
+    rw (rest 4 left)
+    (⊎-elim
     (λ w.
-    (search needs, omega (arith, w .1, l .inv .1), omega (arith, w .1, l .inv .2, overflow-exceeds (spaceOf (a .page)) (a .title) (a .permille) (a .empty) (l .i) (a .firsts .now) (a .sizes .now) taken other (sym here ∙ not-true (f .result) (w .0 .taken)))))
+    (omega (arith, w .1, l .inv .0), moderate-rest left (l .inv .1), omega (arith, w .1, l .inv .2, exceeds (sym here ∙ not-true (f .result) (w .0 .taken)))))
     (λ w.
-    (search needs, omega (arith, w .1, l .inv .1), omega (arith, w .1, l .inv .2, overflow-fits (spaceOf (a .page)) (a .title) (a .permille) (a .empty) (l .i) (a .firsts .now) (a .sizes .now) taken other (sym here ∙ not-false (f .result) (w .0 .left)))))
-    (c .if1 .came)
+    (omega (arith, w .1, l .inv .0), moderate-rest left (l .inv .1), omega (arith, w .1, l .inv .2, fits (sym here ∙ not-false (f .result) (w .0 .left)))))
+    (c .before .if1 .came))
 
 returns : tie.Need-returns Inv-loop μ-loop
 returns c =
     let start : tie.Start Inv-loop μ-loop = search in
     let l = c .before .loop in
     let a = start .args in
-    omega (arith, l .inv .2, overflow-end (spaceOf (a .page)) (a .title) (a .permille) (a .empty) (l .i) (a .firsts .now) (a .sizes .now) (c .loop-test .left))
+    omega (arith, l .inv .2, overflow-end (spaceOf (a .page)) (a .title) (a .permille) (a .empty) (l .left .now) (c .loop-test .left))
 
 pub overflowing-runs-spec : {M : Type 1} → statement M
 overflowing-runs-spec =
@@ -85,14 +93,14 @@ overflowing-runs-spec =
     Inv-loop
     μ-loop
     loop-holds
-    mul-printed
     shared-slice-read-printed
-    mul-printed-2
     shared-slice-read-printed-2
     printed-requires
     fits-side-requires
     add-count
-    add-i
+    sub-left
+    part-left-start
+    part-left-end
     loop-less
     loop-again
     returns)

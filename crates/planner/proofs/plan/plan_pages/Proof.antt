@@ -1,46 +1,87 @@
 -- `planner::plan::plan_pages` meets its contract: a no refuses, and else both axes are planned; from that, demand 3. Assumes nothing.
 use mathlib.Core.Path.{_≡_, sym, ap, ap₂, _∙_}
-use mathlib.Core.List.{List, []}
-use Prim.Native.Nat.{ℕ}
+use mathlib.Core.List.{List}
+use Prim.Native.Nat.{ℕ, _≤_, _<_}
 use lib.ListN.{length}
 use lib.Seq.{length-take-le}
 use Rattle.units.specs.Outcome.{given, refused}
-use Rattle.planner_rules.specs.Pages.{RunLists, runLists, evenLists}
-use Rattle.planner_rules.specs.Plan.{AxisInput, rowsOf, columnsOf, lookedAt, axisFor, sidesOutcome, contentSides, firstNo}
+use Rattle.planner_rules.specs.Titles.{limitOf}
+use Rattle.planner_rules.specs.declared.planning.Planning.{Planning}
+use Rattle.planner_rules.specs.Plan.{AxisInput, rowsOf, columnsOf, lookedAt, axisFor, sidesOutcome, contentSides, firstNo, planned, Planned}
+use Rattle.planner_rules.specs.Demand.{CoversPairs, FewestPlan, LargestPlan}
 use Rattle.planner_rules.proofs.Demand.{clauses}
-use Rattle.planner_rules.proofs.PartitionLaws.{even-of}
-use Rattle.planner_rules.proofs.PlanLaws.{formed-of, is-refused, is-asked, refuses-plan, no-breaks, looked, looked-few, ten-of, sides-of, relay-call, rows-fine, columns-fine}
+use Rattle.planner_rules.proofs.PlanLaws.{Asked, is-refused, is-asked, refuses-plan, no-breaks, looked, looked-few, ten-of, sides-of, relay-call, rows-fine, columns-fine}
 use borrow.Author.Needs.{needs}
+use native.Mathlib.Omega.{arith}
 use Rattle.planner.proofs.plan.plan_pages.Statement.{statement}
 use Rattle.planner.proofs.plan.plan_pages.Tie as tie
 
--- both axes as the settings make them, and the lent lists
+-- once the questions 6 to 9 were put: the way back, and both axes as the settings make them
+abbrev start : tie.After-plan-refusal → tie.Start
+start d = search
+
+abbrev row-axis : tie.After-plan-refusal → tie.After-row-range
+row-axis d = search
+
+abbrev column-axis : tie.After-plan-refusal → tie.After-column-range
+column-axis d = d .before
+
 abbrev rows : tie.After-plan-refusal → AxisInput
-rows d = let a = d .before .before .before .before .before .before .before .before .before .before .before .before .before .before .before .before .before .before .before .before .before .before .before .args in rowsOf (a .settings) (a .range) (a .row-title) (a .row-indexes .now) (a .row-sizes .now) (a .merge-first-rows .now) (a .merge-last-rows .now) (a .row-breaks .now)
+rows d =
+    let a = start d .args in
+    rowsOf (a .settings) (a .range) (a .row-title) (a .row-indexes .now) (a .row-sizes .now) (a .merge-first-rows .now) (a .merge-last-rows .now) (a .row-breaks .now)
 
 abbrev columns : tie.After-plan-refusal → AxisInput
-columns d = let a = d .before .before .before .before .before .before .before .before .before .before .before .before .before .before .before .before .before .before .before .before .before .before .before .args in columnsOf (a .settings) (a .range) (a .column-title) (a .column-indexes .now) (a .column-sizes .now) (a .merge-first-columns .now) (a .merge-last-columns .now) (a .column-breaks .now)
+columns d =
+    let a = start d .args in
+    columnsOf (a .settings) (a .range) (a .column-title) (a .column-indexes .now) (a .column-sizes .now) (a .merge-first-columns .now) (a .merge-last-columns .now) (a .column-breaks .now)
 
-abbrev lent-rows : tie.After-plan-refusal → RunLists
-lent-rows d = let a = d .before .before .before .before .before .before .before .before .before .before .before .before .before .before .before .before .before .before .before .before .before .before .before .args in runLists (a .row-run-firsts .now) (a .row-run-lasts .now) (a .row-run-sizes .now) (a .row-run-marks .now)
-
-abbrev lent-columns : tie.After-plan-refusal → RunLists
-lent-columns d = let a = d .before .before .before .before .before .before .before .before .before .before .before .before .before .before .before .before .before .before .before .before .before .before .before .args in runLists (a .column-run-firsts .now) (a .column-run-lasts .now) (a .column-run-sizes .now) (a .column-run-marks .now)
-
--- the first no, of both axes as the settings make them
-asked : (d : tie.After-plan-refusal) → d .plan-refusal .result ≡ firstNo (rows d) (columns d) (evenLists (lent-rows d)) (evenLists (lent-columns d))
-asked d =
-    let a = d .before .before .before .before .before .before .before .before .before .before .before .before .before .before .before .before .before .before .before .before .before .before .before .args in
+-- the first no
+first-no : (d : tie.After-plan-refusal) → d .plan-refusal .result ≡ firstNo (rows d) (columns d)
+first-no d =
+    let a = start d .args in
     d .plan-refusal .ensures
-    ∙ ap₂ (firstNo (axisFor (d .before .before .row-range .result) (a .row-indexes .now) (a .row-sizes .now) (a .merge-first-rows .now) (a .merge-last-rows .now) []) (axisFor (d .before .column-range .result) (a .column-indexes .now) (a .column-sizes .now) (a .merge-first-columns .now) (a .merge-last-columns .now) [])) (d .before .before .before .before .lists-even .ensures) (d .before .before .before .lists-even2 .ensures)
-    ∙ no-breaks (d .before .before .row-range .result) (d .before .column-range .result) (a .row-indexes .now) (a .row-sizes .now) (a .merge-first-rows .now) (a .merge-last-rows .now) (lookedAt (a .settings .fit) (a .row-breaks .now)) (a .column-indexes .now) (a .column-sizes .now) (a .merge-first-columns .now) (a .merge-last-columns .now) (lookedAt (a .settings .fit) (a .column-breaks .now)) (evenLists (lent-rows d)) (evenLists (lent-columns d))
-    ∙ ap₂ (λ (x y : AxisInput). firstNo x y (evenLists (lent-rows d)) (evenLists (lent-columns d))) (d .before .before .row-range .ensures (a .row-indexes .now) (a .row-sizes .now) (a .merge-first-rows .now) (a .merge-last-rows .now) (a .row-breaks .now)) (d .before .column-range .ensures (a .column-indexes .now) (a .column-sizes .now) (a .merge-first-columns .now) (a .merge-last-columns .now) (a .column-breaks .now))
+    ∙ no-breaks (row-axis d .row-range .result) (column-axis d .column-range .result) (a .row-indexes .now) (a .row-sizes .now) (a .merge-first-rows .now) (a .merge-last-rows .now)
+    (lookedAt (a .settings .fit) (a .row-breaks .now)) (a .column-indexes .now) (a .column-sizes .now) (a .merge-first-columns .now) (a .merge-last-columns .now)
+    (lookedAt (a .settings .fit) (a .column-breaks .now))
+    ∙ ap₂ firstNo (row-axis d .row-range .ensures (a .row-indexes .now) (a .row-sizes .now) (a .merge-first-rows .now) (a .merge-last-rows .now) (a .row-breaks .now))
+    (column-axis d .column-range .ensures (a .column-indexes .now) (a .column-sizes .now) (a .merge-first-columns .now) (a .merge-last-columns .now) (a .column-breaks .now))
 
-lists-even-requires : tie.Need-lists-even-requires
-lists-even-requires c κs = search needs
+-- and where there is none
+all-yes : (d : tie.After-plan-refusal) → d .plan-refusal .result ≤ 0 →
+    let a = start d .args in
+    Asked (a .settings) (rows d) (columns d) (a .row-runs .now) (a .column-runs .now) (d .plan-refusal .result) (first-no d)
+all-yes d h =
+    let a = start d .args in
+    is-asked (a .settings) (rows d) (columns d) (a .row-runs .now) (a .column-runs .now) (d .plan-refusal .result) (first-no d) h
 
-lists-even-requires-2 : tie.Need-lists-even-requires-2
-lists-even-requires-2 c κs = search needs
+-- the four clauses from the first
+four : (d : tie.After-plan-refusal) (r : Planning) (row-runs column-runs : List ℕ) →
+    let a = start d .args in
+    let lent : Type 0 = Planned (planned (a .settings) (rows d) (columns d) (a .row-runs .now) (a .column-runs .now)) r (a .row-runs .now) (a .column-runs .now)
+    row-runs column-runs in
+    lent → lent × (CoversPairs r (rows d) (columns d) row-runs column-runs
+    × (FewestPlan r (a .settings) (rows d) (columns d) row-runs column-runs × LargestPlan r (a .settings) (rows d) (columns d)))
+unfolding limitOf
+four d r row-runs column-runs p =
+    let a = start d .args in
+    clauses (a .settings) (rows d) (columns d) (a .row-runs .now) (a .column-runs .now) row-runs column-runs r (omega arith) (omega arith) p
+
+-- the ways back from later places
+abbrev asked : tie.After-content-sides → tie.After-plan-refusal
+asked s = search
+
+abbrev found : tie.After-plan-axes → tie.After-content-sides
+found p = search
+
+abbrev opened : tie.After-plan-axes → tie.After-sides
+opened p = search
+
+abbrev row-kept : tie.After-plan-axes → tie.After-looked-at
+row-kept p = search
+
+abbrev column-kept : tie.After-plan-axes → tie.After-looked-at2
+column-kept p = search
 
 row-range-requires : tie.Need-row-range-requires
 row-range-requires c κs = search needs
@@ -53,9 +94,10 @@ plan-refusal-requires c κs = search needs
 
 returns : tie.Need-returns
 returns c =
-    let d = c .before in
-    let a = d .before .before .before .before .before .before .before .before .before .before .before .before .before .before .before .before .before .before .before .before .before .before .before .args in
-    clauses (a .settings) (rows d) (columns d) (lent-rows d) (lent-columns d) _ _ _ (refuses-plan _ (d .plan-refusal .result) (lent-rows d) (lent-columns d) (is-refused (a .settings) (rows d) (columns d) (lent-rows d) (lent-columns d) (d .plan-refusal .result) (asked d) (c .if1 .taken)))
+    let d : tie.After-plan-refusal = search in
+    let a = start d .args in
+    let no = is-refused (a .settings) (rows d) (columns d) (a .row-runs .now) (a .column-runs .now) (d .plan-refusal .result) (first-no d) (c .if1 .taken) in
+    four d _ _ _ (refuses-plan _ (d .plan-refusal .result) (a .row-runs .now) (a .column-runs .now) no)
 
 content-sides-requires : tie.Need-content-sides-requires
 content-sides-requires c κs = search needs
@@ -68,10 +110,12 @@ enum-told c = search needs
 
 returns-2 : tie.Need-returns-2
 returns-2 c =
-    let d = c .before .before .before .before in
-    let a = d .before .before .before .before .before .before .before .before .before .before .before .before .before .before .before .before .before .before .before .before .before .before .before .args in
-    let t : contentSides (a .settings) ≡ refused 10 = sym (c .before .before .content-sides .ensures) ∙ ap sidesOutcome (c .enum-told .given .1) in
-    clauses (a .settings) (rows d) (columns d) (lent-rows d) (lent-columns d) _ _ _ (refuses-plan _ 10 (lent-rows d) (lent-columns d) (ten-of (a .settings) (rows d) (columns d) (lent-rows d) (lent-columns d) (d .plan-refusal .result) (asked d) (is-asked (a .settings) (rows d) (columns d) (lent-rows d) (lent-columns d) (d .plan-refusal .result) (asked d) (c .before .before .before .if1 .left)) t))
+    let s : tie.After-content-sides = search in
+    let d = asked s in
+    let a = start d .args in
+    let ten : contentSides (a .settings) ≡ refused 10 = sym (s .content-sides .ensures) ∙ ap sidesOutcome (c .enum-told .given .1) in
+    let no = ten-of (a .settings) (rows d) (columns d) (a .row-runs .now) (a .column-runs .now) (d .plan-refusal .result) (first-no d) (all-yes d (s .before .if1 .left)) ten in
+    four d _ _ _ (refuses-plan _ 10 (a .row-runs .now) (a .column-runs .now) no)
 
 looked-at-requires : tie.Need-looked-at-requires
 looked-at-requires c κs = search needs
@@ -81,63 +125,57 @@ looked-at-requires-2 c κs = search needs
 
 slice-aggregate-plan-axes : tie.Need-slice-aggregate-plan-axes
 slice-aggregate-plan-axes c =
-    let d = c .before .before .before .before .before .before .before .before in
-    let a = d .before .before .before .before .before .before .before .before .before .before .before .before .before .before .before .before .before .before .before .before .before .before .before .args in
-    sym (length-take-le _ (a .row-breaks .now) (looked-few (a .settings .fit) _ (length (a .row-breaks .now)) (c .before .before .looked-at .ensures)))
+    let k : tie.After-looked-at = search in
+    let s : tie.After-content-sides = search in
+    let a = start (asked s) .args in
+    sym (length-take-le _ (a .row-breaks .now) (looked-few (a .settings .fit) _ (length (a .row-breaks .now)) (k .looked-at .ensures)))
 
 slice-aggregate-plan-axes-2 : tie.Need-slice-aggregate-plan-axes-2
 slice-aggregate-plan-axes-2 c =
-    let d = c .before .before .before .before .before .before .before .before .before in
-    let a = d .before .before .before .before .before .before .before .before .before .before .before .before .before .before .before .before .before .before .before .before .before .before .before .args in
-    sym (length-take-le _ (a .column-breaks .now) (looked-few (a .settings .fit) _ (length (a .column-breaks .now)) (c .before .before .looked-at2 .ensures)))
+    let k : tie.After-looked-at2 = search in
+    let s : tie.After-content-sides = search in
+    let a = start (asked s) .args in
+    sym (length-take-le _ (a .column-breaks .now) (looked-few (a .settings .fit) _ (length (a .column-breaks .now)) (k .looked-at2 .ensures)))
 
 plan-axes-requires : tie.Need-plan-axes-requires
 plan-axes-requires c κs =
-    let d = c .before .before .before .before .before .before .before .before .before .before .before .before .before .before .before .before .before in
-    let a = d .before .before .before .before .before .before .before .before .before .before .before .before .before .before .before .before .before .before .before .before .before .before .before .args in
-    let y = is-asked (a .settings) (rows d) (columns d) (lent-rows d) (lent-columns d) (d .plan-refusal .result) (asked d) (c .before .before .before .before .before .before .before .before .before .before .before .before .before .before .before .before .if1 .left) in
-    (rows-fine (d .before .before .row-range .result) (a .settings) (a .range) (a .row-title) (a .row-indexes .now) (a .row-sizes .now) (a .merge-first-rows .now) (a .merge-last-rows .now) (a .row-breaks .now) _ (d .before .before .row-range .ensures) (y .rows-yes), (columns-fine (d .before .column-range .result) (a .settings) (a .range) (a .column-title) (a .column-indexes .now) (a .column-sizes .now) (a .merge-first-columns .now) (a .merge-last-columns .now) (a .column-breaks .now) _ (d .before .column-range .ensures) (y .columns-yes), (even-of (a .row-run-firsts .now) (a .row-run-lasts .now) (a .row-run-sizes .now) (a .row-run-marks .now) (formed-of _ _ (y .rows-yes .is-formed) .lent-even), even-of (a .column-run-firsts .now) (a .column-run-lasts .now) (a .column-run-sizes .now) (a .column-run-marks .now) (formed-of _ _ (y .columns-yes .is-formed) .lent-even))))
+    let s : tie.After-content-sides = search in
+    let d = asked s in
+    let a = start d .args in
+    let y = all-yes d (s .before .if1 .left) in (
+      rows-fine (row-axis d .row-range .result) (a .settings) (a .range) (a .row-title) (a .row-indexes .now) (a .row-sizes .now) (a .merge-first-rows .now) (a .merge-last-rows .now)
+          (a .row-breaks .now) (row-axis d .row-range .ensures) (y .rows-yes),
+      columns-fine (column-axis d .column-range .result) (a .settings) (a .range) (a .column-title) (a .column-indexes .now) (a .column-sizes .now) (a .merge-first-columns .now) (a .merge-last-columns .now)
+          (a .column-breaks .now) (column-axis d .column-range .ensures) (y .columns-yes),
+    )
 
 same-length : tie.Need-same-length
-same-length c = c .before .before .before .before .before .before .before .before .before .before .before .before .before .before .before .before .plan-axes .kept .1 .1 .1 .1 .1 .1 .1 .1 .1 .1 .1 .1 .1 .1 .0
+same-length c = search needs
 
 same-length-2 : tie.Need-same-length-2
-same-length-2 c = c .before .before .before .before .before .before .before .before .before .before .before .before .before .before .before .before .plan-axes .kept .1 .1 .1 .1 .1 .1 .1 .1 .1 .1 .1 .1 .1 .1 .1 .0
-
-same-length-3 : tie.Need-same-length-3
-same-length-3 c = c .before .before .before .before .before .before .before .before .before .before .before .before .before .before .before .before .plan-axes .kept .1 .1 .1 .1 .1 .1 .1 .1 .1 .1 .1 .1 .1 .1 .1 .1 .0
-
-same-length-4 : tie.Need-same-length-4
-same-length-4 c = c .before .before .before .before .before .before .before .before .before .before .before .before .before .before .before .before .plan-axes .kept .1 .1 .1 .1 .1 .1 .1 .1 .1 .1 .1 .1 .1 .1 .1 .1 .1 .0
-
-same-length-5 : tie.Need-same-length-5
-same-length-5 c = c .before .before .before .before .before .before .before .before .before .before .before .before .before .before .before .before .plan-axes .kept .1 .1 .1 .1 .1 .1 .1 .1 .1 .1 .1 .1 .1 .1 .1 .1 .1 .1 .0
-
-same-length-6 : tie.Need-same-length-6
-same-length-6 c = c .before .before .before .before .before .before .before .before .before .before .before .before .before .before .before .before .plan-axes .kept .1 .1 .1 .1 .1 .1 .1 .1 .1 .1 .1 .1 .1 .1 .1 .1 .1 .1 .1 .0
-
-same-length-7 : tie.Need-same-length-7
-same-length-7 c = c .before .before .before .before .before .before .before .before .before .before .before .before .before .before .before .before .plan-axes .kept .1 .1 .1 .1 .1 .1 .1 .1 .1 .1 .1 .1 .1 .1 .1 .1 .1 .1 .1 .1 .0
-
-same-length-8 : tie.Need-same-length-8
-same-length-8 c = c .before .before .before .before .before .before .before .before .before .before .before .before .before .before .before .before .plan-axes .kept .1 .1 .1 .1 .1 .1 .1 .1 .1 .1 .1 .1 .1 .1 .1 .1 .1 .1 .1 .1 .1 .0
+same-length-2 c = search needs
 
 returns-3 : tie.Need-returns-3
 returns-3 c =
-    let d = c .before .before .before .before .before .before .before .before .before .before .before .before .before .before .before .before .before .before .before .before .before .before .before .before .before .before .before .before .before .before .before .before .before .before in
-    let a = d .before .before .before .before .before .before .before .before .before .before .before .before .before .before .before .before .before .before .before .before .before .before .before .args in
-    let y = is-asked (a .settings) (rows d) (columns d) (lent-rows d) (lent-columns d) (d .plan-refusal .result) (asked d) (c .before .before .before .before .before .before .before .before .before .before .before .before .before .before .before .before .before .before .before .before .before .before .before .before .before .before .before .before .before .before .before .before .before .if1 .left) in
-    let t : contentSides (a .settings) ≡ given _ = sym (c .before .before .before .before .before .before .before .before .before .before .before .before .before .before .before .before .before .before .before .before .before .before .before .before .before .before .before .before .before .before .before .before .content-sides .ensures) ∙ ap sidesOutcome (c .before .before .before .before .before .before .before .before .before .before .before .before .before .before .before .before .before .before .before .before .before .before .before .before .before .before .before .before .before .before .sides .given .1) in
-    let ea = ap (λ (bs : List ℕ). axisFor (d .before .before .row-range .result) (a .row-indexes .now) (a .row-sizes .now) (a .merge-first-rows .now) (a .merge-last-rows .now) bs) (looked (a .settings .fit) (a .row-breaks .now) _ (c .before .before .before .before .before .before .before .before .before .before .before .before .before .before .before .before .before .before .before .before .before .before .before .before .before .before .before .before .looked-at .ensures)) ∙ d .before .before .row-range .ensures (a .row-indexes .now) (a .row-sizes .now) (a .merge-first-rows .now) (a .merge-last-rows .now) (a .row-breaks .now) in
-    let eb = ap (λ (bs : List ℕ). axisFor (d .before .column-range .result) (a .column-indexes .now) (a .column-sizes .now) (a .merge-first-columns .now) (a .merge-last-columns .now) bs) (looked (a .settings .fit) (a .column-breaks .now) _ (c .before .before .before .before .before .before .before .before .before .before .before .before .before .before .before .before .before .before .before .before .before .before .before .before .before .before .before .looked-at2 .ensures)) ∙ d .before .column-range .ensures (a .column-indexes .now) (a .column-sizes .now) (a .merge-first-columns .now) (a .merge-last-columns .now) (a .column-breaks .now) in
-    clauses (a .settings) (rows d) (columns d) (lent-rows d) (lent-columns d) _ _ _ (relay-call (a .settings) _ (rows d) (columns d) _ _ (lent-rows d) (lent-columns d) _ _ _ ea eb (sides-of (a .settings) (rows d) (columns d) (lent-rows d) (lent-columns d) (d .plan-refusal .result) (asked d) y _ t) (c .before .before .before .before .before .before .before .before .before .before .before .before .before .before .before .before .plan-axes .ensures))
+    let p : tie.After-plan-axes = search in
+    let s = found p in
+    let d = asked s in
+    let a = start d .args in
+    let t : contentSides (a .settings) ≡ given _ = sym (s .content-sides .ensures) ∙ ap sidesOutcome (opened p .sides .given .1) in
+    let row-breaks = looked (a .settings .fit) (a .row-breaks .now) _ (row-kept p .looked-at .ensures) in
+    let column-breaks = looked (a .settings .fit) (a .column-breaks .now) _ (column-kept p .looked-at2 .ensures) in
+    let ea = ap (λ (bs : List ℕ). axisFor (row-axis d .row-range .result) (a .row-indexes .now) (a .row-sizes .now) (a .merge-first-rows .now) (a .merge-last-rows .now) bs) row-breaks
+    ∙ row-axis d .row-range .ensures (a .row-indexes .now) (a .row-sizes .now) (a .merge-first-rows .now) (a .merge-last-rows .now) (a .row-breaks .now) in
+    let eb = ap (λ (bs : List ℕ). axisFor (column-axis d .column-range .result) (a .column-indexes .now) (a .column-sizes .now) (a .merge-first-columns .now) (a .merge-last-columns .now) bs) column-breaks
+    ∙ column-axis d .column-range .ensures (a .column-indexes .now) (a .column-sizes .now) (a .merge-first-columns .now) (a .merge-last-columns .now) (a .column-breaks .now) in
+    let goes = sides-of (a .settings) (rows d) (columns d) (a .row-runs .now) (a .column-runs .now) (d .plan-refusal .result) (first-no d)
+    (all-yes d (s .before .if1 .left)) _ t in
+    four d _ _ _ (relay-call (a .settings) _ (rows d) (columns d) _ _ (a .row-runs .now) (a .column-runs .now) _ _ _ ea eb goes (p .plan-axes .ensures))
 
 pub plan-pages-spec : {M : Type 1} → statement M
 plan-pages-spec =
     tie.close
     (tie.spec
-    lists-even-requires
-    lists-even-requires-2
     row-range-requires
     column-range-requires
     plan-refusal-requires
@@ -153,10 +191,4 @@ plan-pages-spec =
     plan-axes-requires
     same-length
     same-length-2
-    same-length-3
-    same-length-4
-    same-length-5
-    same-length-6
-    same-length-7
-    same-length-8
     returns-3)

@@ -1,10 +1,10 @@
--- `planner::runs::write_stretch` meets its contract: the parts are lent, and come back with the runs at their fronts. Assumes nothing.
+-- `planner::runs::write_stretch` meets its contract: a part is lent, and comes back with the runs at its front. Assumes nothing.
 use mathlib.Core.Path.{sym, subst}
 use Prim.Native.Nat.{ℕ}
 use native.Mathlib.Omega.{arith}
 use Rattle.planner_rules.specs.Runs.{runs, firstMarked, stretch}
 use Rattle.planner_rules.specs.Slots.{mid}
-use Rattle.planner_rules.specs.Lent.{Room, Written, firsts, lasts, sizes, marks}
+use Rattle.planner_rules.specs.Lent.{Room, Written, flat}
 use Rattle.planner_rules.proofs.Laws.{part, length-part, slots-mid}
 use Rattle.planner_rules.proofs.Lent.{put-rest}
 use borrow.Author.Needs.{needs}
@@ -50,72 +50,21 @@ part-write-runs-start-3 c = search needs
 part-write-runs-end-3 : tie.Need-part-write-runs-end-3
 part-write-runs-end-3 c = search needs
 
-mul-write-runs-4 : tie.Need-mul-write-runs-4
-mul-write-runs-4 c = search needs
-
-sub-write-runs-4 : tie.Need-sub-write-runs-4
-sub-write-runs-4 c = search needs
-
-part-write-runs-start-4 : tie.Need-part-write-runs-start-4
-part-write-runs-start-4 c = search needs
-
-part-write-runs-end-4 : tie.Need-part-write-runs-end-4
-part-write-runs-end-4 c = search needs
-
-mul-write-runs-5 : tie.Need-mul-write-runs-5
-mul-write-runs-5 c = search needs
-
-sub-write-runs-5 : tie.Need-sub-write-runs-5
-sub-write-runs-5 c = search needs
-
-part-write-runs-start-5 : tie.Need-part-write-runs-start-5
-part-write-runs-start-5 c = search needs
-
-part-write-runs-end-5 : tie.Need-part-write-runs-end-5
-part-write-runs-end-5 c = search needs
-
-sub-write-runs-6 : tie.Need-sub-write-runs-6
-sub-write-runs-6 c = search needs
-
-part-write-runs-start-6 : tie.Need-part-write-runs-start-6
-part-write-runs-start-6 c = search needs
-
-part-write-runs-end-6 : tie.Need-part-write-runs-end-6
-part-write-runs-end-6 c = search needs
-
 write-runs-requires : tie.Need-write-runs-requires
 unfolding stretch
 write-runs-requires c κs =
     let s : tie.Start = search in
     let after-mark-of : tie.After-mark-of = search in
-    let a = s .args in
-    let r = s .pre .1 .1 in
-    let f = length-part (a .at) (a .firsts .now) in
-    let l = length-part (a .at) (a .lasts .now) in
-    let t = length-part (a .at) (a .totals .now) in
-    let m = length-part (a .at) (a .marks .now) in (
+    let a = s .args in (
       slots-mid (a .a) (a .e) (a .indexes .now) (a .sizes .now) (s .pre .1 .0 .1) (s .pre .0),
-      subst (λ (mark : ℕ). Room (firstMarked mark (runs (a .k) (a .mfirsts .now) (a .mlasts .now) (mid (a .a) (a .e) (a .indexes .now)) (mid (a .a) (a .e) (a .sizes .now)))) (part (a .at) (a .firsts .now)) (part (a .at) (a .lasts .now)) (part (a .at) (a .totals .now)) (part (a .at) (a .marks .now)))
-          (sym (after-mark-of .mark-of .ensures))
-          (record {
-            room = omega (arith, r .room, f);
-            lasts-even = omega (arith, r .lasts-even, f, l);
-            sizes-even = omega (arith, r .sizes-even, f, t);
-            marks-even = omega (arith, r .marks-even, f, m);
-          }),
+      subst
+          (λ (mark : ℕ). Room (firstMarked mark (runs (a .k) (a .mfirsts .now) (a .mlasts .now) (mid (a .a) (a .e) (a .indexes .now)) (mid (a .a) (a .e) (a .sizes .now))))
+          (part (a .at) (a .list .now)))
+          (sym (after-mark-of .mark-of .ensures)) (omega (arith, s .pre .1 .1, length-part (a .at) (a .list .now))),
     )
 
 same-length : tie.Need-same-length
 same-length c = search needs
-
-same-length-2 : tie.Need-same-length-2
-same-length-2 c = search needs
-
-same-length-3 : tie.Need-same-length-3
-same-length-3 c = search needs
-
-same-length-4 : tie.Need-same-length-4
-same-length-4 c = search needs
 
 returns : tie.Need-returns
 unfolding stretch
@@ -126,14 +75,8 @@ returns c =
     let w = after-write-runs .write-runs in
     let a = start .args in
     let here = stretch (a .k) (a .mfirsts .now) (a .mlasts .now) (a .indexes .now) (a .sizes .now) (a .a) (a .e) in
-    let r : Written here (w .result) (part (a .at) (a .firsts .now)) (part (a .at) (a .lasts .now)) (part (a .at) (a .totals .now)) (part (a .at) (a .marks .now)) _ _ _ _ = rw (after-mark-of .mark-of .ensures) at (w .ensures) in
-    record {
-      count = r .count;
-      firsts-are = put-rest (a .at) (firsts here) (a .firsts .now) _ (r .firsts-are);
-      lasts-are = put-rest (a .at) (lasts here) (a .lasts .now) _ (r .lasts-are);
-      sizes-are = put-rest (a .at) (sizes here) (a .totals .now) _ (r .sizes-are);
-      marks-are = put-rest (a .at) (marks here) (a .marks .now) _ (r .marks-are);
-    }
+    let r : Written here (w .result) (part (a .at) (a .list .now)) _ = rw (after-mark-of .mark-of .ensures) at (w .ensures) in
+    record { count = r .count; list-is = put-rest (a .at) (flat here) (a .list .now) _ (r .list-is) }
 
 pub write-stretch-spec : {M : Type 1} → statement M
 write-stretch-spec =
@@ -152,20 +95,6 @@ write-stretch-spec =
     sub-write-runs-3
     part-write-runs-start-3
     part-write-runs-end-3
-    mul-write-runs-4
-    sub-write-runs-4
-    part-write-runs-start-4
-    part-write-runs-end-4
-    mul-write-runs-5
-    sub-write-runs-5
-    part-write-runs-start-5
-    part-write-runs-end-5
-    sub-write-runs-6
-    part-write-runs-start-6
-    part-write-runs-end-6
     write-runs-requires
     same-length
-    same-length-2
-    same-length-3
-    same-length-4
     returns)

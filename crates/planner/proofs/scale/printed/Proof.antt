@@ -34,6 +34,9 @@ returns-2 c =
     let a = s .args in
     (printed-absent (spaceOf (a .page)) (a .title) (a .empty) (a .first) (a .size) (else1 .if1 .left) (c .before .enum-told .given .1), omega (arith, s .pre .0 .headings-low, s .pre .1))
 
+wide-requires : tie.Need-wide-requires
+wide-requires c κs = search needs
+
 add-result-4 : tie.Need-add-result-4
 add-result-4 c = search needs
 
@@ -45,8 +48,9 @@ returns-3 c =
     let s : tie.Start = search in
     let else1 : tie.Else1 = search in
     let after-title : tie.After-title = search in
+    let after-wide : tie.After-wide = search in
     let a = s .args in
-    (printed-past (spaceOf (a .page)) (a .title) (a .empty) (a .first) (a .size) (else1 .if1 .left) _ _ (after-title .title .given .1) (c .before .before .if2 .taken), omega (arith, s .pre .0 .titles-low, s .pre .0 .headings-low, s .pre .1))
+    (printed-past (spaceOf (a .page)) (a .title) (a .empty) (a .first) (a .size) (else1 .if1 .left) _ _ (after-title .title .given .1) (rw (after-wide .wide .ensures) at (c .before .before .if2 .taken)), omega (arith, s .pre .0 .titles-low, s .pre .0 .headings-low, s .pre .1))
 
 add-result-6 : tie.Need-add-result-6
 add-result-6 c = search needs
@@ -56,8 +60,9 @@ returns-4 c =
     let s : tie.Start = search in
     let else1 : tie.Else1 = search in
     let after-title : tie.After-title = search in
+    let after-wide : tie.After-wide = search in
     let a = s .args in
-    (printed-before (spaceOf (a .page)) (a .title) (a .empty) (a .first) (a .size) (else1 .if1 .left) _ _ (after-title .title .given .1) (c .before .if2 .left), omega (arith, s .pre .0 .headings-low, s .pre .1))
+    (printed-before (spaceOf (a .page)) (a .title) (a .empty) (a .first) (a .size) (else1 .if1 .left) _ _ (after-title .title .given .1) (rw (after-wide .wide .ensures) at (c .before .if2 .left)), omega (arith, s .pre .0 .headings-low, s .pre .1))
 
 pub printed-spec : {M : Type 1} → statement M
 printed-spec =
@@ -70,6 +75,7 @@ printed-spec =
     enum-told
     add-result-3
     returns-2
+    wide-requires
     add-result-4
     add-result-5
     returns-3

@@ -42,6 +42,10 @@ turned e =
     let a = start .args in
     turn (run (a .frame) (a .mfirsts .now) (a .mlasts .now)) (e .run-end .result .slots) (l .is .now) (l .ss .now) (l .inv .0) (in-loop .loop-test .taken) (ap (λ (r : RunEnd). r .slots) (e .run-end .ensures .0)) (e .run-end .ensures .1 .0)
 
+-- the way back to where its end was found
+abbrev ended : tie.After-fits-side Inv-loop μ-loop → tie.After-run-end Inv-loop μ-loop
+ended f = search
+
 -- what was asked of this turn's run
 fits-here : (f : tie.After-fits-side Inv-loop μ-loop) →
     let start : tie.Start Inv-loop μ-loop = search in
@@ -55,10 +59,11 @@ fits-here f =
     let at-loop : tie.At-loop Inv-loop μ-loop = search in
     let e : tie.After-run-end Inv-loop μ-loop = search in
     let after-total : tie.After-total Inv-loop μ-loop = search in
+    let after-wide : tie.After-wide Inv-loop μ-loop = search in
     let l = at-loop .loop in
     let a = start .args in
     let size-is = after-total .total .ensures ∙ ap (λ (r : RunEnd). sum (take (r .slots) (l .ss .now))) (e .run-end .ensures .0) in
-    f .fits-side .ensures ∙ ap (fitsSide (spaceOf (a .page)) (a .permille)) (f .before .printed .ensures .0 ∙ ap (printed (spaceOf (a .page)) (a .frame .title) false (getD (l .is .now) 0 0)) size-is)
+    f .fits-side .ensures ∙ ap (fitsSide (spaceOf (a .page)) (a .permille)) (rw (after-wide .wide .ensures) at (f .before .printed .ensures .0) ∙ ap (printed (spaceOf (a .page)) (a .frame .title) false (getD (l .is .now) 0 0)) size-is)
 
 loop-holds : tie.Need-loop-holds Inv-loop μ-loop
 loop-holds c =
@@ -92,8 +97,11 @@ total-requires c κs =
     let at-loop : tie.At-loop Inv-loop μ-loop = search in
     small-take _ _ (c .before .run-end .ensures .1 .1) (at-loop .loop .inv .0 .small)
 
-shared-slice-read-printed : tie.Need-shared-slice-read-printed Inv-loop μ-loop
-shared-slice-read-printed c = search needs
+shared-slice-read-wide : tie.Need-shared-slice-read-wide Inv-loop μ-loop
+shared-slice-read-wide c = search needs
+
+wide-requires : tie.Need-wide-requires Inv-loop μ-loop
+wide-requires c κs = search needs
 
 printed-requires : tie.Need-printed-requires Inv-loop μ-loop
 printed-requires c κs =
@@ -102,7 +110,8 @@ printed-requires c κs =
     let e : tie.After-run-end Inv-loop μ-loop = search in
     let n = e .run-end .result .slots in
     let l = at-loop .loop in
-    (start .pre .0, omega (arith, c .before .total .ensures, small-sum (take n (l .ss .now)) (small-take n (l .ss .now) (e .run-end .ensures .1 .1) (l .inv .0 .small))))
+    let after-total : tie.After-total Inv-loop μ-loop = search in
+    (start .pre .0, omega (arith, after-total .total .ensures, small-sum (take n (l .ss .now)) (small-take n (l .ss .now) (e .run-end .ensures .1 .1) (l .inv .0 .small))))
 
 fits-side-requires : tie.Need-fits-side-requires Inv-loop μ-loop
 fits-side-requires c κs = c .printed .ensures .1
@@ -148,8 +157,8 @@ loop-again : tie.Need-loop-again Inv-loop μ-loop
 loop-again c =
     let start : tie.Start Inv-loop μ-loop = search in
     let at-loop : tie.At-loop Inv-loop μ-loop = search in
-    let e : tie.After-run-end Inv-loop μ-loop = search in
     let f : tie.After-fits-side Inv-loop μ-loop = search in
+    let e = ended f in
     let n = e .run-end .result .slots in
     let l = at-loop .loop in
     let a = start .args in (
@@ -182,7 +191,8 @@ runs-pass-spec =
     run-end-requires
     slice-aggregate-total
     total-requires
-    shared-slice-read-printed
+    shared-slice-read-wide
+    wide-requires
     printed-requires
     fits-side-requires
     returns-2
