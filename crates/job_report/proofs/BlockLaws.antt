@@ -12,7 +12,7 @@ use Rattle.planner_rules.specs.declared.pages.Page.{Page}
 use Rattle.planner_rules.specs.declared.pages.Plan.{Plan}
 use Rattle.planner_rules.specs.declared.pages.PageAnswer.{PageAnswer}
 use Rattle.planner_rules.specs.declared.pages.PageAnswer.the-variants.{Value, Refused}
-use Rattle.planner_rules.specs.Pages.{RunLists, pageNumbered, pageOutcome}
+use Rattle.planner_rules.specs.Pages.{pageNumbered, pageOutcome}
 use Rattle.planner_rules.proofs.QuestionLaws.{both}
 use Rattle.job_report.specs.Lines.{pageLine}
 use Rattle.job_report.specs.Blocks.{lineIfGiven, pageLines, isThere, BlockOf}
@@ -32,7 +32,7 @@ shut-told next end last top e h l =
     let z : _≡_ {A = ℕ} 0 1 = cc in
     omega arith
 
-module _ (p : Plan) (rows columns : RunLists) where
+module _ (p : Plan) (rows columns : List ℕ) where
   -- the lines of a pages, then those of b more, are the lines of all
   pub lines-then : (n a b : ℕ) → pageLines p rows columns n (a + b) ≡ pageLines p rows columns n a ++ pageLines p rows columns (n + a) b
   unfolding pageLines
@@ -40,7 +40,8 @@ module _ (p : Plan) (rows columns : RunLists) where
   lines-then n (suc a) b =
       let e : n + suc a ≡ suc n + a = omega arith in
       let z : suc a + b ≡ suc (a + b) = omega arith in
-      rw (e, z, lines-then (suc n) a b) (sym (append-assoc (lineIfGiven n (pageNumbered p rows columns n)) (pageLines p rows columns (suc n) a) (pageLines p rows columns (suc n + a) b)))
+      let first = lineIfGiven n (pageNumbered p rows columns n) in
+      rw (e, z, lines-then (suc n) a b) (sym (append-assoc first (pageLines p rows columns (suc n) a) (pageLines p rows columns (suc n + a) b)))
 
   one-line : (n : ℕ) (page : Page) → pageNumbered p rows columns n ≡ given page → pageLines p rows columns n 1 ≡ pageLine n page
   unfolding pageLines
@@ -68,8 +69,8 @@ module _ (p : Plan) (rows columns : RunLists) where
 
   module _ (from : ℕ) (out : List ℕ) (next end : ℕ) (w : Telling from out next end) (answer : PageAnswer)
       (asked : pageOutcome answer ≡ pageNumbered p rows columns next) where
-    pub telling-more : (page : Page) (out′ : List ℕ) (end′ : ℕ) → answer ≡ Value page → end ≤ 65280 → end′ ≤ end + 194 → length out ≡ 65536 → length out′ ≡ length out
-        → take end′ out′ ≡ take end out ++ pageLine next page → Telling from out′ (next + 1) end′
+    pub telling-more : (page : Page) (out′ : List ℕ) (end′ : ℕ) → answer ≡ Value page → end ≤ 65280 → end′ ≤ end + 194
+        → length out ≡ 65536 → length out′ ≡ length out → take end′ out′ ≡ take end out ++ pageLine next page → Telling from out′ (next + 1) end′
     telling-more page out′ end′ a h l long s e =
         let f = w .onward in
         let is : pageNumbered p rows columns next ≡ given page = sym asked ∙ ap pageOutcome a in
@@ -98,7 +99,8 @@ module _ (p : Plan) (rows columns : RunLists) where
         }
 
   -- there is no room, or no next number
-  pub telling-full : (from : ℕ) (out : List ℕ) (next end : ℕ) → Telling from out next end → (end ≤ 65280 → next < 2 ^ 64 - 1 → ⊥) → BlockOf p rows columns from (record { next = next; end = end }) out
+  pub telling-full : (from : ℕ) (out : List ℕ) (next end : ℕ) → Telling from out next end → (end ≤ 65280 → next < 2 ^ 64 - 1 → ⊥)
+      → BlockOf p rows columns from (record { next = next; end = end }) out
   telling-full from out next end w shut =
       record {
         onward = w .onward;

@@ -1,22 +1,21 @@
 -- Blocks one after another tell all pages of a plan. Assumes nothing.
 use mathlib.Core.Path.{_≡_, refl, sym, ap, _∙_}
-use mathlib.Core.Bool.{true, false, _&&_}
+use mathlib.Core.Bool.{true, false}
 use mathlib.Core.List.{List, [], _∷_, _++_}
 use Prim.Native.Nat.{ℕ, zero, suc, _+_, _-_, _≤_, _<_}
 use native.Mathlib.Omega.{arith}
-use lib.Dec.{leb}
 use lib.ListN.{length, take}
 use Rattle.units.specs.Outcome.{given}
 use Rattle.planner_rules.specs.declared.pages.Page.{Page}
 use Rattle.planner_rules.specs.declared.pages.Plan.{Plan}
-use Rattle.planner_rules.specs.Pages.{RunLists, evenLists, pagesOf, pageNumbered, numbered}
+use Rattle.planner_rules.specs.Pages.{holdsRuns, pagesOf, pageNumbered, numbered}
 use Rattle.planner_rules.proofs.PageLaws.{numbered-past}
 use Rattle.job_report.specs.declared.blocks.Block.{Block}
 use Rattle.job_report.specs.Blocks.{pageLines, linesFrom, isThere, BlockOf}
 use Rattle.job_report.proofs.BlockLaws.{lines-then}
 use Rattle.planner_rules.proofs.Laws.{split}
 
-module _ (p : Plan) (rows columns : RunLists) where
+module _ (p : Plan) (rows columns : List ℕ) where
   joined : (from middle next : ℕ) (bytes : List ℕ) → from ≤ middle → middle ≤ next → bytes ≡ pageLines p rows columns from (middle - from)
       → bytes ++ pageLines p rows columns middle (next - middle) ≡ pageLines p rows columns from (next - from)
   joined from middle next bytes f g e =
@@ -34,10 +33,9 @@ module _ (p : Plan) (rows columns : RunLists) where
       rw (first, lines-of pages (suc j) (λ n. let z : suc n + suc j ≡ suc (suc n) + j = omega arith in rw z (f (suc n))))
 
   -- "it takes pages one by one by number": the lines from number 1 on, as many as there are pages, are the lines of all pages in their order
-  pub all-told : (evenLists rows && evenLists columns) ≡ true → (leb (p .«row_runs») (length (rows .firsts)) && leb (p .«column_runs») (length (columns .firsts))) ≡ true
-      → pageLines p rows columns 1 (length (pagesOf p rows columns)) ≡ linesFrom 1 (pagesOf p rows columns)
+  pub all-told : holdsRuns p rows columns ≡ true → pageLines p rows columns 1 (length (pagesOf p rows columns)) ≡ linesFrom 1 (pagesOf p rows columns)
   unfolding pageNumbered
-  all-told six eleven = lines-of (pagesOf p rows columns) 0 (λ n. let z : suc n + 0 ≡ suc n = omega arith in rw (z, six, eleven))
+  all-told eleven = lines-of (pagesOf p rows columns) 0 (λ n. let z : suc n + 0 ≡ suc n = omega arith in rw (z, eleven))
 
   -- ---- blocks up to the end
 
@@ -66,14 +64,13 @@ module _ (p : Plan) (rows columns : RunLists) where
         lines-are = rw (w .lines-are) (joined from (a .next) next (take (a .end) x) (v .onward) (w .onward) (v .lines-are));
       }
 
-  module _ (six : (evenLists rows && evenLists columns) ≡ true)
-      (eleven : (leb (p .«row_runs») (length (rows .firsts)) && leb (p .«column_runs») (length (columns .firsts))) ≡ true) where
+  module _ (eleven : holdsRuns p rows columns ≡ true) where
     abbrev pages : List Page
     pages = pagesOf p rows columns
 
     asked : (n : ℕ) → pageNumbered p rows columns n ≡ numbered pages n
     unfolding pageNumbered
-    asked n = rw (six, eleven)
+    asked n = rw eleven
 
     some : (xs : List Page) (n : ℕ) → 1 ≤ n → n ≤ length xs → isThere (numbered xs n) ≡ true
     unfolding numbered
@@ -100,4 +97,4 @@ module _ (p : Plan) (rows columns : RunLists) where
         split next (suc (length pages))
         (λ l. omega arith)
         (λ l. absurd (never (next - 1) (w .there (next - 1) (omega arith) (omega arith)) (past (next - 1) (omega arith))))) in
-        w .lines-are ∙ ap (pageLines p rows columns 1) all ∙ all-told six eleven
+        w .lines-are ∙ ap (pageLines p rows columns 1) all ∙ all-told eleven

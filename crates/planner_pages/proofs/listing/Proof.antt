@@ -1,25 +1,24 @@
 -- `planner_pages::listing` meets its contract: its first no refuses, and else there is the count. Assumes nothing.
-use Rattle.planner_rules.specs.Pages.{RunLists, runLists}
+use mathlib.Core.Path.{_≡_}
+use Rattle.planner_rules.specs.Lent.{roomIn}
+use Rattle.planner_rules.specs.Pages.{listsNo}
 use Rattle.planner_rules.proofs.ListLaws.{list-refused, list-long, list-fits}
 use borrow.Author.Needs.{needs}
 use Rattle.planner_pages.proofs.listing.Statement.{statement}
 use Rattle.planner_pages.proofs.listing.Tie as tie
 
-abbrev rows : tie.After-lists-no → RunLists
-rows f =
+-- what is asked of the lists, by their room
+asked : (f : tie.After-lists-no) →
     let start : tie.Start = search in
-    let a = start .args in runLists (a .row-firsts .now) (a .row-lasts .now) (a .row-sizes .now) (a .row-marks .now)
+    let a = start .args in
+    f .lists-no .result ≡ listsNo (a .plan) (roomIn (a .row-runs .now)) (roomIn (a .column-runs .now))
+asked f = let rows : tie.After-room-in = search in rw (rows .room-in .ensures, f .before .room-in2 .ensures) at (f .lists-no .ensures)
 
-abbrev columns : tie.After-lists-no → RunLists
-columns f =
-    let start : tie.Start = search in
-    let a = start .args in runLists (a .column-firsts .now) (a .column-lasts .now) (a .column-sizes .now) (a .column-marks .now)
+room-in-requires : tie.Need-room-in-requires
+room-in-requires c κs = search needs
 
-lists-even-requires : tie.Need-lists-even-requires
-lists-even-requires c κs = search needs
-
-lists-even-requires-2 : tie.Need-lists-even-requires-2
-lists-even-requires-2 c κs = search needs
+room-in-requires-2 : tie.Need-room-in-requires-2
+room-in-requires-2 c κs = search needs
 
 lists-no-requires : tie.Need-lists-no-requires
 lists-no-requires c κs = search needs
@@ -27,9 +26,9 @@ lists-no-requires c κs = search needs
 returns : tie.Need-returns
 returns c =
     let start : tie.Start = search in
-    let f = c .before in
+    let f : tie.After-lists-no = search in
     let a = start .args in
-    list-refused (a .plan) (a .room) (rows f) (columns f) (f .before .before .lists-even .result) (f .before .lists-even2 .result) (f .lists-no .result) (f .before .before .lists-even .ensures) (f .before .lists-even2 .ensures) (f .lists-no .ensures) (c .if1 .taken)
+    list-refused (a .plan) (a .room) (a .row-runs .now) (a .column-runs .now) (f .lists-no .result) (asked f) (c .if1 .taken)
 
 page-count-requires : tie.Need-page-count-requires
 page-count-requires c κs = search needs
@@ -38,24 +37,28 @@ returns-2 : tie.Need-returns-2
 returns-2 c =
     let start : tie.Start = search in
     let f : tie.After-lists-no = search in
+    let else1 : tie.Else1 = search in
+    let d : tie.After-page-count = search in
     let a = start .args in
-    list-long (a .plan) (a .room) (rows f) (columns f) (f .before .before .lists-even .result) (f .before .lists-even2 .result) (f .lists-no .result) (f .before .before .lists-even .ensures) (f .before .lists-even2 .ensures) (f .lists-no .ensures)
-    (c .before .before .if1 .left) (c .before .page-count .result) (c .before .page-count .ensures) (c .if2 .taken)
+    list-long (a .plan) (a .room) (a .row-runs .now) (a .column-runs .now) (f .lists-no .result) (asked f) (else1 .if1 .left)
+    (d .page-count .result) (d .page-count .ensures) (c .if2 .taken)
 
 returns-3 : tie.Need-returns-3
 returns-3 c =
     let start : tie.Start = search in
     let f : tie.After-lists-no = search in
+    let else1 : tie.Else1 = search in
+    let d : tie.After-page-count = search in
     let a = start .args in
-    list-fits (a .plan) (a .room) (rows f) (columns f) (f .before .before .lists-even .result) (f .before .lists-even2 .result) (f .lists-no .result) (f .before .before .lists-even .ensures) (f .before .lists-even2 .ensures) (f .lists-no .ensures)
-    (c .before .before .if1 .left) (c .before .page-count .result) (c .before .page-count .ensures) (c .if2 .left)
+    list-fits (a .plan) (a .room) (a .row-runs .now) (a .column-runs .now) (f .lists-no .result) (asked f) (else1 .if1 .left)
+    (d .page-count .result) (d .page-count .ensures) (c .if2 .left)
 
 pub listing-spec : {M : Type 1} → statement M
 listing-spec =
     tie.close
     (tie.spec
-    lists-even-requires
-    lists-even-requires-2
+    room-in-requires
+    room-in-requires-2
     lists-no-requires
     returns
     page-count-requires

@@ -1,6 +1,6 @@
--- `job_report::blocks::page_block` meets its contract. The loop's invariant: the lines of the pages up to the next stand before the end. The measure is how many numbers are left. Assumes nothing.
+-- `job_report::blocks::page_block` meets its contract. The loop's invariant: the lines of the pages up to the next stand before the end. The
+-- measure is how many numbers are left. Assumes nothing.
 use Prim.Native.Nat.{_-_, _^_}
-use Rattle.planner_rules.specs.Pages.{runLists}
 use Rattle.job_report.proofs.BlockLaws.{Telling, telling-none, telling-more, telling-refused, telling-full, open-told, shut-told}
 use borrow.Author.Needs.{needs}
 use native.Mathlib.Omega.{arith}
@@ -8,11 +8,10 @@ use Rattle.job_report.proofs.blocks.page_block.Statement.{statement}
 use Rattle.job_report.proofs.blocks.page_block.Tie as tie
 
 abbrev Inv-loop : tie.InvT-loop
-Inv-loop plan from row-firsts row-lasts row-sizes row-marks column-firsts column-lasts column-sizes column-marks out₀ next₀ end₀ out next end =
-    Telling plan (runLists row-firsts row-lasts row-sizes row-marks) (runLists column-firsts column-lasts column-sizes column-marks) from out next end
+Inv-loop plan from row-runs column-runs out₀ next₀ end₀ out next end = Telling plan row-runs column-runs from out next end
 
 abbrev μ-loop : tie.MeasureT-loop
-μ-loop plan from row-firsts row-lasts row-sizes row-marks column-firsts column-lasts column-sizes column-marks out₀ next₀ end₀ out next end = 2 ^ 64 - next
+μ-loop plan from row-runs column-runs out₀ next₀ end₀ out next end = 2 ^ 64 - next
 
 loop-holds : tie.Need-loop-holds Inv-loop μ-loop
 loop-holds c = telling-none _ _ _ _ _
@@ -28,8 +27,8 @@ enum-told c = search needs
 
 returns : tie.Need-returns Inv-loop μ-loop
 returns c =
-    let n = c .before .before in
-    let l = n .before .before in
+    let n : tie.After-page-numbered Inv-loop μ-loop = search in
+    let l : tie.At-loop Inv-loop μ-loop = search in
     telling-refused _ _ _ _ _ _ _ (l .loop .inv) (n .page-numbered .result) (n .page-numbered .ensures) _ (c .enum-told .given .1)
 
 page-at-requires : tie.Need-page-at-requires Inv-loop μ-loop
@@ -58,7 +57,8 @@ loop-again c =
     let after-answer : tie.After-answer Inv-loop μ-loop = search in
     let l = t .before in
     let o = open-told (l .loop .next) (l .loop .end) _ _ (t .loop-test .taken) in
-    telling-more _ _ _ _ _ _ _ (l .loop .inv) (n .page-numbered .result) (n .page-numbered .ensures) _ _ _ (after-answer .answer .given .1) (omega (arith, o .0)) (c .page-at .ensures .1) (omega arith) (c .page-at .kept .0) (c .page-at .ensures .0)
+    telling-more _ _ _ _ _ _ _ (l .loop .inv) (n .page-numbered .result) (n .page-numbered .ensures) _ _ _ (after-answer .answer .given .1)
+    (omega (arith, o .0)) (c .page-at .ensures .1) (omega arith) (c .page-at .kept .0) (c .page-at .ensures .0)
 
 returns-2 : tie.Need-returns-2 Inv-loop μ-loop
 returns-2 c =
