@@ -1,16 +1,13 @@
 -- "The reader and the plan agree": the plan of a job's bytes is the planner's plan of what was read. Assumes nothing.
-use mathlib.Core.Path.{_≡_, refl, sym, ap, ap₂, _∙_}
-use mathlib.Core.Bool.{Bool, true, false, true≢false, _&&_}
+use mathlib.Core.Path.{_≡_, sym, ap, _∙_}
+use mathlib.Core.Bool.{true}
 use mathlib.Core.List.{List}
 use Prim.Native.Nat.{ℕ}
 use lib.ListN.{take}
-use Rattle.units.specs.Outcome.{Outcome, given, refused, andThen}
+use Rattle.units.specs.Outcome.{Outcome, given, andThen}
 use Rattle.planner_rules.specs.declared.planning.Settings.{Settings}
-use Rattle.planner_rules.specs.Questions.{ask, equallyLong}
-use Rattle.planner_rules.specs.Pages.{RunLists, evenLists}
-use Rattle.planner_rules.specs.Plan.{AxisInput, Layout, formed, planned}
+use Rattle.planner_rules.specs.Plan.{AxisInput, planned}
 use Rattle.planner_rules.proofs.QuestionLaws.{both}
-use Rattle.planner_rules.proofs.PlanLaws.{formed-of}
 use Rattle.job_questions.specs.declared.Items.{Items}
 use Rattle.job_reader.specs.declared.lists.Job.{Job}
 use Rattle.job_reader.specs.declared.lists.Reading.the-variants.{Value}
@@ -24,51 +21,18 @@ use Rattle.job_settings.specs.Meaning.{settingsFor}
 use Rattle.job.specs.PlanJob.{rowsRead, columnsRead, jobSettings, jobRows, jobColumns, planJob}
 use Rattle.job.proofs.JobLaws.{front, settings-for, rows-for, columns-for}
 
--- run lists that are not equally long are refused with 6, by the questions of a job
-uneven-job : (s : List ℕ) → All (questions true s) → verdictLent false s ≡ refused 6
-unfolding verdictLent
-uneven-job s a = rw (a .0, a .1 .0, a .1 .1 .0, a .1 .1 .1 .0, a .1 .1 .1 .1 .0)
+-- a job whose questions 1 to 9 are answered yes
+plan-read : (s : List ℕ) (rows columns : List ℕ) → All (questions true s) → planJob s rows columns ≡ planned (jobSettings s) (jobRows s) (jobColumns s) rows columns
+unfolding planJob verdictLent
+plan-read s rows columns all =
+    ap (λ (o : Outcome Items). andThen o (λ (items : Items). planned (jobSettings s) (jobRows s) (jobColumns s) rows columns))
+    (all-in-order (itemsOf (records s)) 1 (questions true s) all)
 
--- and by those of the planner
-refused-six : (q : Bool) (rest : Outcome Layout) → (q ≡ true → ⊥) → ask 6 q rest ≡ refused 6
-refused-six true rest h = absurd (h refl)
-refused-six false rest h = refl
-
-uneven-plan : (set : Settings) (a b : AxisInput) (rows columns : RunLists) → evenLists rows && evenLists columns ≡ false → planned set a b rows columns ≡ refused 6
-unfolding planned
-uneven-plan set a b rows columns e =
-    refused-six (formed a (evenLists rows) && formed b (evenLists columns) && equallyLong (a .merge-firsts) (b .merge-firsts)) _
-    (λ t.
-    let six = both (formed a (evenLists rows) && formed b (evenLists columns)) (equallyLong (a .merge-firsts) (b .merge-firsts)) t in
-    let each = both (formed a (evenLists rows)) (formed b (evenLists columns)) (six .0) in
-    let x = formed-of a (evenLists rows) (each .0) .lent-even in
-    let y = formed-of b (evenLists columns) (each .1) .lent-even in
-    true≢false (sym (ap₂ _&&_ x y) ∙ e))
-
-module _ (s : List ℕ) (rows columns : RunLists) (yes : All (questions true s)) where
-  abbrev read-plan : Outcome Layout
-  read-plan = planned (jobSettings s) (jobRows s) (jobColumns s) rows columns
-
-  questioned : verdictLent true s ≡ given (itemsOf (records s))
-  unfolding verdictLent
-  questioned = all-in-order (itemsOf (records s)) 1 (questions true s) yes
-
-  either-way : (even : Bool) → evenLists rows && evenLists columns ≡ even → andThen (verdictLent even s) (λ (items : Items). read-plan) ≡ read-plan
-  either-way true e = ap (λ (o : Outcome Items). andThen o (λ (items : Items). read-plan)) questioned
-  either-way false e =
-      ap (λ (o : Outcome Items). andThen o (λ (items : Items). read-plan)) (uneven-job s yes)
-      ∙ sym (uneven-plan (jobSettings s) (jobRows s) (jobColumns s) rows columns e)
-
-  -- a job whose questions 1 to 9 are answered yes, but for the run lists
-  plan-read : planJob s rows columns ≡ read-plan
-  unfolding planJob
-  plan-read = either-way (evenLists rows && evenLists columns) refl
-
-same-plan : (rows columns : RunLists) {s t : Settings} {a c b d : AxisInput} → s ≡ t → a ≡ c → b ≡ d → planned s a b rows columns ≡ planned t c d rows columns
+same-plan : (rows columns : List ℕ) {s t : Settings} {a c b d : AxisInput} → s ≡ t → a ≡ c → b ≡ d → planned s a b rows columns ≡ planned t c d rows columns
 same-plan rows columns e f g = rw (e, f, g)
 
 -- what `read_job` read, planned, is what `plan_job` plans
-module _ (s : List ℕ) (before after : Lists) (j : Job) (rows columns : RunLists) (w : JobRead s (Value j) before after) where
+module _ (s : List ℕ) (before after : Lists) (j : Job) (rows columns : List ℕ) (w : JobRead s (Value j) before after) where
   given-is : given j ≡ inOrder 1 (asked (itemsEven before) (roomIn before) s) (jobOf (records s))
   unfolding readJob
   given-is = w .answer

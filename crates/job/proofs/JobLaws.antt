@@ -1,11 +1,11 @@
 -- What the four clauses of a job's plan follow from: the clauses of the plan of what was read. Assumes nothing.
 use mathlib.Core.Path.{_≡_, refl, sym, ap, ap₂, subst, _∙_}
-use mathlib.Core.Bool.{Bool, true, false, true≢false, _&&_}
+use mathlib.Core.Bool.{Bool, true}
 use mathlib.Core.List.{List}
 use Prim.Native.Nat.{ℕ, _≤_}
 use native.Mathlib.Omega.{arith}
-use lib.ListN.{length, take, length-map, length-append}
-use lib.Seq.{length-take-le}
+use lib.ListN.{length, take, drop, length-map, length-append}
+use lib.Seq.{length-take-le, take-at}
 use borrow.Author.Tests.{eq-eqb}
 use Rattle.units.specs.Outcome.{Outcome, given, refused, andThen}
 use Rattle.planner_rules.specs.declared.pages.Plan.{Plan}
@@ -15,9 +15,7 @@ use Rattle.planner_rules.specs.declared.planning.Planning.{Planning}
 use Rattle.planner_rules.specs.declared.planning.Planning.the-variants.{Refused}
 use Rattle.planner_rules.specs.Slots.{written}
 use Rattle.planner_rules.specs.Partition.{lent}
-use Rattle.planner_rules.specs.Pages.{RunLists, evenLists}
 use Rattle.planner_rules.specs.Plan.{AxisInput, Layout, rowsOf, columnsOf, planned}
-use Rattle.planner_rules.proofs.Lent.{front-written}
 use Rattle.planner_rules.proofs.PlanLaws.{refuses-plan}
 use Rattle.job_questions.specs.declared.Items.{Items}
 use Rattle.job_questions.specs.declared.Checked.the-variants as checked
@@ -26,13 +24,13 @@ use Rattle.job_reader.specs.declared.lists.Job.{Job}
 use Rattle.job_reader.specs.declared.lists.Reading.{Reading}
 use Rattle.job_reader.specs.declared.lists.Reading.the-variants as reading
 use Rattle.job_records.specs.Records.{RW, CL, MR, BR, BC, records, marked, values, field}
-use Rattle.job_questions.specs.Verdict.{verdictLent, question1, questions, itemsOf}
+use Rattle.job_questions.specs.Verdict.{verdictLent, question1, itemsOf}
 use Rattle.job_reader.specs.Settings.{settingsOf}
-use Rattle.job_reader.specs.Reading.{Lists, lists, evenLists as itemsEven, roomIn, fitIn, readJob, jobOf, readingOutcome, JobRead}
-use Rattle.job_reader.proofs.ReadingLaws.{all-given, admit-no, job-refused as not-read}
+use Rattle.job_reader.specs.Reading.{Lists, lists, evenLists as itemsEven, roomIn, readJob, jobOf, readingOutcome, JobRead}
+use Rattle.job_reader.proofs.ReadingLaws.{admit-no, job-refused as not-read}
 use Rattle.job_reader.proofs.ItemRoom.{Brings, items-fit, all-answered, read-whole}
 use Rattle.job_settings.specs.Meaning.{settingsFor, rangeFor}
-use Rattle.job.specs.PlanJob.{rowsRead, columnsRead, jobSettings, jobRows, jobColumns, planJob, planEven, Told, Filled, rowsFrom, columnsFrom, ReadPlanned, EvenPlanned}
+use Rattle.job.specs.PlanJob.{rowsRead, columnsRead, jobSettings, jobRows, jobColumns, planJob, Told, Filled, rowsFrom, columnsFrom, ReadPlanned, Holds, JobPlanned}
 
 -- ---- the four clauses
 
@@ -40,7 +38,7 @@ no-plan : {X : Type 0} (n : ℕ) (plan : Plan) → refused n ≡ given plan → 
 no-plan n plan e = let z : _≡_ {A = ℕ} 0 1 = cc in absurd (omega arith)
 
 -- a refusal: nothing is found in it, and nothing was written
-pub refused-told : (o : Outcome Layout) (s : Settings) (a b : AxisInput) (n : ℕ) (rows columns : RunLists) → o ≡ refused n
+pub refused-told : (o : Outcome Layout) (s : Settings) (a b : AxisInput) (n : ℕ) (rows columns : List ℕ) → o ≡ refused n
     → Told o s a b (Refused n) rows columns rows columns
 refused-told o s a b n rows columns e = (
   refuses-plan o n rows columns e,
@@ -53,48 +51,17 @@ refused-told o s a b n rows columns e = (
   ),
 )
 
--- the clauses of run lists that are equally long
-module _ {s : List ℕ} {r : Planning} {rows₀ columns₀ rows columns : RunLists} where
-  pub even-told : Told (planEven s rows₀ columns₀) (jobSettings s) (jobRows s) (jobColumns s) r rows₀ columns₀ rows columns → EvenPlanned s r rows₀ columns₀ rows columns
-  even-told w = record { planned-so = w .0; covered-so = w .1 .0; fewest-so = w .1 .1 .0; largest-so = w .1 .1 .1 }
-
-  pub told-even : EvenPlanned s r rows₀ columns₀ rows columns → Told (planEven s rows₀ columns₀) (jobSettings s) (jobRows s) (jobColumns s) r rows₀ columns₀ rows columns
-  told-even w = (w .planned-so, (w .covered-so, (w .fewest-so, w .largest-so)))
-
 -- the same outcome
-pub outcome-told : {o p : Outcome Layout} {s : Settings} {a b : AxisInput} → o ≡ p → (r : Planning) (rows₀ columns₀ rows columns : RunLists)
+pub outcome-told : {o p : Outcome Layout} {s : Settings} {a b : AxisInput} → o ≡ p → (r : Planning) (rows₀ columns₀ rows columns : List ℕ)
     → Told o s a b r rows₀ columns₀ rows columns → Told p s a b r rows₀ columns₀ rows columns
 outcome-told e r rows₀ columns₀ rows columns w = rw (← e) w
 
 -- the same settings and axes
-pub same-told : {s t : Settings} {a c b d : AxisInput} → s ≡ t → a ≡ c → b ≡ d → (r : Planning) (rows₀ columns₀ rows columns : RunLists)
+pub same-told : {s t : Settings} {a c b d : AxisInput} → s ≡ t → a ≡ c → b ≡ d → (r : Planning) (rows₀ columns₀ rows columns : List ℕ)
     → Told (planned s a b rows₀ columns₀) s a b r rows₀ columns₀ rows columns → Told (planned t c d rows₀ columns₀) t c d r rows₀ columns₀ rows columns
 same-told f g h r rows₀ columns₀ rows columns w = rw (← f, ← g, ← h) w
 
--- ---- the questions
-
-module _ (s : List ℕ) (rows columns : RunLists) (even : Bool) (e : even ≡ evenLists rows && evenLists columns) where
-  pub job-even : even ≡ true → planEven s rows columns ≡ planJob s rows columns
-  unfolding planEven planJob
-  job-even h = rw (← e, h)
-
-  pub job-uneven : (n : ℕ) → even ≡ false → verdictLent false s ≡ refused n → planJob s rows columns ≡ refused n
-  unfolding planJob
-  job-uneven n h v = rw (← e, h, v)
-
--- run lists that are not equally long are never questioned with yes
-pub never-uneven : {X : Type 0} (s : List ℕ) (items : Items) → verdictLent false s ≡ given items → X
-unfolding verdictLent
-never-uneven s items e =
-    let a = all-given (itemsOf (records s)) 1 (questions false s) items (sym e) in
-    absurd (true≢false (sym (a .1 .1 .1 .1 .1 .0)))
-
 -- ---- what was read
-
--- lists that hold the items of every job that is read
-pub record Holds (s : List ℕ) (l : Lists) : Type 0 where
-  pub even : itemsEven l ≡ true
-  pub room : question1 s ≡ true → fitIn (itemsOf (records s)) (roomIn l) ≡ true
 
 -- lists with room for all that n bytes can bring hold the items of every job that has no more bytes, and is read
 pub holds-of : (n : ℕ) (room : Items) → Brings n room → {s ri rs ci cs fr fc lr lc rb cb : List ℕ} → (question1 s ≡ true → length s ≤ n)
@@ -133,7 +100,7 @@ pub record Front (k f : ℕ) (s : List ℕ) (n : ℕ) (new : List ℕ) : Type 0 
 
 -- the job that was read, and the lists
 pub record ReadOf (s : List ℕ) (j : Job) (after : Lists) : Type 0 where
-  pub plan-is : (rows columns : RunLists) → planned (jobSettings s) (jobRows s) (jobColumns s) rows columns ≡ planEven s rows columns
+  pub plan-is : (rows columns : List ℕ) → planned (jobSettings s) (jobRows s) (jobColumns s) rows columns ≡ planJob s rows columns
   pub settings-are : j .settings ≡ settingsOf (records s)
   pub row-indexes : Front RW 0 s (j .items .rows) (after .row-indexes)
   pub row-sizes : Front RW 1 s (j .items .rows) (after .row-sizes)
@@ -152,7 +119,7 @@ module _ (s : List ℕ) (o : Outcome Job) (j : Job) (given-is : o ≡ given j) w
       let w : new ≡ written (values k f (records s)) old = rw given-is at i in
       record {
         few = rw w (simp length-append (omega (arith, m, length-map (marked k (records s)) (field f))));
-        is = rw m (front-written (field f) (marked k (records s)) old new w);
+        is = rw w (take-at (values k f (records s)) (drop (length (values k f (records s))) old) n (length-map (marked k (records s)) (field f) ∙ sym m));
       }
 
 module _ (s : List ℕ) {before : Lists} (holds : Holds s before) where
@@ -167,8 +134,8 @@ module _ (s : List ℕ) {before : Lists} (holds : Holds s before) where
           sym (not-read s before (checked.Refused n) n (admit-no (itemsEven before) s (roomIn before) (checked.Refused n) v n refl) refl .answer)
 
   -- a no refuses the plan
-  pub read-no : (rows columns : RunLists) (r : Reading) (n : ℕ) → readingOutcome r ≡ readJob s before → r ≡ reading.Refused n → planEven s rows columns ≡ refused n
-  unfolding planEven
+  pub read-no : (rows columns : List ℕ) (r : Reading) (n : ℕ) → readingOutcome r ≡ readJob s before → r ≡ reading.Refused n → planJob s rows columns ≡ refused n
+  unfolding planJob
   read-no rows columns r n e k = go (verdictLent true s) (sym (ap readingOutcome k) ∙ e ∙ read-as)
     where
       go : (o : Outcome Items) → refused n ≡ andThen o (λ (items : Items). given (jobOf (records s)))
@@ -178,12 +145,12 @@ module _ (s : List ℕ) {before : Lists} (holds : Holds s before) where
 
   -- else the job is what was read
   read-yes : (j : Job) → given j ≡ readJob s before
-      → (j ≡ jobOf (records s)) × ((rows columns : RunLists) → planned (jobSettings s) (jobRows s) (jobColumns s) rows columns ≡ planEven s rows columns)
-  unfolding planEven
+      → (j ≡ jobOf (records s)) × ((rows columns : List ℕ) → planned (jobSettings s) (jobRows s) (jobColumns s) rows columns ≡ planJob s rows columns)
+  unfolding planJob
   read-yes j e = go (verdictLent true s) (e ∙ read-as)
     where
       go : (o : Outcome Items) → given j ≡ andThen o (λ (items : Items). given (jobOf (records s)))
-          → (j ≡ jobOf (records s)) × ((rows columns : RunLists) → planned (jobSettings s) (jobRows s) (jobColumns s) rows columns
+          → (j ≡ jobOf (records s)) × ((rows columns : List ℕ) → planned (jobSettings s) (jobRows s) (jobColumns s) rows columns
           ≡ andThen o (λ (items : Items). planned (jobSettings s) (jobRows s) (jobColumns s) rows columns))
       go (given items) h = (cc, λ rows columns. refl)
       go (refused m) h = let z : _≡_ {A = ℕ} 0 1 = cc in absurd (omega arith)
@@ -232,7 +199,7 @@ module _ (s : List ℕ) (j : JobSettings) (e : j ≡ settingsOf (records s)) whe
 
 -- the planner's answer for settings and a range that were made of the job's
 pub read-told : (j : JobSettings) (set : Settings) (g : PrintRange) (ri rs ci cs fr fc lr lc rb cb : List ℕ) → set ≡ settingsFor j → g ≡ rangeFor (j .range)
-    → (r : Planning) (rows₀ columns₀ rows columns : RunLists)
+    → (r : Planning) (rows₀ columns₀ rows columns : List ℕ)
     → (let a = rowsOf set g (j .«row_title») ri rs fr lr rb in
     let b = columnsOf set g (j .«column_title») ci cs fc lc cb in
     Told (planned set a b rows₀ columns₀) set a b r rows₀ columns₀ rows columns)
@@ -246,14 +213,14 @@ read-told j set g ri rs ci cs fr fc lr lc rb cb e f r rows₀ columns₀ rows co
     r rows₀ columns₀ rows columns w
 
 -- a reading that is refused, and one that is planned
-pub planned-no : {got : Reading} {n : ℕ} → got ≡ reading.Refused n → (l : Lists) (rows columns : RunLists) → ReadPlanned got l (Refused n) rows columns rows columns
+pub planned-no : {got : Reading} {n : ℕ} → got ≡ reading.Refused n → (l : Lists) (rows columns : List ℕ) → ReadPlanned got l (Refused n) rows columns rows columns
 planned-no k l rows columns = record {
   no = λ m e. (cc, (refl, refl));
   yes = λ j e. let z : _≡_ {A = ℕ} 0 1 = cc in absurd (omega arith);
 }
 
 module _ {got : Reading} {j : Job} (k : got ≡ reading.Value j) (l : Lists) {set : Settings} {g : PrintRange} (e : set ≡ settingsFor (j .settings)) (f : g ≡ rangeFor (j .settings .range)) where
-  pub planned-yes : (r : Planning) (rows₀ columns₀ rows columns : RunLists)
+  pub planned-yes : (r : Planning) (rows₀ columns₀ rows columns : List ℕ)
       → (let a = rowsOf set g (j .settings .«row_title») (take (j .items .rows) (l .row-indexes)) (take (j .items .rows) (l .row-sizes))
       (take (j .items .merges) (l .merge-first-rows)) (take (j .items .merges) (l .merge-last-rows)) (take (j .items .«row_breaks») (l .row-breaks)) in
       let b = columnsOf set g (j .settings .«column_title») (take (j .items .columns) (l .column-indexes)) (take (j .items .columns) (l .column-sizes))
@@ -288,19 +255,18 @@ module _ {s : List ℕ} {before after : Lists} (holds : Holds s before) {got : R
         };
   }
 
-  pub job-planned : (r : Planning) (rows₀ columns₀ rows columns : RunLists) → ReadPlanned got after r rows₀ columns₀ rows columns → EvenPlanned s r rows₀ columns₀ rows columns
+  pub job-planned : (r : Planning) (rows₀ columns₀ rows columns : List ℕ) → ReadPlanned got after r rows₀ columns₀ rows columns → JobPlanned s r rows₀ columns₀ rows columns
   job-planned r rows₀ columns₀ rows columns t = go got refl
     where
-      go : (q : Reading) → got ≡ q → EvenPlanned s r rows₀ columns₀ rows columns
+      go : (q : Reading) → got ≡ q → JobPlanned s r rows₀ columns₀ rows columns
       go (reading.Refused n) k =
           let told = t .no n k in
-          rw (told .0, told .1 .0, told .1 .1) (even-told (refused-told _ _ _ _ n rows₀ columns₀ (read-no s holds rows₀ columns₀ got n (w .answer) k)))
+          rw (told .0, told .1 .0, told .1 .1) (refused-told _ _ _ _ n rows₀ columns₀ (read-no s holds rows₀ columns₀ got n (w .answer) k))
       go (reading.Value j) k =
           let f = read-of s holds w k in
           let e = f .settings-are in
-          even-told
-          (outcome-told (f .plan-is rows₀ columns₀) r rows₀ columns₀ rows columns
+          outcome-told (f .plan-is rows₀ columns₀) r rows₀ columns₀ rows columns
           (same-told (settings-for s _ e)
           (rows-for s _ e (f .row-indexes .is) (f .row-sizes .is) (f .merge-first-rows .is) (f .merge-last-rows .is) (f .row-breaks .is))
           (columns-for s _ e (f .column-indexes .is) (f .column-sizes .is) (f .merge-first-columns .is) (f .merge-last-columns .is) (f .column-breaks .is))
-          r rows₀ columns₀ rows columns (t .yes j k)))
+          r rows₀ columns₀ rows columns (t .yes j k))
