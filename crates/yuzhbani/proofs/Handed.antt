@@ -1,6 +1,6 @@
 -- The answer and the numbers of a plan call stand for what was planned, and the page and block calls speak of that plan. Assumes nothing.
 use mathlib.Core.Path.{_≡_, refl, sym, ap, ap₂, _∙_}
-use mathlib.Core.Bool.{Bool, true, false, _&&_}
+use mathlib.Core.Bool.{Bool, true, false}
 use mathlib.Core.List.{List, [], _∷_}
 use Prim.Native.Nat.{ℕ, zero, suc, _≤_}
 use native.Mathlib.Omega.{arith}
@@ -10,13 +10,13 @@ use Rattle.planner_rules.specs.declared.pages.Plan.{Plan}
 use Rattle.planner_rules.specs.declared.planning.Settings.{Settings}
 use Rattle.planner_rules.specs.declared.planning.Planning.{Planning}
 use Rattle.planner_rules.specs.declared.planning.Planning.the-variants.{Value, Refused}
-use Rattle.planner_rules.specs.Pages.{RunLists, evenLists, pageNumbered, pageOutcome}
+use Rattle.planner_rules.specs.Pages.{pageNumbered, pageOutcome}
 use Rattle.planner_rules.specs.Plan.{AxisInput, Layout, Planned, rowsOf, columnsOf, planned, planOutcome}
 use Rattle.planner_rules.specs.Demand.{CoversPairs, FewestPlan, LargestPlan}
 use Rattle.planner_rules.proofs.NoTen.{not-given, plan-numbers}
 use Rattle.job_questions.specs.declared.Items.{Items}
 use Rattle.job_records.specs.Records.{records}
-use Rattle.job_questions.specs.Verdict.{inOrder, questions, itemsOf, verdictLent}
+use Rattle.job_questions.specs.Verdict.{inOrder, questions, itemsOf, verdictLent, verdict}
 use Rattle.job.specs.PlanJob.{jobSettings, jobRows, jobColumns, planJob}
 use Rattle.job_report.specs.declared.blocks.Block.{Block}
 use Rattle.job_report.specs.Blocks.{BlockOf}
@@ -32,23 +32,21 @@ from-first v k n [] e = absurd (not-given v n e)
 from-first v k n (true ∷ qs) e = let i = from-first v (suc k) n qs e in omega (arith, i)
 from-first v k n (false ∷ qs) e = let same : k ≡ n = cc in omega (arith, same)
 
-questions-not-zero : (even : Bool) (s : List ℕ) → verdictLent even s ≡ refused 0 → ⊥
+questions-not-zero : (s : List ℕ) → verdict s ≡ refused 0 → ⊥
 unfolding verdictLent
-questions-not-zero even s e = let i = from-first (itemsOf (records s)) 1 0 (questions even s) e in omega (arith, i)
+questions-not-zero s e = let i = from-first (itemsOf (records s)) 1 0 (questions true s) e in omega (arith, i)
 
-pub plan-not-zero : (s : Settings) (rows columns : AxisInput) (lr lc : RunLists) → planned s rows columns lr lc ≡ refused 0 → ⊥
+pub plan-not-zero : (s : Settings) (rows columns : AxisInput) (lr lc : List ℕ) → planned s rows columns lr lc ≡ refused 0 → ⊥
 plan-not-zero s rows columns lr lc e = omega (arith, plan-numbers s rows columns lr lc 0 e .0)
 
-pub job-not-zero : (s : List ℕ) (rows columns : RunLists) → planJob s rows columns ≡ refused 0 → ⊥
+pub job-not-zero : (s rows columns : List ℕ) → planJob s rows columns ≡ refused 0 → ⊥
 unfolding planJob
-job-not-zero s rows columns e = go (verdictLent (evenLists rows && evenLists columns) s) refl e
+job-not-zero s rows columns e = go (verdict s) refl e
   where
-    go : (o : Outcome Items) → verdictLent (evenLists rows && evenLists columns) s ≡ o
+    go : (o : Outcome Items) → verdict s ≡ o
         → andThen o (λ (items : Items). planned (jobSettings s) (jobRows s) (jobColumns s) rows columns) ≡ refused 0 → ⊥
     go (given items) i j = plan-not-zero (jobSettings s) (jobRows s) (jobColumns s) rows columns j
-    go (refused n) i j =
-        let same : n ≡ 0 = cc in
-        questions-not-zero (evenLists rows && evenLists columns) s (i ∙ ap refused same)
+    go (refused n) i j = let same : n ≡ 0 = cc in questions-not-zero s (i ∙ ap refused same)
 
 -- ---- what was planned, by the answer and the numbers
 
@@ -82,22 +80,29 @@ module _ (o : Outcome Layout) (p : Planning) (old : List ℕ) (e : planOutcome p
       go (refused n) (Refused (suc m)) e never back = refl
 
 -- the three sentences of demand 3, of a planning
-abbrev Demands : Planning → Settings → AxisInput → AxisInput → RunLists → RunLists → Type 0
+abbrev Demands : Planning → Settings → AxisInput → AxisInput → List ℕ → List ℕ → Type 0
 Demands p s rs cs rows columns = CoversPairs p rs cs rows columns × (FewestPlan p s rs cs rows columns × LargestPlan p s rs cs)
 
 -- the clauses of a call that hands a plan over, of those of the call that plans
-pub handed : (o : Outcome Layout) → (o ≡ refused 0 → ⊥) → (s : Settings) (rs cs : AxisInput) (rows₀ columns₀ rows columns : RunLists) (p : Planning) (old : List ℕ) (r : ℕ) (numbers : List ℕ)
+pub handed : (o : Outcome Layout) → (o ≡ refused 0 → ⊥) → (s : Settings) (rs cs : AxisInput) (rows₀ columns₀ rows columns : List ℕ) (p : Planning)
+    (old : List ℕ) (r : ℕ) (numbers : List ℕ)
     → Planned o p rows₀ columns₀ rows columns × Demands p s rs cs rows columns
     → (r ≡ answerOf p) × ((numbers ≡ numbersOf p old) × HadBack p)
     → PlanHanded o r old numbers rows₀ columns₀ rows columns × Demands (told r numbers) s rs cs rows columns
 handed o never s rs cs rows₀ columns₀ rows columns p old r numbers w (a, (n, back)) =
     let e = w .0 .answer in
     let t : told r numbers ≡ p = ap₂ told a n ∙ told-is o p old e never back in (
-      record { answer = a ∙ answer-is o p old e; numbers-are = n ∙ numbers-are o p old e; stands = ap planOutcome t ∙ e; rows-are = w .0 .rows-are; columns-are = w .0 .columns-are },
+      record {
+        answer = a ∙ answer-is o p old e;
+        numbers-are = n ∙ numbers-are o p old e;
+        stands = ap planOutcome t ∙ e;
+        rows-are = w .0 .rows-are;
+        columns-are = w .0 .columns-are;
+      },
       rw t (w .1),
     )
 
--- ---- what is request by numbers
+-- ---- what is asked by numbers
 
 abbrev rowsFor : Request → List ℕ → List ℕ → List ℕ → List ℕ → List ℕ → AxisInput
 rowsFor a is ss fs ls bs = rowsOf (a .settings) (a .range) (a .«row_title») is ss fs ls bs
@@ -105,8 +110,8 @@ rowsFor a is ss fs ls bs = rowsOf (a .settings) (a .range) (a .«row_title») is
 abbrev columnsFor : Request → List ℕ → List ℕ → List ℕ → List ℕ → List ℕ → AxisInput
 columnsFor a is ss fs ls bs = columnsOf (a .settings) (a .range) (a .«column_title») is ss fs ls bs
 
--- the clauses of the planner, of the same that is request
-pub request-same : {a b : Request} → a ≡ b → (ri rz rf rl rb ci cz cf cl cb : List ℕ) (rows₀ columns₀ rows columns : RunLists) (p : Planning)
+-- the clauses of the planner, of the same that is asked
+pub request-same : {a b : Request} → a ≡ b → (ri rz rf rl rb ci cz cf cl cb : List ℕ) (rows₀ columns₀ rows columns : List ℕ) (p : Planning)
     → Planned (planned (a .settings) (rowsFor a ri rz rf rl rb) (columnsFor a ci cz cf cl cb) rows₀ columns₀) p rows₀ columns₀ rows columns
     × Demands p (a .settings) (rowsFor a ri rz rf rl rb) (columnsFor a ci cz cf cl cb) rows columns
     → Planned (planned (b .settings) (rowsFor b ri rz rf rl rb) (columnsFor b ci cz cf cl cb) rows₀ columns₀) p rows₀ columns₀ rows columns
@@ -115,10 +120,10 @@ request-same e ri rz rf rl rb ci cz cf cl cb rows₀ columns₀ rows columns p w
 
 -- ---- the page and the block of the plan that numbers stand for
 
-pub page-handed : {p q : Plan} → p ≡ q → (rows columns : RunLists) (n : ℕ) (a : PageAnswer) → pageOutcome a ≡ pageNumbered p rows columns n
+pub page-handed : {p q : Plan} → p ≡ q → (rows columns : List ℕ) (n : ℕ) (a : PageAnswer) → pageOutcome a ≡ pageNumbered p rows columns n
     → (r : ℕ) (old ns : List ℕ) → PageHanded (pageOutcome a) r old ns → PageHanded (pageNumbered q rows columns n) r old ns
 page-handed e rows columns n a i r old ns w = rw (← e, ← i) w
 
-pub block-handed : {p q : Plan} → p ≡ q → (rows columns : RunLists) (from : ℕ) (r : Block) (out : List ℕ)
+pub block-handed : {p q : Plan} → p ≡ q → (rows columns : List ℕ) (from : ℕ) (r : Block) (out : List ℕ)
     → BlockOf p rows columns from r out → BlockOf q rows columns from r out
 block-handed e rows columns from r out w = rw (← e) w

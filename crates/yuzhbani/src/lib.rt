@@ -1,6 +1,6 @@
 // Plans, pages and their text for a program in another language. `rt staticlib yuzhbani` makes an archive of these calls, which C or Rust
-// can link. A plan is handed over as sixteen numbers and a page as twelve, in the order that `specs/Numbers.antt` of `numbers` says;
-// what is request of a plan as thirty, in the order that `specs/Request.antt` of `request` says.
+// can link. A plan is handed over as sixteen numbers and a page as twelve, in the order that `specs/Numbers.antt` of `yuzhbani_answers` says;
+// what is asked of a plan as thirty, in the order that `specs/Request.antt` of `yuzhbani_request` says.
 use job::plan_job;
 use job_report::head_lines;
 use job_report::page_block;
@@ -65,7 +65,7 @@ pub extern "C" fn yuzhbani_plan(
     put_planning(planning, numbers)
 }
 
-// Plans the pages of lists: what is request as thirty numbers, the measured slots, merges and breaks as ten lists. It answers and writes as
+// Plans the pages of lists: what is asked as thirty numbers, the measured slots, merges and breaks as ten lists. It answers and writes as
 // `yuzhbani_plan` does.
 #[no_mangle]
 pub extern "C" fn yuzhbani_plan_lists(

@@ -11,7 +11,9 @@ page-block-requires : tie.Need-page-block-requires
 page-block-requires c κs = search needs
 
 returns : tie.Need-returns
-returns c = block-handed (c .before .before .before .plan-from .ensures) _ _ _ _ _ (c .page-block .ensures)
+returns c =
+    let d : tie.After-plan-from = search in
+    block-handed (d .plan-from .ensures) _ _ _ _ _ (c .page-block .ensures)
 
 pub yuzhbani-block-spec : {M : Type 1} → statement M
 yuzhbani-block-spec = tie.close (tie.spec plan-from-requires page-block-requires returns)

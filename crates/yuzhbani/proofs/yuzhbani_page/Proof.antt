@@ -15,8 +15,9 @@ put-page-requires c κs = search needs
 
 returns : tie.Need-returns
 returns c =
-    let n = c .before .before in
-    page-handed (c .before .before .before .plan-from .ensures) _ _ _ (n .page-numbered .result) (n .page-numbered .ensures) _ _ _ (c .put-page .ensures)
+    let d : tie.After-plan-from = search in
+    let n : tie.After-page-numbered = search in
+    page-handed (d .plan-from .ensures) _ _ _ (n .page-numbered .result) (n .page-numbered .ensures) _ _ _ (c .put-page .ensures)
 
 pub yuzhbani-page-spec : {M : Type 1} → statement M
 yuzhbani-page-spec =
