@@ -17,7 +17,8 @@ use Rattle.geometry.specs.declared.paper.MarginSetting.{MarginSetting}
 use Rattle.geometry.specs.declared.paper.MarginSetting.the-variants as margin
 use Rattle.units.specs.Outcome.{Outcome, given, refused, andThen}
 use Rattle.units.specs.Units.{lessOf, inchesToFixed}
-use Rattle.geometry.specs.Paper.{Sheet, PaperFound, Placed, letter, sheets, requested, resolved, upright, turned, paperGeometry, usable, allUsable, sideInPixels, shorter, marginsHold, defaultMargins, between, footerAt, placed, contentBetween, contentGeometry}
+use Rattle.geometry.specs.Paper.{Sheet, PaperFound, Placed, letter, sheets, requested, resolved, upright, turned, paperGeometry, usable, allUsable}
+use Rattle.geometry.specs.Paper.{sideInPixels, shorter, marginsHold, defaultMargins, between, footerAt, placed, contentBetween, contentGeometry}
 use Rattle.units.proofs.Signs.{inside}
 use Rattle.geometry.proofs.Floats.{Reaches, Within, SmallUnits, units-given, not-reaching, near-reaches, far-reaches}
 
@@ -101,13 +102,19 @@ upright-given r t =
     let b = lowGiven (inchesToFixed (r .0 .height)) in
     let w = given-is (inchesToFixed (r .0 .width)) (and-l a b t) in
     let h = given-is (inchesToFixed (r .0 .height)) (and-r a b t) in
-    record { paper = record { code = r .0 .code; width = w .0; height = h .0; unknown = r .1 }; is = upright-is r (w .0) (h .0) (w .1) (h .1); wide = w .2; high = h .2 }
+    record {
+      paper = record { code = r .0 .code; width = w .0; height = h .0; unknown = r .1 };
+      is = upright-is r (w .0) (h .0) (w .1) (h .1);
+      wide = w .2;
+      high = h .2;
+    }
 
 pub paper-given : (asked : Setting) (landscape : Bool) → PaperGiven (paperGeometry asked landscape)
 unfolding paperGeometry
 paper-given asked landscape = turn landscape (upright-given (resolved (requested asked) sheets) (sheet-low (requested asked)))
   where
-    turn : (l : Bool) → PaperGiven (upright (resolved (requested asked) sheets)) → PaperGiven (andThen (upright (resolved (requested asked) sheets)) (λ (p : PaperFound). given (turned l p)))
+    turn : (l : Bool) → PaperGiven (upright (resolved (requested asked) sheets))
+        → PaperGiven (andThen (upright (resolved (requested asked) sheets)) (λ (p : PaperFound). given (turned l p)))
     turn true g = record { paper = turned true (g .paper); is = rw (g .is) refl; wide = g .high; high = g .wide }
     turn false g = record { paper = g .paper; is = rw (g .is) refl; wide = g .wide; high = g .high }
 

@@ -5,7 +5,9 @@ use mathlib.Core.Bool.{Bool, true, false, true≢false, not, cond, _&&_, _||_}
 use Prim.Native.Nat.{ℕ, suc, _+_, _-_, _*_, _^_, _≤_, _<_, min, zero-le}
 use native.Mathlib.Omega.{arith}
 use native.Mathlib.Decide.{decLe}
-use native.Mathlib.Nat.{suc-mul, mul-left-comm, mul-one, zero-mul, mul-comm, zero-lt-suc, le-mul-of-pos-right, lt-irrefl, lt-of-lt-of-le, div-lt-iff-lt-mul, div-eq-of-lt, mul-assoc, mul-right-comm, mul-pos, mul-le-mul-right, le-of-mul-le-mul-right, le-trans, le-of-eq, eq-of-mul-eq-mul-right}
+use native.Mathlib.Nat.{suc-mul, mul-left-comm, mul-one, zero-mul, mul-comm, zero-lt-suc, le-mul-of-pos-right, lt-irrefl, lt-of-lt-of-le, div-lt-iff-lt-mul}
+use native.Mathlib.Nat.{div-eq-of-lt, mul-assoc, mul-right-comm, mul-pos, mul-le-mul-right, le-of-mul-le-mul-right, le-trans, le-of-eq}
+use native.Mathlib.Nat.{eq-of-mul-eq-mul-right}
 use lib.Dec.{T, eqb, ltb, eqb→eq, ltb→lt, nltb→le, lit≤}
 use lib.Pow.{pow-pos}
 use lib.IntN.{ℤ, pos}

@@ -84,13 +84,17 @@ pub listed : (k : ℕ) → k < 71 → 0 < getD widths k 0 → upright (resolved 
 unfolding right
 listed k h p =
     found-is (upright (resolved k sheets)) k (getD widths k 0) (getD heights k 0) 0
-    (subst (λ (b : Bool). T (cond b (isFound (upright (resolved k sheets)) k (getD widths k 0) (getD heights k 0) 0) (isFound (upright (resolved k sheets)) 1 835584 1081344 1))) (lt-ltb 0 (getD widths k 0) p) (rule k h))
+    (subst (λ (b : Bool). T
+    (cond b (isFound (upright (resolved k sheets)) k (getD widths k 0) (getD heights k 0) 0) (isFound (upright (resolved k sheets)) 1 835584 1081344 1)))
+    (lt-ltb 0 (getD widths k 0) p) (rule k h))
 
 gap : (k : ℕ) → k < 71 → getD widths k 0 ≤ 0 → upright (resolved k sheets) ≡ given (found 1 835584 1081344 1)
 unfolding right
 gap k h p =
     found-is (upright (resolved k sheets)) 1 835584 1081344 1
-    (subst (λ (b : Bool). T (cond b (isFound (upright (resolved k sheets)) k (getD widths k 0) (getD heights k 0) 0) (isFound (upright (resolved k sheets)) 1 835584 1081344 1))) (le-ltb 0 (getD widths k 0) p) (rule k h))
+    (subst (λ (b : Bool). T
+    (cond b (isFound (upright (resolved k sheets)) k (getD widths k 0) (getD heights k 0) 0) (isFound (upright (resolved k sheets)) 1 835584 1081344 1)))
+    (le-ltb 0 (getD widths k 0) p) (rule k h))
 
 -- ---- past the table: no sheet has such a code
 allBelow : ℕ → List Sheet → Bool

@@ -26,12 +26,15 @@ unfolding contentGeometry contentBetween defaultMargins inchesToFixed mul ofInt 
 letter-content = refl
 
 -- "Left 4.25 with right 4.25 on Letter does not hold."
-half-and-half : marginsHold (pos 835584) (pos 1081344) (record { left = decimal 425 100; right = decimal 425 100; top = decimal 0 1; bottom = decimal 0 1; header = decimal 0 1; footer = decimal 0 1 }) ≡ false
+half-and-half : marginsHold (pos 835584) (pos 1081344)
+    (record { left = decimal 425 100; right = decimal 425 100; top = decimal 0 1; bottom = decimal 0 1; header = decimal 0 1; footer = decimal 0 1 }) ≡ false
 unfolding marginsHold mul add div ofInt round lt le eq
 half-and-half = refl
 
 -- "footer 10.99 on Letter gives -15,401"
-low-footer : contentGeometry (pos 835584) (pos 1081344) (margin.Given (record { left = decimal 0 1; right = decimal 0 1; top = decimal 0 1; bottom = decimal 0 1; header = decimal 0 1; footer = decimal 1099 100 }))
+low-footer : contentGeometry (pos 835584) (pos 1081344)
+    (margin.Given
+    (record { left = decimal 0 1; right = decimal 0 1; top = decimal 0 1; bottom = decimal 0 1; header = decimal 0 1; footer = decimal 1099 100 }))
     ≡ given (record { x = pos 0; y = pos 0; width = pos 835584; height = pos 1081344; header = pos 0; footer = negsuc 15400; invalid = 0 })
 unfolding contentGeometry contentBetween marginsHold inchesToFixed mul add div ofInt round lt le eq inI64
 low-footer = refl

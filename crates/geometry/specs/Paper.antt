@@ -38,7 +38,8 @@ tenDecimals n w h = record { code = n; width = decimal w 10000000000; height = d
 
 -- a sheet by millimetres: each divided by 25.4 as f64
 abbrev pub millimetres : ℕ → ℕ → ℕ → Sheet
-millimetres n w h = record { code = n; width = div binary64 (ofInt binary64 (pos w)) (decimal 254 10); height = div binary64 (ofInt binary64 (pos h)) (decimal 254 10) }
+millimetres n w h =
+    record { code = n; width = div binary64 (ofInt binary64 (pos w)) (decimal 254 10); height = div binary64 (ofInt binary64 (pos h)) (decimal 254 10) }
 
 -- "absent means 1": Letter, 8.5 by 11 inches
 unfoldable pub letter : Sheet
@@ -150,7 +151,8 @@ marginsHold width height m =
 
 -- "the defaults 0.7, 0.7, 0.75, 0.75, 0.3, 0.3"
 unfoldable pub defaultMargins : Margins
-defaultMargins = record { left = decimal 7 10; right = decimal 7 10; top = decimal 75 100; bottom = decimal 75 100; header = decimal 3 10; footer = decimal 3 10 }
+defaultMargins =
+    record { left = decimal 7 10; right = decimal 7 10; top = decimal 75 100; bottom = decimal 75 100; header = decimal 3 10; footer = decimal 3 10 }
 
 -- ---- content
 
@@ -195,5 +197,14 @@ contentGeometry width height (margin.Given m) =
 -- the values or the number that each case of `Content` stands for
 abbrev pub contentOutcome : Content → Outcome Placed
 contentOutcome (Value g) =
-    given (record { x = g .content .x .0; y = g .content .y .0; width = g .content .width .0; height = g .content .height .0; header = g .«header_y» .0; footer = g .«footer_y» .0; invalid = g .«invalid_margins» })
+    given (record {
+      x = g .content .x .0;
+      y = g .content .y .0;
+      width = g .content .width .0;
+      height = g .content .height .0;
+      header = g .«header_y» .0;
+      footer =
+          g .«footer_y» .0;
+      invalid = g .«invalid_margins»;
+    })
 contentOutcome CoordinateOverflow = refused 10

@@ -22,7 +22,8 @@ use Rattle.job.specs.PlanJob.{rowsRead, columnsRead, jobSettings, jobRow
 use Rattle.job.proofs.JobLaws.{front, settings-for, rows-for, columns-for}
 
 -- a job whose questions 1 to 9 are answered yes
-plan-read : (s : List ℕ) (rows columns : List ℕ) → All (questions true s) → planJob s rows columns ≡ planned (jobSettings s) (jobRows s) (jobColumns s) rows columns
+plan-read : (s : List ℕ) (rows columns : List ℕ) → All (questions true s) → planJob s rows columns ≡ planned (jobSettings s) (jobRows s)
+    (jobColumns s) rows columns
 unfolding planJob verdictLent
 plan-read s rows columns all =
     ap (λ (o : Outcome Items). andThen o (λ (items : Items). planned (jobSettings s) (jobRows s) (jobColumns s) rows columns))
@@ -43,15 +44,25 @@ module _ (s : List ℕ) (before after : Lists) (j : Job) (rows columns : List �
   answered : All (questions true s)
   answered =
       let a = all-given (jobOf (records s)) 1 (asked (itemsEven before) (roomIn before) s) j given-is in
-      let six = both (itemsEven before) (question6 true s) (a .1 .1 .1 .1 .1 .0) .1 in
-      (a .0, (a .1 .0, (a .1 .1 .0, (a .1 .1 .1 .0, (a .1 .1 .1 .1 .0, (six, (a .1 .1 .1 .1 .1 .1 .0, (a .1 .1 .1 .1 .1 .1 .1 .0, (a .1 .1 .1 .1 .1 .1 .1 .1 .0, tt)))))))))
+      let six = both (itemsEven before) (question6 true s) (a .1 .1 .1 .1 .1 .0) .1 in (
+        a .0,
+        (
+          a .1 .0,
+          (
+            a .1 .1 .0,
+            (a .1 .1 .1 .0, (a .1 .1 .1 .1 .0, (six, (a .1 .1 .1 .1 .1 .1 .0, (a .1 .1 .1 .1 .1 .1 .1 .0, (a .1 .1 .1 .1 .1 .1 .1 .1 .0, tt)))))),
+          ),
+        ),
+      )
 
   pub plan-agrees : planJob s rows columns
       ≡ planned (settingsFor (j .settings))
       (rowsRead (j .settings) (take (j .items .rows) (after .row-indexes)) (take (j .items .rows) (after .row-sizes))
-      (take (j .items .merges) (after .merge-first-rows)) (take (j .items .merges) (after .merge-last-rows)) (take (j .items .«row_breaks») (after .row-breaks)))
+      (take (j .items .merges) (after .merge-first-rows)) (take (j .items .merges) (after .merge-last-rows))
+      (take (j .items .«row_breaks») (after .row-breaks)))
       (columnsRead (j .settings) (take (j .items .columns) (after .column-indexes)) (take (j .items .columns) (after .column-sizes))
-      (take (j .items .merges) (after .merge-first-columns)) (take (j .items .merges) (after .merge-last-columns)) (take (j .items .«column_breaks») (after .column-breaks)))
+      (take (j .items .merges) (after .merge-first-columns)) (take (j .items .merges) (after .merge-last-columns))
+      (take (j .items .«column_breaks») (after .column-breaks)))
       rows columns
   plan-agrees =
       let q : readJob s before ≡ given j = sym (w .answer) in

@@ -30,7 +30,8 @@ use Rattle.job_reader.specs.Reading.{Lists, lists, evenLists as itemsEven, room
 use Rattle.job_reader.proofs.ReadingLaws.{admit-no, job-refused as not-read}
 use Rattle.job_reader.proofs.ItemRoom.{Brings, items-fit, all-answered, read-whole}
 use Rattle.job_settings.specs.Meaning.{settingsFor, rangeFor}
-use Rattle.job.specs.PlanJob.{rowsRead, columnsRead, jobSettings, jobRows, jobColumns, planJob, Told, Filled, rowsFrom, columnsFrom, ReadPlanned, Holds, JobPlanned}
+use Rattle.job.specs.PlanJob.{rowsRead, columnsRead, jobSettings, jobRows, jobColumns, planJob, Told, Filled, rowsFrom, columnsFrom, ReadPlanned, Holds}
+use Rattle.job.specs.PlanJob.{JobPlanned}
 
 -- ---- the four clauses
 
@@ -85,13 +86,15 @@ abbrev pub small : Items
 small = record { rows = 150; columns = 175; merges = 150; «row_breaks» = 350; «column_breaks» = 525 }
 
 pub small-brings : Brings 2100 small
-small-brings = record { rows-held = omega arith; columns-held = omega arith; merges-held = omega arith; row-breaks-held = omega arith; column-breaks-held = omega arith }
+small-brings =
+    record { rows-held = omega arith; columns-held = omega arith; merges-held = omega arith; row-breaks-held = omega arith; column-breaks-held = omega arith }
 
 abbrev pub large : Items
 large = record { rows = 4285; columns = 5000; merges = 4285; «row_breaks» = 10000; «column_breaks» = 15000 }
 
 pub large-brings : Brings 60000 large
-large-brings = record { rows-held = omega arith; columns-held = omega arith; merges-held = omega arith; row-breaks-held = omega arith; column-breaks-held = omega arith }
+large-brings =
+    record { rows-held = omega arith; columns-held = omega arith; merges-held = omega arith; row-breaks-held = omega arith; column-breaks-held = omega arith }
 
 -- of n items and a list that was written: no more than its room, and the job's values first
 pub record Front (k f : ℕ) (s : List ℕ) (n : ℕ) (new : List ℕ) : Type 0 where
@@ -134,7 +137,8 @@ module _ (s : List ℕ) {before : Lists} (holds : Holds s before) where
           sym (not-read s before (checked.Refused n) n (admit-no (itemsEven before) s (roomIn before) (checked.Refused n) v n refl) refl .answer)
 
   -- a no refuses the plan
-  pub read-no : (rows columns : List ℕ) (r : Reading) (n : ℕ) → readingOutcome r ≡ readJob s before → r ≡ reading.Refused n → planJob s rows columns ≡ refused n
+  pub read-no : (rows columns : List ℕ) (r : Reading) (n : ℕ) → readingOutcome r ≡ readJob s before → r ≡ reading.Refused n → planJob s rows columns
+      ≡ refused n
   unfolding planJob
   read-no rows columns r n e k = go (verdictLent true s) (sym (ap readingOutcome k) ∙ e ∙ read-as)
     where
@@ -176,7 +180,8 @@ module _ (s : List ℕ) {before : Lists} (holds : Holds s before) where
         merge-last-rows = front s _ _ q MR 2 _ (before .merge-last-rows) (after .merge-last-rows) merges (w .merge-last-rows-are);
         merge-last-columns = front s _ _ q MR 3 _ (before .merge-last-columns) (after .merge-last-columns) merges (w .merge-last-columns-are);
         row-breaks = front s _ _ q BR 0 _ (before .row-breaks) (after .row-breaks) (ap (λ (x : Job). x .items .«row_breaks») m) (w .row-breaks-are);
-        column-breaks = front s _ _ q BC 0 _ (before .column-breaks) (after .column-breaks) (ap (λ (x : Job). x .items .«column_breaks») m) (w .column-breaks-are);
+        column-breaks = front s _ _ q BC 0 _ (before .column-breaks) (after .column-breaks) (ap (λ (x : Job). x .items .«column_breaks») m)
+            (w .column-breaks-are);
       }
 
 -- a part of a list, by its length
@@ -213,25 +218,29 @@ read-told j set g ri rs ci cs fr fc lr lc rb cb e f r rows₀ columns₀ rows co
     r rows₀ columns₀ rows columns w
 
 -- a reading that is refused, and one that is planned
-pub planned-no : {got : Reading} {n : ℕ} → got ≡ reading.Refused n → (l : Lists) (rows columns : List ℕ) → ReadPlanned got l (Refused n) rows columns rows columns
+pub planned-no : {got : Reading} {n : ℕ} → got ≡ reading.Refused n → (l : Lists) (rows columns : List ℕ) → ReadPlanned got l
+    (Refused n) rows columns rows columns
 planned-no k l rows columns = record {
   no = λ m e. (cc, (refl, refl));
   yes = λ j e. let z : _≡_ {A = ℕ} 0 1 = cc in absurd (omega arith);
 }
 
-module _ {got : Reading} {j : Job} (k : got ≡ reading.Value j) (l : Lists) {set : Settings} {g : PrintRange} (e : set ≡ settingsFor (j .settings)) (f : g ≡ rangeFor (j .settings .range)) where
+module _ {got : Reading} {j : Job} (k : got ≡ reading.Value j) (l : Lists) {set : Settings} {g : PrintRange} (e : set ≡ settingsFor (j .settings))
+    (f : g ≡ rangeFor (j .settings .range)) where
   pub planned-yes : (r : Planning) (rows₀ columns₀ rows columns : List ℕ)
       → (let a = rowsOf set g (j .settings .«row_title») (take (j .items .rows) (l .row-indexes)) (take (j .items .rows) (l .row-sizes))
       (take (j .items .merges) (l .merge-first-rows)) (take (j .items .merges) (l .merge-last-rows)) (take (j .items .«row_breaks») (l .row-breaks)) in
       let b = columnsOf set g (j .settings .«column_title») (take (j .items .columns) (l .column-indexes)) (take (j .items .columns) (l .column-sizes))
-      (take (j .items .merges) (l .merge-first-columns)) (take (j .items .merges) (l .merge-last-columns)) (take (j .items .«column_breaks») (l .column-breaks)) in
+      (take (j .items .merges) (l .merge-first-columns)) (take (j .items .merges) (l .merge-last-columns))
+      (take (j .items .«column_breaks») (l .column-breaks)) in
       Told (planned set a b rows₀ columns₀) set a b r rows₀ columns₀ rows columns)
       → ReadPlanned got l r rows₀ columns₀ rows columns
   planned-yes r rows₀ columns₀ rows columns t = record {
     no = λ m h. let z : _≡_ {A = ℕ} 0 1 = cc in absurd (omega arith);
     yes = λ i h.
         let same : j ≡ i = cc in
-        subst (λ (x : Job). Told (planned (settingsFor (x .settings)) (rowsFrom x l) (columnsFrom x l) rows₀ columns₀) (settingsFor (x .settings)) (rowsFrom x l) (columnsFrom x l) r rows₀ columns₀ rows columns) same
+        subst (λ (x : Job). Told (planned (settingsFor (x .settings)) (rowsFrom x l) (columnsFrom x l) rows₀ columns₀) (settingsFor (x .settings))
+        (rowsFrom x l) (columnsFrom x l) r rows₀ columns₀ rows columns) same
         (read-told (j .settings) set g _ _ _ _ _ _ _ _ _ _ e f r rows₀ columns₀ rows columns t);
   }
 
@@ -255,7 +264,8 @@ module _ {s : List ℕ} {before after : Lists} (holds : Holds s before) {got : R
         };
   }
 
-  pub job-planned : (r : Planning) (rows₀ columns₀ rows columns : List ℕ) → ReadPlanned got after r rows₀ columns₀ rows columns → JobPlanned s r rows₀ columns₀ rows columns
+  pub job-planned : (r : Planning) (rows₀ columns₀ rows columns : List ℕ) → ReadPlanned got after r rows₀ columns₀ rows columns
+      → JobPlanned s r rows₀ columns₀ rows columns
   job-planned r rows₀ columns₀ rows columns t = go got refl
     where
       go : (q : Reading) → got ≡ q → JobPlanned s r rows₀ columns₀ rows columns

@@ -22,7 +22,8 @@ module _ (s : List ℕ) (rows columns : List ℕ) (k : ℕ) (h : 9 < k) (e : pla
   unfolding planJob
   in-plan = go (verdictLent true s) refl e
     where
-      go : (o : Outcome Items) → verdictLent true s ≡ o → andThen o (λ (items : Items). planned (jobSettings s) (jobRows s) (jobColumns s) rows columns) ≡ refused k
+      go : (o : Outcome Items) → verdictLent true s ≡ o → andThen o (λ (items : Items). planned (jobSettings s) (jobRows s) (jobColumns s) rows columns)
+          ≡ refused k
           → (items : Items) × (verdictLent true s ≡ given items) × (planned (jobSettings s) (jobRows s) (jobColumns s) rows columns ≡ refused k)
       go (given items) i j = (items, i, j)
       go (refused n) i j =
@@ -42,7 +43,8 @@ job-never-eleven s rows columns hr hc e =
     let c = few-columns s items v in
     let lr = length-map (marked RW (records s)) (field 0) in
     let lc = length-map (marked CL (records s)) (field 0) in
-    never-eleven (jobSettings s) (jobRows s) (jobColumns s) rows columns (omega (arith, r, lr, hr)) (omega (arith, hr)) (omega (arith, c, lc, hc)) (omega (arith, hc)) i
+    never-eleven (jobSettings s) (jobRows s) (jobColumns s) rows columns (omega (arith, r, lr, hr)) (omega (arith, hr)) (omega (arith, c, lc, hc))
+    (omega (arith, hc)) i
 
 -- pages are taken by number, and no plan asks 13
 pub job-never-thirteen : (s : List ℕ) (rows columns : List ℕ) → planJob s rows columns ≡ refused 13 → ⊥

@@ -96,7 +96,8 @@ columnsFrom j l =
 pub record ReadPlanned (reading : Reading) (l : Lists) (r : Planning) (rows₀ columns₀ rows columns : List ℕ) : Type 0 where
   pub no : (n : ℕ) → reading ≡ NotRead n → (r ≡ Refused n) × ((rows ≡ rows₀) × (columns ≡ columns₀))
   pub yes : (j : Job) → reading ≡ Value j
-      → Told (planned (settingsFor (j .settings)) (rowsFrom j l) (columnsFrom j l) rows₀ columns₀) (settingsFor (j .settings)) (rowsFrom j l) (columnsFrom j l) r rows₀ columns₀ rows columns
+      → Told (planned (settingsFor (j .settings)) (rowsFrom j l) (columnsFrom j l) rows₀ columns₀) (settingsFor (j .settings)) (rowsFrom j l)
+      (columnsFrom j l) r rows₀ columns₀ rows columns
 
 -- the lists hold the items of every job that is read
 pub record Holds (s : List ℕ) (l : Lists) : Type 0 where

@@ -52,10 +52,14 @@ fn plan_read(
     row_runs: &mut [u64],
     column_runs: &mut [u64],
 ) -> Planning
-    requires { ⌜ section.Filled reading (lists (now «row_indexes») (now «row_sizes») (now «column_indexes») (now «column_sizes») (now «merge_first_rows») (now «merge_first_columns») (now «merge_last_rows») (now «merge_last_columns») (now «row_breaks») (now «column_breaks»)) ⌝ }
+    requires { ⌜ section.Filled reading
+        (lists (now «row_indexes») (now «row_sizes») (now «column_indexes») (now «column_sizes») (now «merge_first_rows») (now «merge_first_columns»)
+        (now «merge_last_rows») (now «merge_last_columns») (now «row_breaks») (now «column_breaks»)) ⌝ }
     ensures { λ r. ⌜
         section.ReadPlanned reading
-        (lists (now («row_indexes» .entry)) (now («row_sizes» .entry)) (now («column_indexes» .entry)) (now («column_sizes» .entry)) (now («merge_first_rows» .entry)) (now («merge_first_columns» .entry)) (now («merge_last_rows» .entry)) (now («merge_last_columns» .entry)) (now («row_breaks» .entry)) (now («column_breaks» .entry)))
+        (lists (now («row_indexes» .entry)) (now («row_sizes» .entry)) (now («column_indexes» .entry)) (now («column_sizes» .entry))
+        (now («merge_first_rows» .entry)) (now («merge_first_columns» .entry)) (now («merge_last_rows» .entry)) (now («merge_last_columns» .entry))
+        (now («row_breaks» .entry)) (now («column_breaks» .entry)))
         r (now («row_runs» .entry)) (now («column_runs» .entry)) (now («row_runs» .exit)) (now («column_runs» .exit))
         ⌝ }
 {
@@ -110,7 +114,9 @@ fn plan_in(
     row_runs: &mut [u64],
     column_runs: &mut [u64],
 ) -> Planning
-    requires { ⌜ section.Holds (now bytes) (lists (now «row_indexes») (now «row_sizes») (now «column_indexes») (now «column_sizes») (now «merge_first_rows») (now «merge_first_columns») (now «merge_last_rows») (now «merge_last_columns») (now «row_breaks») (now «column_breaks»)) ⌝ }
+    requires { ⌜ section.Holds (now bytes)
+        (lists (now «row_indexes») (now «row_sizes») (now «column_indexes») (now «column_sizes») (now «merge_first_rows») (now «merge_first_columns»)
+        (now «merge_last_rows») (now «merge_last_columns») (now «row_breaks») (now «column_breaks»)) ⌝ }
     ensures { λ r. ⌜
         section.JobPlanned (now (bytes .entry)) r (now («row_runs» .entry)) (now («column_runs» .entry)) (now («row_runs» .exit))
         (now («column_runs» .exit))

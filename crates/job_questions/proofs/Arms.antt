@@ -5,7 +5,8 @@ use Prim.Native.Nat.{ℕ}
 use types.Run.{OneOf, miss}
 use denote.Enum.Declared.{tagOf}
 use Rattle.job_records.specs.declared.records.Record.{Record}
-use Rattle.job_records.specs.declared.records.Record.the-variants.{Paper, Landscape, Margin, Scale, Wide, High, Fit, Order, Headings, Limit, Area, TitleRows, TitleColumns, Row, Column, Merged, RowBreak, ColumnBreak, End}
+use Rattle.job_records.specs.declared.records.Record.the-variants.{Paper, Landscape, Margin, Scale, Wide, High, Fit, Order, Headings, Limit, Area, TitleRows}
+use Rattle.job_records.specs.declared.records.Record.the-variants.{TitleColumns, Row, Column, Merged, RowBreak, ColumnBreak, End}
 use Rattle.job_questions.specs.declared.Asked.{Asked}
 use Rattle.job_questions.specs.declared.Asked.the-variants.{Flag, Cells, InRows, InColumns, Other}
 use Rattle.job_questions.specs.Verdict.{asked}

@@ -11,7 +11,8 @@ use lib.ListN.{length, take, drop}
 use borrow.Author.Tests.{le-leb, lt-leb, lt-ltb, eq-eqb, ne-eqb}
 use Rattle.units.specs.Outcome.{refused}
 use Rattle.job_records.specs.declared.records.Record.{Record}
-use Rattle.job_records.specs.declared.records.Record.the-variants.{Paper, Landscape, Margin, Scale, Wide, High, Fit, Order, Headings, Limit, Area, TitleRows, TitleColumns, Row, Column, Merged, RowBreak, ColumnBreak, End}
+use Rattle.job_records.specs.declared.records.Record.the-variants.{Paper, Landscape, Margin, Scale, Wide, High, Fit, Order, Headings, Limit, Area, TitleRows}
+use Rattle.job_records.specs.declared.records.Record.the-variants.{TitleColumns, Row, Column, Merged, RowBreak, ColumnBreak, End}
 use Rattle.job_records.specs.declared.records.Step.{Step}
 use Rattle.job_records.specs.declared.records.Step.the-variants.{Read, Nothing}
 use Rattle.job_questions.specs.declared.Items.{Items}
@@ -19,7 +20,9 @@ use Rattle.job_questions.specs.declared.State.{State}
 use Rattle.job_questions.specs.declared.Survey.{Survey}
 use Rattle.job_questions.specs.declared.Survey.the-variants.{Stopped, Whole}
 use Rattle.job_records.specs.Records.{RW, CL, MR, BR, BC, step, rank, isEnd, goesOn, ended, records, rest, marked, values}
-use Rattle.job_questions.specs.Verdict.{asked, every, follows, ordered, isArea, hasArea, flagOk, notReversed, inGrid, sized, rising, lastRow, lastColumn, question1, question2, question3, question4, question5, question6, question7, question8, question9, inOrder, itemsOf}
+use Rattle.job_questions.specs.Verdict.{asked, every, follows, ordered, isArea, hasArea, flagOk, notReversed, inGrid, sized, rising, lastRow}
+use Rattle.job_questions.specs.Verdict.{lastColumn, question1, question2, question3, question4, question5, question6, question7, question8, question9}
+use Rattle.job_questions.specs.Verdict.{inOrder, itemsOf}
 use Rattle.job_questions.specs.Pass.{beyond, placed, rowsAfter, columnsAfter, oneMore, counted, Few, start, advanced, after, surveyed, firstNo, answer}
 use Rattle.job_records.proofs.RecordLaws.{records-more, rest-more, records-stop, rest-stop, step-used, part}
 
@@ -121,8 +124,10 @@ placed-more top n i is h =
 
 -- a record more: of another kind than an axis' slots, it leaves that axis as it is
 axes-step : (a b : ℕ) (r : Record) (rs : List Record)
-    → (ltb a beyond && rising lastRow a (values RW 0 (r ∷ rs)) ≡ ltb (rowsAfter a (asked r)) beyond && rising lastRow (rowsAfter a (asked r)) (values RW 0 rs))
-    × (ltb b beyond && rising lastColumn b (values CL 0 (r ∷ rs)) ≡ ltb (columnsAfter b (asked r)) beyond && rising lastColumn (columnsAfter b (asked r)) (values CL 0 rs))
+    → (ltb a beyond && rising lastRow a (values RW 0 (r ∷ rs)) ≡ ltb (rowsAfter a (asked r)) beyond && rising lastRow (rowsAfter a (asked r))
+    (values RW 0 rs))
+    × (ltb b beyond && rising lastColumn b (values CL 0 (r ∷ rs)) ≡ ltb (columnsAfter b (asked r)) beyond && rising lastColumn (columnsAfter b (asked r))
+    (values CL 0 rs))
 unfolding rising marked
 axes-step a b (Paper x) rs = (refl, refl)
 axes-step a b Landscape rs = (refl, refl)
@@ -175,7 +180,8 @@ counts : (g : Items → ℕ) (j : ℕ) → ((c : Items) (k : ℕ) → g (counted
 unfolding after marked
 counts g j h t [] = omega arith
 counts g j h t (r ∷ rs) =
-    counts g j h (advanced t r) rs ∙ ap (λ (n : ℕ). n + length (marked j rs)) (h (t .items) (rank r)) ∙ one-more (g (t .items)) (eqb (rank r) j) r (marked j rs)
+    counts g j h (advanced t r) rs ∙ ap (λ (n : ℕ). n + length (marked j rs)) (h (t .items) (rank r)) ∙ one-more (g (t .items)) (eqb (rank r) j) r
+    (marked j rs)
 
 pub items-after : (rs : List Record) → after start rs .items ≡ itemsOf rs
 items-after rs =
@@ -200,7 +206,14 @@ bit true = omega arith
 bit false = omega arith
 
 pub room-few : (c : Items) (k n : ℕ) → Room c k n → n ≤ 60000 → Few c
-room-few c k n w h = record { rows = omega (arith, w .rows); columns = omega (arith, w .columns); merges = omega (arith, w .merges); row-breaks = omega (arith, w .row-breaks); column-breaks = omega (arith, w .column-breaks) }
+room-few c k n w h =
+    record {
+      rows = omega (arith, w .rows);
+      columns = omega (arith, w .columns);
+      merges = omega (arith, w .merges);
+      row-breaks = omega (arith, w .row-breaks);
+      column-breaks = omega (arith, w .column-breaks);
+    }
 
 room-more : (c : Items) (k n u x : ℕ) → Room c k n → 1 ≤ u → u ≤ k → Room (counted c x) (k - u) n
 room-more c k n u x w h l = record {
@@ -311,7 +324,8 @@ six even s = question4 s ∷ question5 s ∷ question6 even s ∷ question7 s �
 abbrev pub questions : Bool → List ℕ → List Bool → List Bool
 questions even s more = question1 s ∷ question2 s ∷ question3 s ∷ six even s ++ more
 
-module _ {A : Type 0} (v : A) (even : Bool) (more : List Bool) (s : List ℕ) (f : Survey) (e : f ≡ surveyed s) (t : State) (k : f ≡ Whole t) (x : ℕ) (i : x ≡ answer even t) where
+module _ {A : Type 0} (v : A) (even : Bool) (more : List Bool) (s : List ℕ) (f : Survey) (e : f ≡ surveyed s) (t : State) (k : f ≡ Whole t) (x : ℕ)
+    (i : x ≡ answer even t) where
   whole : (inOrder 4 (six even s ++ more) v ≡ inOrder 1 (questions even s more) v) × (t ≡ after start (records s))
   whole = survey-whole v (six even s ++ more) s f e t k
 

@@ -11,7 +11,8 @@ use Rattle.units.specs.Outcome.{Outcome, given, refused}
 use Rattle.job_records.specs.Records.{AR, RW, CL, MR, BR, BC, rank, step, ended, records, rest, marked, values}
 use Rattle.job_records.specs.declared.records.Range.{Range}
 use Rattle.job_records.specs.declared.records.Record.{Record}
-use Rattle.job_records.specs.declared.records.Record.the-variants.{Paper, Landscape, Margin, Scale, Wide, High, Fit, Order, Headings, Limit, Area, TitleRows, TitleColumns, Row, Column, Merged, RowBreak, ColumnBreak, End}
+use Rattle.job_records.specs.declared.records.Record.the-variants.{Paper, Landscape, Margin, Scale, Wide, High, Fit, Order, Headings, Limit, Area, TitleRows}
+use Rattle.job_records.specs.declared.records.Record.the-variants.{TitleColumns, Row, Column, Merged, RowBreak, ColumnBreak, End}
 use Rattle.job_questions.specs.declared.Asked.{Asked}
 use Rattle.job_questions.specs.declared.Asked.the-variants.{Flag, Cells, InRows, InColumns, Other}
 use Rattle.job_questions.specs.declared.Items.{Items}

@@ -27,7 +27,8 @@ abbrev heavy : ℕ → ℕ → List ℕ → List Format → Bool
 heavy k w s [] = true
 heavy k w s (f ∷ fs) = cond (cond (eqb (rank (f .kind s)) k) (leb w (f .bytes)) true) (heavy k w s fs) false
 
-heavy-here : (k w : ℕ) (f : Format) (s : List ℕ) → T (cond (eqb (rank (f .kind s)) k) (leb w (f .bytes)) true) → eqb (rank (f .kind s)) k ≡ true → w ≤ f .bytes
+heavy-here : (k w : ℕ) (f : Format) (s : List ℕ) → T (cond (eqb (rank (f .kind s)) k) (leb w (f .bytes)) true) → eqb (rank (f .kind s)) k ≡ true
+    → w ≤ f .bytes
 heavy-here k w f s t e = leb→le w (f .bytes) (rw e at t)
 
 found-here : (k w : ℕ) (f : Format) (b : Bool) (g : Step) (s : List ℕ) (r : Record) (n : ℕ) → T (cond (eqb (rank (f .kind s)) k) (leb w (f .bytes)) true)
@@ -39,7 +40,8 @@ found-here k w f true g s r n t h e i =
     omega arith
 found-here k w f false g s r n t h e i = h i
 
-found-heavy : (k w : ℕ) (fs : List Format) (x : ℕ) (s : List ℕ) (r : Record) (n : ℕ) → T (heavy k w s fs) → eqb (rank r) k ≡ true → find x fs s ≡ Read r n → w ≤ n
+found-heavy : (k w : ℕ) (fs : List Format) (x : ℕ) (s : List ℕ) (r : Record) (n : ℕ) → T (heavy k w s fs) → eqb (rank r) k ≡ true → find x fs s ≡ Read r n
+    → w ≤ n
 unfolding find
 found-heavy k w [] x s r n t e i = let z : _≡_ {A = ℕ} 0 1 = cc in absurd (omega arith)
 found-heavy k w (f ∷ fs) x s r n t e i =
@@ -135,8 +137,19 @@ module _ (s : List ℕ) (items : Items) (e : verdictLent true s ≡ given items)
   read-whole l even f =
       let a = all-answered in
       let six : question6 (evenLists l) s ≡ true = ap (λ (b : Bool). question6 b s) even ∙ a .1 .1 .1 .1 .1 .0 in
-      all-in-order (jobOf (records s)) 1 (asked (evenLists l) (roomIn l) s)
-      (a .0, (a .1 .0, (a .1 .1 .0, (a .1 .1 .1 .0, (a .1 .1 .1 .1 .0, (six, (a .1 .1 .1 .1 .1 .1 .0, (a .1 .1 .1 .1 .1 .1 .1 .0, (a .1 .1 .1 .1 .1 .1 .1 .1 .0, (refl, (f, tt)))))))))))
+      all-in-order (jobOf (records s)) 1 (asked (evenLists l) (roomIn l) s) (
+        a .0,
+        (
+          a .1 .0,
+          (
+            a .1 .1 .0,
+            (
+              a .1 .1 .1 .0,
+              (a .1 .1 .1 .1 .0, (six, (a .1 .1 .1 .1 .1 .1 .0, (a .1 .1 .1 .1 .1 .1 .1 .0, (a .1 .1 .1 .1 .1 .1 .1 .1 .0, (refl, (f, tt))))))),
+            ),
+          ),
+        ),
+      )
 
 -- lists that are not equally long are never questioned with yes
 pub verdict-even : (even : Bool) (s : List ℕ) (items : Items) → verdictLent even s ≡ given items → verdictLent true s ≡ given items

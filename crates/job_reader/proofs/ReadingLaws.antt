@@ -38,7 +38,8 @@ module _ {A B : Type 0} (v : A) (w : B) where
   in-order-refused n (false ∷ qs) x e = let i : x ≡ n = cc in ap refused i
 
 -- a no among some questions is the first among more
-in-order-more : {A B : Type 0} (v : A) (w : B) (more : List Bool) (n x : ℕ) (qs : List Bool) → refused x ≡ inOrder n qs v → refused x ≡ inOrder n (qs ++ more) w
+in-order-more : {A B : Type 0} (v : A) (w : B) (more : List Bool) (n x : ℕ) (qs : List Bool) → refused x ≡ inOrder n qs v → refused x ≡ inOrder n
+    (qs ++ more) w
 in-order-more v w more n x [] e = let z : _≡_ {A = ℕ} 0 1 = cc in absurd (omega arith)
 in-order-more v w more n x (true ∷ qs) e = in-order-more v w more (suc n) x qs e
 in-order-more v w more n x (false ∷ qs) e = let i : x ≡ n = cc in ap refused i
@@ -53,7 +54,8 @@ all-given v n (false ∷ qs) x e = let z : _≡_ {A = ℕ} 0 1 = cc in absurd (o
 module _ (even : Bool) (s : List ℕ) (room : Items) (f : Checked) (e : checkedOutcome f ≡ verdictLent even s) where
   pub admit-no : (n : ℕ) → f ≡ checked.Refused n → refused n ≡ admitted even room s
   unfolding verdictLent admitted
-  admit-no n k = in-order-more (itemsOf (records s)) (itemsOf (records s)) (true ∷ fitIn (itemsOf (records s)) room ∷ []) 1 n (questions even s) (sym (ap checkedOutcome k) ∙ e)
+  admit-no n k = in-order-more (itemsOf (records s)) (itemsOf (records s)) (true ∷ fitIn (itemsOf (records s)) room ∷ []) 1 n (questions even s)
+      (sym (ap checkedOutcome k) ∙ e)
 
   module _ (items : Items) (k : f ≡ checked.Value items) where
     is-questioned : given items ≡ inOrder 1 (questions even s) (itemsOf (records s))
@@ -67,7 +69,17 @@ module _ (even : Bool) (s : List ℕ) (room : Items) (f : Checked) (e : checkedO
     unfolding admitted
     past-nine =
         let a = all-given (itemsOf (records s)) 1 (questions even s) items is-questioned in
-        rw (a .0, a .1 .0, a .1 .1 .0, a .1 .1 .1 .0, a .1 .1 .1 .1 .0, a .1 .1 .1 .1 .1 .0, a .1 .1 .1 .1 .1 .1 .0, a .1 .1 .1 .1 .1 .1 .1 .0, a .1 .1 .1 .1 .1 .1 .1 .1 .0)
+        rw (
+          a .0,
+          a .1 .0,
+          a .1 .1 .0,
+          a .1 .1 .1 .0,
+          a .1 .1 .1 .1 .0,
+          a .1 .1 .1 .1 .1 .0,
+          a .1 .1 .1 .1 .1 .1 .0,
+          a .1 .1 .1 .1 .1 .1 .1 .0,
+          a .1 .1 .1 .1 .1 .1 .1 .1 .0,
+        )
 
     fits-is : (b x : Bool) → b ≡ fitIn items room → b ≡ x → cond x (given items) (refused 11) ≡ admitted even room s
     fits-is b x i h =
@@ -107,7 +119,8 @@ module _ (s : List ℕ) (l : Lists) (f : Checked) (e : checkedOutcome f ≡ admi
   given-room = record { even = both (evenLists l) _ (all .1 .1 .1 .1 .1 .0) .0; fits = all .1 .1 .1 .1 .1 .1 .1 .1 .1 .1 .0 }
 
   -- the job that was read
-  pub job-given : (after : Lists) (set : JobSettings) → set ≡ settingsOf (records s) → AllWritten s l after → JobRead s (Value (record { settings = set; items = items })) l after
+  pub job-given : (after : Lists) (set : JobSettings) → set ≡ settingsOf (records s) → AllWritten s l after → JobRead s
+      (Value (record { settings = set; items = items })) l after
   job-given after set i w =
       let g = in-order-given (itemsOf (records s)) (jobOf (records s)) 1 (asked (evenLists l) (roomIn l) s) items is-given in
       let q : given (jobOf (records s)) ≡ readJob s l = read-given s l (g .1) in

@@ -15,7 +15,8 @@ use lib.ListN.{length, take, drop, length-drop}
 use lib.Seq.{drop-drop}
 use borrow.Author.Tests.{eq-eqb, ne-eqb, eqb-true, eqb-false, ltb-true}
 use Rattle.job_records.specs.declared.records.Record.{Record}
-use Rattle.job_records.specs.declared.records.Record.the-variants.{Paper, Landscape, Margin, Scale, Wide, High, Fit, Order, Headings, Limit, Area, TitleRows, TitleColumns, Row, Column, Merged, RowBreak, ColumnBreak, End}
+use Rattle.job_records.specs.declared.records.Record.the-variants.{Paper, Landscape, Margin, Scale, Wide, High, Fit, Order, Headings, Limit, Area, TitleRows}
+use Rattle.job_records.specs.declared.records.Record.the-variants.{TitleColumns, Row, Column, Merged, RowBreak, ColumnBreak, End}
 use Rattle.job_records.specs.declared.records.Step.{Step}
 use Rattle.job_records.specs.declared.records.Step.the-variants.{Read, Nothing}
 use Rattle.job_reader.specs.declared.settings.Next.{Next}
@@ -321,9 +322,11 @@ module _ (k : ℕ) (b s : List ℕ) (o : Sorted 0 (records s)) (w : marked k (re
     pub look-past : k < x → Missing ≡ firstOf (marked k (records b))
     look-past j =
         let v = walk-sorted s f e r n h 0 o in
-        sym (ap firstOf (sym w ∙ walk-no s f e r n h k (λ q. omega arith) ∙ sorted-above k (rank r) (records (take (length s - n) (drop n s))) (omega arith) (v .1)))
+        sym (ap firstOf
+        (sym w ∙ walk-no s f e r n h k (λ q. omega arith) ∙ sorted-above k (rank r) (records (take (length s - n) (drop n s))) (omega arith) (v .1)))
 
-    pub look-on : (x ≡ k → ⊥) → Sorted 0 (records (take (length s - n) (drop n s))) × (marked k (records (take (length s - n) (drop n s))) ≡ marked k (records b))
+    pub look-on : (x ≡ k → ⊥) → Sorted 0 (records (take (length s - n) (drop n s)))
+        × (marked k (records (take (length s - n) (drop n s))) ≡ marked k (records b))
     look-on j =
         let v = walk-sorted s f e r n h 0 o in
         (sorted-less 0 (rank r) (records (take (length s - n) (drop n s))) (omega arith) (v .1), sym (walk-no s f e r n h k (λ q. j (i ∙ q))) ∙ w)
@@ -379,14 +382,18 @@ no-kind p ts r h e o = go (tagOf R.the-type r) (ap p (sym (tag-rank r)) ∙ e) t
     go x e (t ∷ (u ∷ ts)) h (inl o) = at x t e (both (not (p (suc t))) (noneOf p (u ∷ ts)) h .0) o
     go x e (t ∷ (u ∷ ts)) h (inr o) = go x e (u ∷ ts) (both (not (p (suc t))) (noneOf p (u ∷ ts)) h .1) o
 
-pub no-number : (r : Record) → isNumber (rank r) ≡ true → OneOf (1 ∷ 2 ∷ 6 ∷ 7 ∷ 8 ∷ 9 ∷ 10 ∷ 11 ∷ 12 ∷ 13 ∷ 14 ∷ 15 ∷ 16 ∷ 17 ∷ 18 ∷ []) (tagOf R.the-type r) → ⊥
+pub no-number : (r : Record) → isNumber (rank r) ≡ true → OneOf (1 ∷ 2 ∷ 6 ∷ 7 ∷ 8 ∷ 9 ∷ 10 ∷ 11 ∷ 12 ∷ 13 ∷ 14 ∷ 15 ∷ 16 ∷ 17 ∷ 18 ∷ []) (tagOf R.the-type r)
+    → ⊥
 no-number r = no-kind isNumber (1 ∷ 2 ∷ 6 ∷ 7 ∷ 8 ∷ 9 ∷ 10 ∷ 11 ∷ 12 ∷ 13 ∷ 14 ∷ 15 ∷ 16 ∷ 17 ∷ 18 ∷ []) r refl
 
-pub no-flag : (r : Record) → isFlag (rank r) ≡ true → OneOf (0 ∷ 1 ∷ 2 ∷ 3 ∷ 4 ∷ 5 ∷ 8 ∷ 9 ∷ 10 ∷ 11 ∷ 12 ∷ 13 ∷ 14 ∷ 15 ∷ 16 ∷ 17 ∷ 18 ∷ []) (tagOf R.the-type r) → ⊥
+pub no-flag : (r : Record) → isFlag (rank r) ≡ true → OneOf (0 ∷ 1 ∷ 2 ∷ 3 ∷ 4 ∷ 5 ∷ 8 ∷ 9 ∷ 10 ∷ 11 ∷ 12 ∷ 13 ∷ 14 ∷ 15 ∷ 16 ∷ 17 ∷ 18 ∷ [])
+    (tagOf R.the-type r) → ⊥
 no-flag r = no-kind isFlag (0 ∷ 1 ∷ 2 ∷ 3 ∷ 4 ∷ 5 ∷ 8 ∷ 9 ∷ 10 ∷ 11 ∷ 12 ∷ 13 ∷ 14 ∷ 15 ∷ 16 ∷ 17 ∷ 18 ∷ []) r refl
 
-pub no-slot : (r : Record) → isSlot (rank r) ≡ true → OneOf (0 ∷ 1 ∷ 2 ∷ 3 ∷ 4 ∷ 5 ∷ 6 ∷ 7 ∷ 8 ∷ 9 ∷ 10 ∷ 11 ∷ 12 ∷ 15 ∷ 16 ∷ 17 ∷ 18 ∷ []) (tagOf R.the-type r) → ⊥
+pub no-slot : (r : Record) → isSlot (rank r) ≡ true → OneOf (0 ∷ 1 ∷ 2 ∷ 3 ∷ 4 ∷ 5 ∷ 6 ∷ 7 ∷ 8 ∷ 9 ∷ 10 ∷ 11 ∷ 12 ∷ 15 ∷ 16 ∷ 17 ∷ 18 ∷ [])
+    (tagOf R.the-type r) → ⊥
 no-slot r = no-kind isSlot (0 ∷ 1 ∷ 2 ∷ 3 ∷ 4 ∷ 5 ∷ 6 ∷ 7 ∷ 8 ∷ 9 ∷ 10 ∷ 11 ∷ 12 ∷ 15 ∷ 16 ∷ 17 ∷ 18 ∷ []) r refl
 
-pub no-break : (r : Record) → isBreak (rank r) ≡ true → OneOf (0 ∷ 1 ∷ 2 ∷ 3 ∷ 4 ∷ 5 ∷ 6 ∷ 7 ∷ 8 ∷ 9 ∷ 10 ∷ 11 ∷ 12 ∷ 13 ∷ 14 ∷ 15 ∷ 18 ∷ []) (tagOf R.the-type r) → ⊥
+pub no-break : (r : Record) → isBreak (rank r) ≡ true → OneOf (0 ∷ 1 ∷ 2 ∷ 3 ∷ 4 ∷ 5 ∷ 6 ∷ 7 ∷ 8 ∷ 9 ∷ 10 ∷ 11 ∷ 12 ∷ 13 ∷ 14 ∷ 15 ∷ 18 ∷ [])
+    (tagOf R.the-type r) → ⊥
 no-break r = no-kind isBreak (0 ∷ 1 ∷ 2 ∷ 3 ∷ 4 ∷ 5 ∷ 6 ∷ 7 ∷ 8 ∷ 9 ∷ 10 ∷ 11 ∷ 12 ∷ 13 ∷ 14 ∷ 15 ∷ 18 ∷ []) r refl

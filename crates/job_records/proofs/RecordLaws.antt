@@ -18,7 +18,8 @@ use Rattle.job_records.specs.LittleEndian.{u16At}
 use Rattle.job_records.specs.declared.records.Record.{Record}
 use Rattle.job_records.specs.declared.records.Step.{Step}
 use Rattle.job_records.specs.declared.records.Step.the-variants.{Read, Nothing}
-use Rattle.job_records.specs.Records.{Format, find, formats, sizeIn, known, whole, step, isEnd, goesOn, used, onto, recordsFrom, records, restFrom, rest}
+use Rattle.job_records.specs.Records.{Format, find, formats, sizeIn, known, whole, step, isEnd, goesOn, used, onto, recordsFrom, records, restFrom}
+use Rattle.job_records.specs.Records.{rest}
 
 -- ---- the record of a mark
 

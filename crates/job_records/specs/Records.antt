@@ -12,7 +12,8 @@ use Rattle.job_records.specs.declared.records.RowSlot.{RowSlot}
 use Rattle.job_records.specs.declared.records.ColumnSlot.{ColumnSlot}
 use Rattle.job_records.specs.declared.records.MarginBits.{MarginBits}
 use Rattle.job_records.specs.declared.records.Record.{Record}
-use Rattle.job_records.specs.declared.records.Record.the-variants.{Paper, Landscape, Margin, Scale, Wide, High, Fit, Order, Headings, Limit, Area, TitleRows, TitleColumns, Row, Column, Merged, RowBreak, ColumnBreak, End}
+use Rattle.job_records.specs.declared.records.Record.the-variants.{Paper, Landscape, Margin, Scale, Wide, High, Fit, Order, Headings, Limit, Area}
+use Rattle.job_records.specs.declared.records.Record.the-variants.{TitleRows, TitleColumns, Row, Column, Merged, RowBreak, ColumnBreak, End}
 use Rattle.job_records.specs.declared.records.Step.{Step}
 use Rattle.job_records.specs.declared.records.Step.the-variants.{Read, Nothing}
 

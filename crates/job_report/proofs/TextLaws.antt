@@ -37,7 +37,9 @@ copied-more old at bytes new i room h w =
     let inside : at + i < length new = omega arith in
     let e : at + (i + 1) ≡ at + i + 1 = omega arith in
     record {
-      so-far = rw e (and-then (take at old) (take (at + i) new) _ (take i bytes) _ (w .so-far) (put-byte new (at + i) (getD bytes i 0) inside) ∙ ap (λ (l : List ℕ). take at old ++ l) (rw add-one (sym (take-suc bytes i 0 h))));
+      so-far = rw e
+          (and-then (take at old) (take (at + i) new) _ (take i bytes) _ (w .so-far) (put-byte new (at + i) (getD bytes i 0) inside) ∙ ap
+          (λ (l : List ℕ). take at old ++ l) (rw add-one (sym (take-suc bytes i 0 h))));
       within = omega arith;
       same = length-set new (at + i) (getD bytes i 0) ∙ s;
     }
@@ -77,13 +79,16 @@ unfolding numbers
 told-none old at list = record { so-far = sym (append-nil (take at old)); within = omega arith; short = omega arith; same = refl }
 
 pub told-more : (old : List ℕ) (at : ℕ) (list new newer : List ℕ) (next later i : ℕ) → i < length list → Told old at list new next i
-    → take later newer ≡ take next new ++ (32 ∷ decimal (getD list i 0)) → later ≤ next + 21 → length newer ≡ length new → Told old at list newer later (i + 1)
+    → take later newer ≡ take next new ++ (32 ∷ decimal (getD list i 0)) → later ≤ next + 21 → length newer ≡ length new → Told old at list newer later
+    (i + 1)
 told-more old at list new newer next later i h w e l s =
     let b = w .short in
     let z = w .same in
     record {
       so-far = and-then (take at old) (take next new) (take later newer) _ _ (w .so-far) e
-          ∙ ap (λ (t : List ℕ). take at old ++ t) (sym (ap numbers (rw add-one (take-suc list i 0 h)) ∙ numbers-append (take i list) (getD list i 0 ∷ []) ∙ ap (λ (t : List ℕ). numbers (take i list) ++ t) (one-number (getD list i 0))));
+          ∙ ap (λ (t : List ℕ). take at old ++ t)
+          (sym (ap numbers (rw add-one (take-suc list i 0 h)) ∙ numbers-append (take i list) (getD list i 0 ∷ []) ∙ ap
+          (λ (t : List ℕ). numbers (take i list) ++ t) (one-number (getD list i 0))));
       within = omega arith;
       short = omega arith;
       same = s ∙ z;

@@ -38,12 +38,14 @@ unfoldable pub planLine : Plan → List ℕ
 unfolding line
 planLine p = line (112 ∷ 108 ∷ 97 ∷ 110 ∷ []) (p .permille ∷ p .pages ∷ [])
 
--- "notes in order", after `notes`: "unknown paper, margins, clamp, unreachable, titles ignored, titles expanded, merge expansions, break shifts, overflowing runs"
+-- "notes in order", after `notes`: "unknown paper, margins, clamp, unreachable, titles ignored, titles expanded, merge expansions, break
+-- shifts, overflowing runs"
 unfoldable pub notesLine : Notes → List ℕ
 unfolding line
 notesLine n =
     line (110 ∷ 111 ∷ 116 ∷ 101 ∷ 115 ∷ [])
-    (n .«unknown_paper» ∷ n .«invalid_margins» ∷ n .«scale_clamped» ∷ n .«fit_unreachable» ∷ n .«titles_ignored» ∷ n .«titles_expanded» ∷ n .«merge_expansions» ∷ n .«break_shifts» ∷ n .«overflowing_runs» ∷ [])
+    (n .«unknown_paper» ∷ n .«invalid_margins» ∷ n .«scale_clamped» ∷ n .«fit_unreachable» ∷ n .«titles_ignored» ∷ n .«titles_expanded»
+    ∷ n .«merge_expansions» ∷ n .«break_shifts» ∷ n .«overflowing_runs» ∷ [])
 
 -- "page number, vertical, horizontal, first and last row, first and last column, row size, column size", after `page`
 unfoldable pub pageLine : ℕ → Page → List ℕ

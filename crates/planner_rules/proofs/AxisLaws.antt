@@ -17,7 +17,8 @@ use Rattle.planner_rules.proofs.Laws.{either, part, turn, none, some}
 use Rattle.planner_rules.proofs.Places.{below-up-to}
 use Rattle.planner_rules.specs.Slots.{Slots, below, through, mid}
 use Rattle.planner_rules.specs.Titles.{titleHolds}
-use Rattle.planner_rules.specs.Runs.{Run, holding, expansions, cutAt, moved, placed, kept, nextCut, stretch, axisRuns, shifts, runs, run, runsBy, firstMarked, withMark}
+use Rattle.planner_rules.specs.Runs.{Run, holding, expansions, cutAt, moved, placed, kept, nextCut, stretch, axisRuns, shifts, runs, run, runsBy}
+use Rattle.planner_rules.specs.Runs.{firstMarked, withMark}
 
 module _ (held : Held) (f l prev p : ℕ) (is : List ℕ) (h : held ≡ By f l) (s : ℕ) (e : s ≡ below f is) where
   pub moved-start : prev < s → cutAt s 1 ≡ moved held prev p is
@@ -55,7 +56,8 @@ module _ (k : Frame) (fs ls is : List ℕ) (prev p : ℕ) where
   unfolding placed
   placed-shifted =
       either Low (ltb 0 p)
-      (either Low (ltb p (length is)) (either Low (titleHolds (k .title) (getD is p 0)) (omega arith) (moved-shifted (holding (k .lo) (k .hi) (getD is p 0) fs ls))) (omega arith))
+      (either Low (ltb p (length is))
+      (either Low (titleHolds (k .title) (getD is p 0)) (omega arith) (moved-shifted (holding (k .lo) (k .hi) (getD is p 0) fs ls))) (omega arith))
       (omega arith)
     where
       Low : Cut → Type 0

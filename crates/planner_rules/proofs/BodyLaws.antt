@@ -148,7 +148,8 @@ module _ (a : AxisInput) (bare : Bare a) where
     unfolding pageRuns cutRuns bodyOf spaceOn
     page-runs-fewest h =
         let rs : List Run = cutRuns side a p in
-        let best : FewestRuns (capacityBeside side a p) (keptBreaks (bodyIndexes a) 0 (a .breaks)) (bodyIndexes a) (bodySizes a) (firsts rs) (lasts rs) (sizes rs) =
+        let best : FewestRuns (capacityBeside side a p) (keptBreaks (bodyIndexes a) 0 (a .breaks)) (bodyIndexes a) (bodySizes a) (firsts rs) (lasts rs)
+        (sizes rs) =
         bare-fewest (frameFor (spaceOn side a) (bodyOf a) p) (a .merge-firsts) (a .merge-lasts) (bodyIndexes a) (bodySizes a) (a .breaks)
         (bare .no-merge-firsts) (bare .no-merge-lasts) (body-even a even) bare-title in
         let many : 0 < length rs =

@@ -17,8 +17,10 @@ use Rattle.planner_rules.specs.declared.titles.Widened.{Widened}
 use Rattle.planner_rules.specs.declared.runs.Frame.{Frame}
 use Rattle.planner_rules.specs.Slots.{sum, below, through}
 use Rattle.planner_rules.specs.Questions.{allOrdered, allWithin}
-use Rattle.planner_rules.specs.Titles.{titleHolds, pastTitle, limitOf, normalized, widenTo, pass, sameSpan, still, passes, expand, widenedFrom, widened, widenTitle}
-use Rattle.planner_rules.specs.Runs.{earlier, nearer, holding, more, natural, capacityAt, filled, again, resumed, resumption, taken, mergeStep, merged, Run, runEnd, run, runsBy, runs, expansions, moved, placed, kept, nextCut, firstMarked, stretch, axisRuns, shifts}
+use Rattle.planner_rules.specs.Titles.{titleHolds, pastTitle, limitOf, normalized, widenTo, pass, sameSpan, still, passes, expand, widenedFrom, widened}
+use Rattle.planner_rules.specs.Titles.{widenTitle}
+use Rattle.planner_rules.specs.Runs.{earlier, nearer, holding, more, natural, capacityAt, filled, again, resumed, resumption, taken, mergeStep, merged}
+use Rattle.planner_rules.specs.Runs.{Run, runEnd, run, runsBy, runs, expansions, moved, placed, kept, nextCut, firstMarked, stretch, axisRuns, shifts}
 use Rattle.planner_rules.specs.Scale.{Space, Body, fixedScale, runsAt, fitsSide, allFit, runsFit, axisPasses, middle, halve, fitScale}
 use Rattle.planner_rules.specs.Division.{CutsAt, Within, Fewest, startsFrom, pieces}
 use Rattle.planner_rules.proofs.Division.{Counts, link, done, total, Good, division-of, within-from}
@@ -76,7 +78,10 @@ pub record Table : Type 0 where
   pub row-of-2005 : fitted (0 ∷ []) (2005 ∷ []) 1 ≡ 100 ∷ 1 ∷ []
 
 pub table : Table
-unfolding fitted fixedScale runsAt fitsSide allFit runsFit axisPasses middle halve fitScale scaleFixed unscaledCapacity inI64 five axisRow fiveFive limitOf normalized widenTo pass sameSpan still passes expand widenedFrom widened widenTitle allOrdered allWithin sum below through titleHolds pastTitle earlier nearer holding more natural capacityAt filled again resumed resumption taken mergeStep merged runEnd run runsBy runs expansions moved placed kept nextCut firstMarked stretch axisRuns shifts
+unfolding fitted fixedScale runsAt fitsSide allFit runsFit axisPasses middle halve fitScale scaleFixed unscaledCapacity inI64 five axisRow fiveFive limitOf
+    normalized widenTo pass sameSpan still passes expand widenedFrom widened widenTitle allOrdered allWithin sum below through titleHolds pastTitle earlier
+    nearer holding more natural capacityAt filled again resumed resumption taken mergeStep merged runEnd run runsBy runs expansions moved placed kept
+    nextCut firstMarked stretch axisRuns shifts
 table =
     record {
       nothing-else = refl;
@@ -110,7 +115,8 @@ fits p m h = record { within = λ _. h; clear = λ b i. absurd i }
 two-two-one : Counts (Good 25 [] tens) 0 (2 ∷ 2 ∷ 1 ∷ []) 5
 unfolding sum
 two-two-one =
-    link {a = 2} (omega arith) (fits 0 2 (omega arith)) (link {a = 2} (omega arith) (fits 2 2 (omega arith)) (link {a = 1} (omega arith) (fits 4 1 (omega arith)) done))
+    link {a = 2} (omega arith) (fits 0 2 (omega arith))
+    (link {a = 2} (omega arith) (fits 2 2 (omega arith)) (link {a = 1} (omega arith) (fits 4 1 (omega arith)) done))
 
 pub refused : Refused
 unfolding pieces sum startsFrom

@@ -104,7 +104,8 @@ ordered-in p (c ∷ cs) n b o (inl h) = omega arith
 ordered-in p (c ∷ cs) n b o (inr h) = let i = ordered-in c cs n b (o .2) h in omega arith
 
 module _ (k : Frame) (fs ls is : List ℕ) where
-  next-past : (prev b : ℕ) → (prev ≤ nextCut k fs ls is prev b .place) × (prev < nextCut k fs ls is prev b .place → nextCut k fs ls is prev b .place < length is)
+  next-past : (prev b : ℕ) → (prev ≤ nextCut k fs ls is prev b .place)
+      × (prev < nextCut k fs ls is prev b .place → nextCut k fs ls is prev b .place < length is)
   unfolding nextCut
   next-past prev b = kept-past (length is) prev (placed k fs ls is prev (below b is))
 

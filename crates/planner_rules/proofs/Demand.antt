@@ -19,7 +19,8 @@ use Rattle.planner_rules.specs.Questions.{ask, equallyLong, allWithin, r
 use Rattle.planner_rules.specs.Runs.{Run}
 use Rattle.planner_rules.specs.Lent.{flat, roomIn, numberAt, runsIn, firsts, lasts, sizes}
 use Rattle.planner_rules.specs.Pages.{runAt, pageAt, inOrder, pagesOf, numbered, pageNumbered}
-use Rattle.planner_rules.specs.Plan.{AxisInput, Sides, Layout, Planned, contentSides, chosenScale, pageRuns, planOf, layout, layoutAt, formed, inGrid, roomFor, planned, bodyOf, spaceOn}
+use Rattle.planner_rules.specs.Plan.{AxisInput, Sides, Layout, Planned, contentSides, chosenScale, pageRuns, planOf, layout, layoutAt, formed, inGrid}
+use Rattle.planner_rules.specs.Plan.{roomFor, planned, bodyOf, spaceOn}
 use Rattle.planner_rules.specs.Slots.{Rising, written}
 use Rattle.planner_rules.specs.Division.{LiesIn, InOneRun}
 use Rattle.planner_rules.specs.Fitting.{Chosen}
@@ -27,7 +28,8 @@ use Rattle.planner_rules.specs.Demand.{Finished, OnPage, OnOnePage, Cove
 use Rattle.planner_rules.proofs.QuestionLaws.{both, rising-of}
 use Rattle.planner_rules.proofs.Lent.{stands, long-written, room-runs, runs-length, field-at}
 use Rattle.planner_rules.proofs.PlanLaws.{formed-of}
-use Rattle.planner_rules.proofs.PageLaws.{verticalOf, horizontalOf, beforeOf, numbered-zero, numbered-take, numbered-take-past, page-after, vertical-below, horizontal-below, before-of-place, before-below, vertical-is, horizontal-is}
+use Rattle.planner_rules.proofs.PageLaws.{verticalOf, horizontalOf, beforeOf, numbered-zero, numbered-take, numbered-take-past, page-after}
+use Rattle.planner_rules.proofs.PageLaws.{vertical-below, horizontal-below, before-of-place, before-below, vertical-is, horizontal-is}
 use Rattle.planner_rules.proofs.BodyLaws.{body-even, page-runs-cover, bare-title, bare-total, page-runs-fewest}
 use Rattle.planner_rules.proofs.Largest.{Plain, scale-chosen}
 use Rattle.planner_rules.proofs.NoTen.{sides-given}
@@ -154,7 +156,8 @@ module _ (plan : Plan) (rows columns : List ℕ) (rows-room : plan .«row_runs»
 
   page-is : (before : ℕ) → before < down * over → pageNumbered plan rows columns (suc before) ≡ given (after before)
   page-is before h =
-      asked (suc before) ∙ numbered-take (plan .pages) (inOrder (plan .order) down over at) (suc before) (omega arith) ∙ page-after down over at (plan .order) before h
+      asked (suc before) ∙ numbered-take (plan .pages) (inOrder (plan .order) down over at) (suc before) (omega arith)
+      ∙ page-after down over at (plan .order) before h
 
   -- a page that has a number is one of these
   is-page : (n : ℕ) (page : Page) → pageNumbered plan rows columns n ≡ given page
@@ -210,7 +213,8 @@ module _ (plan : Plan) (rows columns : List ℕ) (rows-room : plan .«row_runs»
         page = at v h;
         from-one = omega arith;
         to-count = omega arith;
-        has-number = rw (vertical-is down over v h v-below h-below (plan .order), horizontal-is down over v h v-below h-below (plan .order)) at (page-is before inside);
+        has-number = rw (vertical-is down over v h v-below h-below (plan .order), horizontal-is down over v h v-below h-below (plan .order))
+            at (page-is before inside);
         on-it = record {
           row-from-first = from-first down rows row v low-row v-below (i .lies .not-before);
           row-to-last = to-last down rows row v low-row v-below (i .lies .not-after);
@@ -254,7 +258,8 @@ module _ (s : Settings) (a b : AxisInput) (rows₀ columns₀ rows columns : Lis
         let w = d .on-columns in
         let same = same-sides (d .sides-are) e in (
           λ h. rw (← same, u .firsts-are, u .lasts-are, u .sizes-are) (page-runs-fewest a (none .rows-bare) (d .sides .height) (plan .permille) (u .even) h),
-          λ h. rw (← same, w .firsts-are, w .lasts-are, w .sizes-are) (page-runs-fewest b (none .columns-bare) (d .sides .width) (plan .permille) (w .even) h),
+          λ h. rw (← same, w .firsts-are, w .lasts-are, w .sizes-are)
+              (page-runs-fewest b (none .columns-bare) (d .sides .width) (plan .permille) (w .even) h),
         );
   }
 
@@ -300,7 +305,8 @@ module _ (s : Settings) (content : (c : Sides) × (contentSides s ≡ given c) �
 -- ---- the clauses of the call, in their order
 pub clauses : (s : Settings) (a b : AxisInput) (rows₀ columns₀ rows columns : List ℕ) (r : Planning) → a .limit < 4294967295 → b .limit < 4294967295
     → Planned (planned s a b rows₀ columns₀) r rows₀ columns₀ rows columns
-    → Planned (planned s a b rows₀ columns₀) r rows₀ columns₀ rows columns × (CoversPairs r a b rows columns × (FewestPlan r s a b rows columns × LargestPlan r s a b))
+    → Planned (planned s a b rows₀ columns₀) r rows₀ columns₀ rows columns
+    × (CoversPairs r a b rows columns × (FewestPlan r s a b rows columns × LargestPlan r s a b))
 clauses s a b rows₀ columns₀ rows columns r low-a low-b p = (
   p,
   (

@@ -16,12 +16,14 @@ use Rattle.planner_rules.specs.declared.runs.RunEnd.{RunEnd}
 use Rattle.planner_rules.specs.declared.runs.Cut.{Cut}
 use Rattle.planner_rules.specs.Slots.{sum, mid, below}
 use Rattle.planner_rules.specs.Titles.{titleHolds, pastTitle}
-use Rattle.planner_rules.specs.Runs.{Run, more, natural, capacityAt, filled, resumption, taken, holding, mergeStep, merged, runEnd, run, runs, cutAt, moved, placed, kept, nextCut, stretch, axisRuns}
+use Rattle.planner_rules.specs.Runs.{Run, more, natural, capacityAt, filled, resumption, taken, holding, mergeStep, merged, runEnd, run, runs, cutAt}
+use Rattle.planner_rules.specs.Runs.{moved, placed, kept, nextCut, stretch, axisRuns}
 use Rattle.planner_rules.specs.Lent.{firsts, lasts, sizes}
 use Rattle.planner_rules.specs.Division.{Fewest, FewestRuns, keptBreaks}
 use Rattle.planner_rules.proofs.Laws.{either, natural-pos, natural-le, length-mid, split}
 use Rattle.planner_rules.proofs.AxisLaws.{placed-zero, placed-past, placed-moved, kept-yes, kept-low}
-use Rattle.planner_rules.proofs.Division.{Chain, done, link, Counts, chain-le, chain-counts, division-of, total, Good, cuts-from, within-from, chain-of}
+use Rattle.planner_rules.proofs.Division.{Chain, done, link, Counts, chain-le, chain-counts, division-of, total, Good, cuts-from, within-from}
+use Rattle.planner_rules.proofs.Division.{chain-of}
 use Rattle.planner_rules.proofs.Cuts.{keptCuts, counts, slotsOf, Stretch, marked-chain, runs-chain, axis-chain, kept-ordered, ordered-in}
 use Rattle.planner_rules.proofs.Whole.{axis-tells}
 
@@ -121,7 +123,8 @@ greedy cap cuts xs a e s p m h l n =
       high,
       (
         record { within = fits; clear = λ b i q. ⊎-elim (λ o. absurd (omega arith)) (λ o. omega arith) (s .free b i) },
-        λ q g. split e (p + m) (λ o. omega (arith, s .inside, g .clear e (s .stop (omega arith)) (omega arith))) (λ o. omega (arith, full o, g .within (omega arith))),
+        λ q g. split e (p + m) (λ o. omega (arith, s .inside, g .clear e (s .stop (omega arith)) (omega arith)))
+            (λ o. omega (arith, full o, g .within (omega arith))),
       ),
     )
 

@@ -21,7 +21,8 @@ use Rattle.planner_rules.specs.Titles.{pastTitle}
 use Rattle.planner_rules.specs.Runs.{Run, run, runs, stretch, axisRuns}
 use Rattle.planner_rules.specs.Lent.{sizes}
 use Rattle.planner_rules.specs.Division.{_∈_, Division, pieces, Within, Fewest}
-use Rattle.planner_rules.specs.Scale.{Space, Body, units, capacityOf, frameFor, runsAt, fitsSide, rendered, allFit, runsFit, meets, axisPasses, fitScale}
+use Rattle.planner_rules.specs.Scale.{Space, Body, units, capacityOf, frameFor, runsAt, fitsSide, rendered, allFit, runsFit, meets, axisPasses}
+use Rattle.planner_rules.specs.Scale.{fitScale}
 use Rattle.planner_rules.specs.Fitting.{RoundedFits, FitsPage, MeetsTarget, Reaches, Chosen}
 use Rattle.planner_rules.specs.Pages.{joined}
 use Rattle.planner_rules.proofs.Laws.{either, split}
@@ -220,7 +221,8 @@ module _ (s : Space) (b : Body) (n : ℕ) (plain : Plain s b n) (p : ℕ) (low :
 
   run-fits : (r : Run) → fitsSide s p (rendered s b r) ≡ leb ((p * (r .size + s .headings) + 500) / 1000) n
   run-fits r =
-      let none : cond (pastTitle (b .title) (r .first)) (s .titles) 0 ≡ 0 = rw (plain .no-titles) (either (λ (t : ℕ). t ≡ 0) (pastTitle (b .title) (r .first)) refl refl) in
+      let none : cond (pastTitle (b .title) (r .first)) (s .titles) 0 ≡ 0 = rw (plain .no-titles)
+      (either (λ (t : ℕ). t ≡ 0) (pastTitle (b .title) (r .first)) refl refl) in
       rw (none, add-zero) (fits-side s n p (r .size + s .headings) (plain .side-is) (omega (arith, plain .moderate)))
 
   all-fit : (rs : List Run) → allFit s b p rs ≡ true → (z : ℕ) → z ∈ sizes rs → Rounded z
@@ -237,7 +239,8 @@ module _ (s : Space) (b : Body) (n : ℕ) (plain : Plain s b n) (p : ℕ) (low :
   unfolding runsFit
   runs-fit [] = (
     (λ e z i. absurd i),
-    λ f. fits-side s n p (s .titles + s .headings) (plain .side-is) (omega (arith, plain .moderate)) ∙ le-leb _ n (rw (plain .no-titles) (headings-fit n (s .headings) p low high (plain .room))),
+    λ f. fits-side s n p (s .titles + s .headings) (plain .side-is) (omega (arith, plain .moderate)) ∙ le-leb _ n
+        (rw (plain .no-titles) (headings-fit n (s .headings) p low high (plain .room))),
   )
   runs-fit (r ∷ rs) = (all-fit (r ∷ rs), fit-all (r ∷ rs))
 

@@ -10,7 +10,8 @@ use borrow.Rule.Slice.PartMut.{putMid}
 use Rattle.planner_rules.proofs.Laws.{part, rest}
 use Rattle.planner_rules.specs.Slots.{written}
 use Rattle.planner_rules.specs.Runs.{Run}
-use Rattle.planner_rules.specs.Lent.{runNumbers, numbersOf, flat, roomIn, numberAt, firstRun, runsIn, firsts, lasts, sizes, Room, RoomAt, Written, WrittenAt}
+use Rattle.planner_rules.specs.Lent.{runNumbers, numbersOf, flat, roomIn, numberAt, firstRun, runsIn, firsts, lasts, sizes, Room, RoomAt, Written}
+use Rattle.planner_rules.specs.Lent.{WrittenAt}
 
 -- `new` is `old` with the first k values of `whole` written to its front; `left` are the values to come
 pub record Wrote (whole old : List ℕ) (k : ℕ) (left new : List ℕ) : Type 0 where

@@ -16,7 +16,8 @@ use Rattle.planner_rules.specs.declared.pages.Page.{Page}
 use Rattle.planner_rules.specs.declared.pages.Plan.{Plan}
 use Rattle.planner_rules.specs.Questions.{ask, noOr}
 use Rattle.planner_rules.specs.Lent.{roomIn}
-use Rattle.planner_rules.specs.Pages.{pageAt, inOrder, pagesOf, holdsRuns, numbered, pageNumbered, pageAfter, listPages, pagesLent, countIn, pageCount, listsNo}
+use Rattle.planner_rules.specs.Pages.{pageAt, inOrder, pagesOf, holdsRuns, numbered, pageNumbered, pageAfter, listPages, pagesLent, countIn, pageCount}
+use Rattle.planner_rules.specs.Pages.{listsNo}
 use Rattle.planner_rules.proofs.QuestionLaws.{asked-no, asked-yes, no-number}
 use Rattle.planner_rules.proofs.PageLaws.{numbered-first, page-count}
 use Rattle.planner_rules.proofs.PagesCode.{is-page, page-some, rooms-of}
@@ -38,7 +39,8 @@ module _ (p : Plan) where
   count-pages k h = let l : p .pages < p .«column_runs» * p .«row_runs» = div-lt-iff-lt-mul k .0 h in omega arith
 
   pub places-within : 0 < p .«row_runs» → p .«column_runs» ≤ p .pages / p .«row_runs» → places ≤ p .pages
-  places-within k h = split places (p .pages) (λ l. l) (λ l. let m : p .pages < p .«column_runs» * p .«row_runs» = omega arith in absurd (omega (arith, div-lt-iff-lt-mul k .1 m)))
+  places-within k h = split places (p .pages) (λ l. l)
+      (λ l. let m : p .pages < p .«column_runs» * p .«row_runs» = omega arith in absurd (omega (arith, div-lt-iff-lt-mul k .1 m)))
 
   pub count-places : 0 < p .«row_runs» → p .«column_runs» ≤ p .pages / p .«row_runs» → places ≡ pageCount p
   count-places k h = omega (arith, places-within k h)
@@ -121,7 +123,8 @@ module _ {A : Type 0} where
   pub filled-length : (i : ℕ) (xs ys : List A) → i ≤ length xs → i ≤ length ys → length (take i xs ++ drop i ys) ≡ length ys
   filled-length i xs ys h g = length-front ys (take i xs) i (length-take-le i xs h ∙ sym (length-take-le i ys g))
 
-  filled-suc : (i : ℕ) (xs ys : List A) (x : A) → numbered xs (suc i) ≡ given x → i < length ys → set (take i xs ++ drop i ys) i x ≡ take (suc i) xs ++ drop (suc i) ys
+  filled-suc : (i : ℕ) (xs ys : List A) (x : A) → numbered xs (suc i) ≡ given x → i < length ys → set (take i xs ++ drop i ys) i x ≡ take (suc i) xs ++ drop
+      (suc i) ys
   unfolding numbered
   filled-suc i [] ys x e h = let z : _≡_ {A = ℕ} 0 1 = ap tag e in absurd (omega arith)
   filled-suc i (z ∷ xs) [] x e h = absurd (omega arith)
@@ -129,7 +132,8 @@ module _ {A : Type 0} where
   filled-suc (suc i) (z ∷ xs) (y ∷ ys) x e h = ap (λ (l : List A). z ∷ l) (filled-suc i xs ys x e (omega arith))
 
   -- one more
-  pub filled-more : (i : ℕ) (xs ys : List A) (x : A) → numbered xs (suc i) ≡ given x → i < length ys → set (take i xs ++ drop i ys) i x ≡ take (i + 1) xs ++ drop (i + 1) ys
+  pub filled-more : (i : ℕ) (xs ys : List A) (x : A) → numbered xs (suc i) ≡ given x → i < length ys → set (take i xs ++ drop i ys) i x ≡ take
+      (i + 1) xs ++ drop (i + 1) ys
   filled-more i xs ys x e h = rw add-one (filled-suc i xs ys x e h)
 
 -- the offset of an element of 64 bytes fits

@@ -31,7 +31,8 @@ nearer-free : (lo hi f l b : ℕ) (held : Held) → not (holds f l b) ≡ true �
 nearer-free lo hi f l b held h =
     split b f (λ p. nearer-late lo f (min l hi) b held p)
     (λ p.
-    split b l (λ q. let z = rw (lt-ltb f b p, le-leb b l q) at h in let w : _≡_ {A = ℕ} 0 1 = cc in absurd (omega arith)) (λ q. nearer-short hi (max f lo) l b held q))
+    split b l (λ q. let z = rw (lt-ltb f b p, le-leb b l q) at h in let w : _≡_ {A = ℕ} 0 1 = cc in absurd (omega arith))
+    (λ q. nearer-short hi (max f lo) l b held q))
 
 -- ---- from the last one back
 
@@ -87,4 +88,5 @@ module _ (lo hi b : ℕ) where
       → holdingOnto lo hi b (mid a e fs) (mid a e ls) (holding lo hi b (drop e fs) (drop e ls)) ≡ holding lo hi b (drop a fs) (drop a ls)
   holding-part a e fs ls h k q =
       let on : a + (e - a) ≡ e = omega arith in
-      rw (drop-drop (e - a) a fs, drop-drop (e - a) a ls, on) at (holding-split (e - a) (drop a fs) (drop a ls) (omega (arith, length-drop a fs)) (omega (arith, length-drop a ls)))
+      rw (drop-drop (e - a) a fs, drop-drop (e - a) a ls, on)
+      at (holding-split (e - a) (drop a fs) (drop a ls) (omega (arith, length-drop a fs)) (omega (arith, length-drop a ls)))

@@ -131,7 +131,9 @@ room-numbers l row-room column-room limit k e = go (leb (length (l .rows)) row-r
 pub plan-numbers : (s : Settings) (rows columns : AxisInput) (lr lc : List ℕ) (k : ℕ) → planned s rows columns lr lc ≡ refused k
     → (6 ≤ k) × (k ≤ 12) × (k ≡ 10 → ⊥)
 plan-numbers s rows columns lr lc k e =
-    split 6 k (λ h. split k 9 (λ g. (h, omega arith, λ i. omega arith)) (λ g. let r = of-room (λ n low high i. omega arith) in (omega arith, r .1, λ i. omega arith)))
+    split 6 k
+    (λ h. split k 9 (λ g. (h, omega arith, λ i. omega arith))
+    (λ g. let r = of-room (λ n low high i. omega arith) in (omega arith, r .1, λ i. omega arith)))
     (λ h. let r = of-room (λ n low high i. omega arith) in absurd (omega arith))
   where
     of-room : ((n : ℕ) → 6 ≤ n → n ≤ 9 → n ≡ k → ⊥) → (11 ≤ k) × (k ≤ 12)

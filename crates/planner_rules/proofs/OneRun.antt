@@ -86,7 +86,8 @@ one-run (n ∷ ns) xs d r j h =
     split n j
     (λ l.
     let e : n + (j - n) ≡ j = omega arith in
-    let there : InOneRun fs ls (getD (drop n xs) (j - n) 0) = one-run ns (drop n xs) (others n ns xs d) (rising-drop n xs r) (j - n) (omega (arith, length-drop n xs)) in
+    let there : InOneRun fs ls (getD (drop n xs) (j - n) 0) = one-run ns (drop n xs) (others n ns xs d) (rising-drop n xs r) (j - n)
+    (omega (arith, length-drop n xs)) in
     past-first (firstOf (take n xs)) (lastOf (take n xs)) fs ls x (omega (arith, last, r (n - 1) j (omega arith) h))
     (rw (getD-drop n xs (j - n) 0, e) at there))
     (λ l. at-first (firstOf (take n xs)) (lastOf (take n xs)) fs ls x

@@ -159,7 +159,8 @@ module _ (rows columns : ℕ) where
     horizontal-below DownThenOver = line-below columns rows before (omega arith)
     horizontal-below OverThenDown = place-below rows columns before h
 
-    pub before-of-place : (order : PageOrder) → beforeOf order rows columns (verticalOf order rows columns before) (horizontalOf order rows columns before) ≡ before
+    pub before-of-place : (order : PageOrder) → beforeOf order rows columns (verticalOf order rows columns before) (horizontalOf order rows columns before)
+        ≡ before
     before-of-place DownThenOver = div-add-mod' before rows
     before-of-place OverThenDown = div-add-mod' before columns
 

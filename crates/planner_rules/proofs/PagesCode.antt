@@ -18,7 +18,8 @@ use Rattle.planner_rules.specs.declared.pages.Plan.{Plan}
 use Rattle.planner_rules.specs.Questions.{ask, noOr}
 use Rattle.planner_rules.specs.Lent.{runNumbers, roomIn, runsIn}
 use Rattle.planner_rules.specs.Scale.{Space, fitsSide, printed}
-use Rattle.planner_rules.specs.Pages.{overflowing, Moderate, runAt, pageAt, inOrder, pagesOf, holdsRuns, numbered, pageNumbered, placeOf, pageAfter, hasPage, listsNo, firstNo}
+use Rattle.planner_rules.specs.Pages.{overflowing, Moderate, runAt, pageAt, inOrder, pagesOf, holdsRuns, numbered, pageNumbered, placeOf, pageAfter}
+use Rattle.planner_rules.specs.Pages.{hasPage, listsNo, firstNo}
 use Rattle.planner_rules.proofs.QuestionLaws.{asked-no, asked-yes, both}
 use Rattle.planner_rules.proofs.PageLaws.{numbered-zero, numbered-take, numbered-take-past, page-of, page-beyond}
 use Rattle.planner_rules.proofs.Laws.{split}
@@ -65,7 +66,8 @@ module _ (rows columns before : ℕ) where
   some-columns h = split columns 0 (λ z. let e : columns ≡ 0 = omega arith in absurd (omega (arith, rw e at h))) (λ z. z)
 
 -- two runs at a place are its page
-pub page-there : (p : Plan) (rows columns : List ℕ) (before : ℕ) (k : Place) (r c : PageRun) → k ≡ placeOf (p .order) (p .«row_runs») (p .«column_runs») before
+pub page-there : (p : Plan) (rows columns : List ℕ) (before : ℕ) (k : Place) (r c : PageRun) → k ≡ placeOf (p .order) (p .«row_runs»)
+    (p .«column_runs») before
     → r ≡ runAt rows (p .«rows_empty») (k .vertical) → c ≡ runAt columns (p .«columns_empty») (k .horizontal)
     → record { vertical = k .vertical; horizontal = k .horizontal; rows = r; columns = c } ≡ pageAfter p rows columns before
 unfolding pageAfter
@@ -134,7 +136,8 @@ module _ (p : Plan) (n : ℕ) where
         split n (p .pages)
         (λ l.
         numbered-take (p .pages) all n l
-        ∙ page-beyond (p .«row_runs») (p .«column_runs») (pageAt rows columns p) (p .order) n (split n places (λ g. let e : true ≡ false = sym (is-page low l g) ∙ h in let z : _≡_ {A = ℕ} 0 1 = cc in absurd (omega arith)) (λ g. g)))
+        ∙ page-beyond (p .«row_runs») (p .«column_runs») (pageAt rows columns p) (p .order) n
+        (split n places (λ g. let e : true ≡ false = sym (is-page low l g) ∙ h in let z : _≡_ {A = ℕ} 0 1 = cc in absurd (omega arith)) (λ g. g)))
         (λ l. numbered-take-past (p .pages) all n l))
         (λ z. let e : n ≡ 0 = omega arith in rw e (numbered-zero _))
 

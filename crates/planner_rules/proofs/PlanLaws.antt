@@ -28,7 +28,10 @@ use Rattle.planner_rules.specs.Runs.{Run, axisRuns, shifts, expansions, 
 use Rattle.planner_rules.specs.Lent.{runNumbers, flat, roomIn, runsIn, sizes, Room}
 use Rattle.planner_rules.specs.Scale.{Scale, Space, spaceOf, bodyFor, frameFor, fitsSide, printed, axisPasses, fitPasses, fitScale, fixedScale}
 use Rattle.planner_rules.specs.Pages.{none, orEmpty, overflowing, Moderate}
-use Rattle.planner_rules.specs.Plan.{AxisInput, rowsOf, columnsOf, AreRows, AreColumns, Sides, titleOf, startOf, bodyPart, bodyOf, spaceOn, lookedAt, contentSides, chosenScale, cutRuns, cutShifts, pageRuns, overflows, Layout, planOf, layoutAt, layout, roomFor, planned, formed, inGrid, firstNo, Planned, axisFor, Fine, ReadyFor, within, readyFrame, readyRuns, readyShifts, cutOf, cutFrom, roomNo, Cuttable}
+use Rattle.planner_rules.specs.Plan.{AxisInput, rowsOf, columnsOf, AreRows, AreColumns, Sides, titleOf, startOf, bodyPart, bodyOf, spaceOn, lookedAt}
+use Rattle.planner_rules.specs.Plan.{contentSides, chosenScale, cutRuns, cutShifts, pageRuns, overflows, Layout, planOf, layoutAt, layout, roomFor}
+use Rattle.planner_rules.specs.Plan.{planned, formed, inGrid, firstNo, Planned, axisFor, Fine, ReadyFor, within, readyFrame, readyRuns, readyShifts}
+use Rattle.planner_rules.specs.Plan.{cutOf, cutFrom, roomNo, Cuttable}
 use Rattle.planner_rules.proofs.QuestionLaws.{asked-no, asked-yes, no-number, both, slots-of}
 use Rattle.planner_rules.proofs.PartitionLaws.{stops, goes}
 use Rattle.planner_rules.proofs.Laws.{either}
@@ -140,7 +143,8 @@ module _ (s : Settings) (a b : AxisInput) (la lb : List ℕ) (n : ℕ) (e : n �
 pub start-small : (r : AxisRange) (is ss fs ls : List ℕ) → Fine r is ss fs ls → (title : Title) (w : widened (r .limit) (r .title) fs ls .title ≡ title)
     → bodyStart title (r .first) ≤ r .limit + 1
 start-small r is ss fs ls f title w =
-    body-start-le (r .limit) title (r .first) (omega (arith, f .first-inside, f .last-inside)) (λ g m e. widened-pair (r .limit) fs ls (f .merges-inside) (r .title) g m (w ∙ e) .1)
+    body-start-le (r .limit) title (r .first) (omega (arith, f .first-inside, f .last-inside))
+    (λ g m e. widened-pair (r .limit) fs ls (f .merges-inside) (r .title) g m (w ∙ e) .1)
 
 -- what a ready axis has of a list is what the body has
 pub within-body : (r : Ready) (side : ℤ) (a : AxisInput) → ReadyFor r side a → (xs : List ℕ) → within r xs ≡ bodyPart a xs
@@ -165,7 +169,8 @@ module _ (r : Ready) (side : ℤ) (a : AxisInput) (y : ReadyFor r side a) (p : �
   shifts-of = rw (frame-of r side a y p, within-body r side a y (a .indexes))
 
 -- the slots of a ready axis
-pub cuttable : (q : AxisRange) (is ss fs ls bs : List ℕ) (r : Ready) (side : ℤ) → Fine q is ss fs ls → ReadyFor r side (axisFor q is ss fs ls bs) → Cuttable r is ss
+pub cuttable : (q : AxisRange) (is ss fs ls bs : List ℕ) (r : Ready) (side : ℤ) → Fine q is ss fs ls → ReadyFor r side (axisFor q is ss fs ls bs)
+    → Cuttable r is ss
 cuttable q is ss fs ls bs r side f y =
     let a : AxisInput = axisFor q is ss fs ls bs in
     record {
@@ -178,7 +183,8 @@ cuttable q is ss fs ls bs r side f y =
 -- ---- scale
 
 passes-of : (r : Ready) (side : ℤ) (a : AxisInput) → ReadyFor r side a → (p : ℕ)
-    → fitPasses (r .fit) (a .merge-firsts) (a .merge-lasts) (within r (a .indexes)) (within r (a .sizes)) p ≡ axisPasses (spaceOn side a) (bodyOf a) (a .target) p
+    → fitPasses (r .fit) (a .merge-firsts) (a .merge-lasts) (within r (a .indexes)) (within r (a .sizes)) p ≡ axisPasses (spaceOn side a) (bodyOf a)
+    (a .target) p
 unfolding bodyOf
 passes-of r side a y p =
     rw (y .space-is, y .title-is, y .lo-is, y .hi-is, y .target-is, within-body r side a y (a .indexes), within-body r side a y (a .sizes))
@@ -199,7 +205,8 @@ cut-from (r ∷ rs) k = let e : max (length (r ∷ rs)) 1 ≡ length (r ∷ rs) 
 
 -- a final cut is of the body's runs
 pub cut-of : (r : Ready) (side : ℤ) (a : AxisInput) → ReadyFor r side a → (p : ℕ) (c : FinalCut)
-    → c ≡ cutOf (readyRuns r p (a .indexes) (a .sizes) (a .merge-firsts) (a .merge-lasts) (a .breaks)) (readyShifts r p (a .indexes) (a .merge-firsts) (a .merge-lasts) (a .breaks))
+    → c ≡ cutOf (readyRuns r p (a .indexes) (a .sizes) (a .merge-firsts) (a .merge-lasts) (a .breaks))
+    (readyShifts r p (a .indexes) (a .merge-firsts) (a .merge-lasts) (a .breaks))
     → c ≡ cutOf (cutRuns side a p) (cutShifts side a p)
 cut-of r side a y p c e = e ∙ ap₂ cutOf (runs-of r side a y p) (shifts-of r side a y p)
 
@@ -310,7 +317,8 @@ module _ (s : Settings) (c : Sides) (a b : AxisInput) (scale : Scale) where
   unfolding pageRuns
   cut-runs side x k e = as-many (x .first) (cutRuns side x p) ∙ sym (ap (λ (y : FinalCut). y .runs) e)
 
-  module _ (rc cc : FinalCut) (er : rc ≡ cutOf (cutRuns (c .height) a p) (cutShifts (c .height) a p)) (ec : cc ≡ cutOf (cutRuns (c .width) b p) (cutShifts (c .width) b p)) where
+  module _ (rc cc : FinalCut) (er : rc ≡ cutOf (cutRuns (c .height) a p) (cutShifts (c .height) a p))
+      (ec : cc ≡ cutOf (cutRuns (c .width) b p) (cutShifts (c .width) b p)) where
     pub row-count : length (layoutAt s c a b scale .rows) ≡ rc .runs
     unfolding layoutAt
     row-count = cut-runs (c .height) a rc er
@@ -323,7 +331,8 @@ module _ (s : Settings) (c : Sides) (a b : AxisInput) (scale : Scale) where
     unfolding layoutAt planOf
     page-count = ap₂ (λ (m n : ℕ). m * n) (cut-runs (c .height) a rc er) (cut-runs (c .width) b cc ec)
 
-    pub value-is : valueOf s c scale rc cc (titleOf a .ignored + titleOf b .ignored) (titleOf a .expanded + titleOf b .expanded) (overflows (c .height) a p + overflows (c .width) b p)
+    pub value-is : valueOf s c scale rc cc (titleOf a .ignored + titleOf b .ignored) (titleOf a .expanded + titleOf b .expanded)
+        (overflows (c .height) a p + overflows (c .width) b p)
         ≡ layoutAt s c a b scale .plan
     unfolding layoutAt planOf
     value-is = rw (cut-runs (c .height) a rc er, cut-runs (c .width) b cc ec, er, ec)
@@ -366,7 +375,8 @@ front-of rs n old new e r w =
     record { long = omega arith; runs-long = omega (arith, ap length front, flat-length rs); front-is = front }
 
 -- a run of a list weighs what the run weighs
-flat-overflowing : (s : Space) (t : Title) (p : ℕ) (empty : Bool) (rs : List Run) → overflowing s t p empty (runsIn (length rs) (flat rs)) ≡ overflowing s t p empty rs
+flat-overflowing : (s : Space) (t : Title) (p : ℕ) (empty : Bool) (rs : List Run) → overflowing s t p empty (runsIn (length rs) (flat rs))
+    ≡ overflowing s t p empty rs
 unfolding overflowing runsIn flat
 flat-overflowing s t p empty [] = refl
 flat-overflowing s t p empty (r ∷ rs) =
@@ -438,8 +448,10 @@ pub overflows-few : (s : Space) (t : Title) (p : ℕ) (empty : Bool) (first : �
 overflows-few s t p empty first rs n k c e h =
     omega (arith, h, overflowing-le s t p empty (orEmpty first rs), as-many first rs, ap (λ (x : FinalCut). x .runs) e)
 
-pub plan-value : (s : Settings) (c : Sides) (a b : AxisInput) (scale : Scale) (rows columns : Ready) → ReadyFor rows (c .height) a → ReadyFor columns (c .width) b
-    → (rc cc : FinalCut) → rc ≡ cutOf (cutRuns (c .height) a (scale .permille)) (cutShifts (c .height) a (scale .permille)) → cc ≡ cutOf (cutRuns (c .width) b (scale .permille)) (cutShifts (c .width) b (scale .permille))
+pub plan-value : (s : Settings) (c : Sides) (a b : AxisInput) (scale : Scale) (rows columns : Ready) → ReadyFor rows (c .height) a → ReadyFor columns
+    (c .width) b
+    → (rc cc : FinalCut) → rc ≡ cutOf (cutRuns (c .height) a (scale .permille)) (cutShifts (c .height) a (scale .permille)) → cc ≡ cutOf
+    (cutRuns (c .width) b (scale .permille)) (cutShifts (c .width) b (scale .permille))
     → (m n : ℕ) → m ≡ overflows (c .height) a (scale .permille) → n ≡ overflows (c .width) b (scale .permille)
     → valueOf s c scale rc cc (rows .ignored + columns .ignored) (rows .expanded + columns .expanded) (m + n) ≡ layoutAt s c a b scale .plan
 plan-value s c a b scale rows columns yr yc rc cc er ec m n em en =
@@ -448,7 +460,8 @@ plan-value s c a b scale rows columns yr yc rc cc er ec m n em en =
 -- the scale that was chosen is the plan's
 pub scale-of : (s : Settings) (c : Sides) (a b : AxisInput) (rows columns : Ready) → ReadyFor rows (c .height) a → ReadyFor columns (c .width) b
     → cond (s .fit) (fitScale (λ p. fitPasses (rows .fit) (a .merge-firsts) (a .merge-lasts) (within rows (a .indexes)) (within rows (a .sizes)) p
-    && fitPasses (columns .fit) (b .merge-firsts) (b .merge-lasts) (within columns (b .indexes)) (within columns (b .sizes)) p)) (fixedScale (s .percent)) ≡ chosenScale s c a b
+    && fitPasses (columns .fit) (b .merge-firsts) (b .merge-lasts) (within columns (b .indexes)) (within columns (b .sizes)) p)) (fixedScale (s .percent))
+    ≡ chosenScale s c a b
 unfolding chosenScale
 scale-of s c a b rows columns yr yc =
     ap (λ (t : ℕ → Bool). cond (s .fit) (fitScale t) (fixedScale (s .percent)))
@@ -492,16 +505,22 @@ relay-call s c a b a′ b′ R C r R′ C′ ea eb e p =
     subst (λ (x : Outcome Layout). Planned x r R C R′ C′) o p
 
 -- an axis as the settings make it is within the grid, and its headings are low
-fine-as : (q : AxisRange) (is ss fs ls bs : List ℕ) (a : AxisInput) → axisFor q is ss fs ls bs ≡ a → a .limit ≤ 1048575 → a .headings ≤ 2 ^ 50 → Yes a → Fine q is ss fs ls
+fine-as : (q : AxisRange) (is ss fs ls bs : List ℕ) (a : AxisInput) → axisFor q is ss fs ls bs ≡ a → a .limit ≤ 1048575 → a .headings ≤ 2 ^ 50 → Yes a
+    → Fine q is ss fs ls
 fine-as q is ss fs ls bs a e low h y =
-    fine-of q is ss fs ls bs (rw (ap (λ (x : AxisInput). x .limit) e) low) (rw (ap (λ (x : AxisInput). x .headings) e) h) (subst (λ (x : AxisInput). Yes x) (sym e) y)
+    fine-of q is ss fs ls bs (rw (ap (λ (x : AxisInput). x .limit) e) low) (rw (ap (λ (x : AxisInput). x .headings) e) h)
+    (subst (λ (x : AxisInput). Yes x) (sym e) y)
 
-pub rows-fine : (q : AxisRange) (s : Settings) (g : PrintRange) (t : Title) (is ss fs ls bs : List ℕ) → AreRows q s g t → Yes (rowsOf s g t is ss fs ls bs) → Fine q is ss fs ls
+pub rows-fine : (q : AxisRange) (s : Settings) (g : PrintRange) (t : Title) (is ss fs ls bs : List ℕ) → AreRows q s g t → Yes (rowsOf s g t is ss fs ls bs)
+    → Fine q is ss fs ls
 unfolding limitOf
 rows-fine q s g t is ss fs ls bs e y =
-    fine-as q is ss fs ls (lookedAt (s .fit) bs) (rowsOf s g t is ss fs ls bs) (e is ss fs ls bs) (omega arith) (either (λ (n : ℕ). n ≤ 2 ^ 50) (s .headings) (omega arith) (omega arith)) y
+    fine-as q is ss fs ls (lookedAt (s .fit) bs) (rowsOf s g t is ss fs ls bs) (e is ss fs ls bs) (omega arith)
+    (either (λ (n : ℕ). n ≤ 2 ^ 50) (s .headings) (omega arith) (omega arith)) y
 
-pub columns-fine : (q : AxisRange) (s : Settings) (g : PrintRange) (t : Title) (is ss fs ls bs : List ℕ) → AreColumns q s g t → Yes (columnsOf s g t is ss fs ls bs) → Fine q is ss fs ls
+pub columns-fine : (q : AxisRange) (s : Settings) (g : PrintRange) (t : Title) (is ss fs ls bs : List ℕ) → AreColumns q s g t → Yes
+    (columnsOf s g t is ss fs ls bs) → Fine q is ss fs ls
 unfolding limitOf
 columns-fine q s g t is ss fs ls bs e y =
-    fine-as q is ss fs ls (lookedAt (s .fit) bs) (columnsOf s g t is ss fs ls bs) (e is ss fs ls bs) (omega arith) (either (λ (n : ℕ). n ≤ 2 ^ 50) (s .headings) (omega arith) (omega arith)) y
+    fine-as q is ss fs ls (lookedAt (s .fit) bs) (columnsOf s g t is ss fs ls bs) (e is ss fs ls bs) (omega arith)
+    (either (λ (n : ℕ). n ≤ 2 ^ 50) (s .headings) (omega arith) (omega arith)) y

@@ -75,8 +75,14 @@ or-small a b =
       | no p ↦ rw (lt-leb a 1073741823 (lt-of-not-le p), lt-leb (bitOr a b) 1073741823 (omega (arith, lt-of-not-le p, sum, and-le-r a b)))
       | yes p ↦
           elim (decLe b 1073741823) [
-            | no q ↦ rw (le-leb a 1073741823 p, lt-leb b 1073741823 (lt-of-not-le q), lt-leb (bitOr a b) 1073741823 (omega (arith, lt-of-not-le q, sum, and-le-l a b)))
-            | yes q ↦ rw (le-leb a 1073741823 p, le-leb b 1073741823 q, le-leb (bitOr a b) 1073741823 (omega (arith, or-lt 30 a b (omega arith) (omega arith))))
+            | no q ↦ rw (
+              le-leb a 1073741823 p,
+              lt-leb b 1073741823 (lt-of-not-le q),
+              lt-leb (bitOr a b) 1073741823
+                  (omega (arith, lt-of-not-le q, sum, and-le-l a b)),
+            )
+            | yes q ↦
+                rw (le-leb a 1073741823 p, le-leb b 1073741823 q, le-leb (bitOr a b) 1073741823 (omega (arith, or-lt 30 a b (omega arith) (omega arith))))
           ]
     ]
 

@@ -41,7 +41,9 @@ module _ (a : AxisInput) (even : length (a .indexes) ≡ length (a .sizes)) (sid
   cut-few : length (cutRuns side a p) ≤ length (a .indexes)
   unfolding cutRuns bodyOf
   cut-few =
-      let d = division-few _ _ (axis-division (frameFor (spaceOn side a) (bodyOf a) p) (a .merge-firsts) (a .merge-lasts) (bodyIndexes a) (bodySizes a) (a .breaks) (body-even a even)) in
+      let d = division-few _ _
+      (axis-division (frameFor (spaceOn side a) (bodyOf a) p) (a .merge-firsts) (a .merge-lasts) (bodyIndexes a) (bodySizes a) (a .breaks)
+      (body-even a even)) in
       omega (arith, length-map (cutRuns side a p) (λ (r : Run). r .slots), body-even a even, body-few a, d)
 
   -- no more runs than slots, and one where there are no slots

@@ -12,7 +12,8 @@ use Rattle.planner_rules.specs.declared.titles.Title.{Title}
 use Rattle.planner_rules.specs.declared.titles.Title.the-variants.{Absent, Pair}
 use Rattle.planner_rules.specs.Titles.{pastTitle}
 use Rattle.planner_rules.specs.Runs.{Run}
-use Rattle.planner_rules.specs.Scale.{Scale, Space, Body, orElse, clamped, fixedScale, runsAt, fitsSide, printed, rendered, allFit, runsFit, meets, axisPasses, halve, fitScale, titled}
+use Rattle.planner_rules.specs.Scale.{Scale, Space, Body, orElse, clamped, fixedScale, runsAt, fitsSide, printed, rendered, allFit, runsFit, meets}
+use Rattle.planner_rules.specs.Scale.{axisPasses, halve, fitScale, titled}
 
 -- ---- a percent, way by way
 

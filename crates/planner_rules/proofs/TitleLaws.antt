@@ -18,7 +18,8 @@ use Rattle.planner_rules.specs.declared.titles.Title.the-variants.{Absen
 use Rattle.planner_rules.specs.declared.titles.Normalized.{Normalized}
 use Rattle.planner_rules.specs.declared.titles.Span.{Span}
 use Rattle.planner_rules.specs.Slots.{Small, Slots, sum, below, mid}
-use Rattle.planner_rules.specs.Titles.{bodyStart, titleTotal, noMerge, widenTo, widens, pass, sameSpan, still, expandedTo, passes, expand, normalized, widenedFrom, widened}
+use Rattle.planner_rules.specs.Titles.{bodyStart, titleTotal, noMerge, widenTo, widens, pass, sameSpan, still, expandedTo, passes, expand, normalized}
+use Rattle.planner_rules.specs.Titles.{widenedFrom, widened}
 use Rattle.planner_rules.specs.Questions.{allWithin}
 use Rattle.planner_rules.proofs.Laws.{either, run-out, slots-mid}
 use Rattle.planner_rules.proofs.EndLaws.{below-le}
@@ -57,7 +58,8 @@ pub pass-part : (i e : ℕ) (fs ls : List ℕ) (s : Span) → i ≤ e → e ≤ 
     → pass (drop e fs) (drop e ls) (pass (mid i e fs) (mid i e ls) s) ≡ pass (drop i fs) (drop i ls) s
 pass-part i e fs ls s h k q =
     let on : i + (e - i) ≡ e = omega arith in
-    rw (drop-drop (e - i) i fs, drop-drop (e - i) i ls, on) at (pass-split (e - i) (drop i fs) (drop i ls) s (omega (arith, length-drop i fs)) (omega (arith, length-drop i ls)))
+    rw (drop-drop (e - i) i fs, drop-drop (e - i) i ls, on)
+    at (pass-split (e - i) (drop i fs) (drop i ls) s (omega (arith, length-drop i fs)) (omega (arith, length-drop i ls)))
 
 -- ---- widening
 
@@ -115,7 +117,8 @@ step-of s f l =
           | no p ↦ grows (record { down = omega arith; up = omega arith }) (omega arith) (omega arith) (rw (lt-leb (s .first) f (lt-of-not-le p)))
           | yes p ↦
               elim (decLe l (s .last)) [
-                | no q ↦ grows (record { down = omega arith; up = omega arith }) (omega arith) (omega arith) (rw (le-leb (s .first) f p, lt-leb l (s .last) (lt-of-not-le q)))
+                | no q ↦ grows (record { down = omega arith; up = omega arith }) (omega arith) (omega arith)
+                    (rw (le-leb (s .first) f p, lt-leb l (s .last) (lt-of-not-le q)))
                 | yes q ↦
                     let e : min (s .first) f ≡ s .first = omega arith in
                     let e′ : max (s .last) l ≡ s .last = omega arith in
@@ -349,7 +352,8 @@ module _ (limit : ℕ) (fs ls : List ℕ) (h : allWithin limit ls ≡ true) wher
       kept : Normalized
       kept = record { title = Pair a b; ignored = 0 }
 
-      go : (x y : Bool) → leb a b ≡ x → leb b limit ≡ y → cond (x && y) kept (record { title = Absent; ignored = 1 }) .title ≡ Pair f l → (f ≤ l) × (l ≤ limit)
+      go : (x y : Bool) → leb a b ≡ x → leb b limit ≡ y → cond (x && y) kept (record { title = Absent; ignored = 1 }) .title ≡ Pair f l → (f ≤ l)
+          × (l ≤ limit)
       go true true p q t = let e : a ≡ f = cc in let e′ : b ≡ l = cc in omega (arith, leb-true a b p, leb-true b limit q)
       go true false p q t = let z : _≡_ {A = ℕ} 0 1 = cc in absurd (omega arith)
       go false y p q t = let z : _≡_ {A = ℕ} 0 1 = cc in absurd (omega arith)
@@ -359,7 +363,8 @@ module _ (limit : ℕ) (fs ls : List ℕ) (h : allWithin limit ls ≡ true) wher
   unfolding widened widenedFrom
   widened-pair title g m t = go (normalized limit title .title) (normal-pair title) t
     where
-      go : (x : Title) → ((f l : ℕ) → x ≡ Pair f l → (f ≤ l) × (l ≤ limit)) → widenedFrom fs ls x (normalized limit title .ignored) .title ≡ Pair g m → (g ≤ m) × (m ≤ limit)
+      go : (x : Title) → ((f l : ℕ) → x ≡ Pair f l → (f ≤ l) × (l ≤ limit)) → widenedFrom fs ls x (normalized limit title .ignored) .title ≡ Pair g m
+          → (g ≤ m) × (m ≤ limit)
       go Absent p t = let z : _≡_ {A = ℕ} 0 1 = cc in absurd (omega arith)
       go (Pair f l) p t = omega (arith, p f l refl, expand-reach f l g m (p f l refl .1) t)
 

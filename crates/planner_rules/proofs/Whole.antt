@@ -65,7 +65,12 @@ run-told : (is ss : List ℕ) (p e n g : ℕ) → length is ≡ length ss → e 
 run-told is ss p e n g even inside low high = record {
   first-is = rw (getD-take (e - p) (drop p is) 0 0 (omega arith), getD-take n (drop p is) 0 0 (omega arith));
   last-is =
-      rw (length-take-le n (drop p is) (simp length-drop (omega arith)), getD-take (e - p) (drop p is) (n - 1) 0 (omega arith), getD-take n (drop p is) (n - 1) 0 (omega arith));
+      rw (
+        length-take-le n (drop p is) (simp length-drop (omega arith)),
+        getD-take (e - p) (drop p is) (n - 1) 0 (omega arith),
+        getD-take n (drop p is)
+            (n - 1) 0 (omega arith),
+      );
   size-is = rw (take-take n (e - p) (drop p ss) (omega arith));
 }
 

@@ -13,7 +13,8 @@ use planner_rules::Title;
 use planner_rules::Widened;
 use planner_rules::Widening;
 ghost use mathlib.Core.Path.{_≡_};
-ghost use Rattle.planner_rules.specs.Titles.{bodyStart, limitOf, normalized, noMerge, widens, widenTo, pass, sameSpan, expand, widened, widenTitle, wideningOutcome};
+ghost use Rattle.planner_rules.specs.Titles.{bodyStart, limitOf, normalized, noMerge, widens, widenTo, pass, sameSpan, expand, widened, widenTitle};
+ghost use Rattle.planner_rules.specs.Titles.{wideningOutcome};
 
 // So many merges are asked at once whether one of them widens a title.
 const PART: usize = 32;

@@ -3,7 +3,8 @@ use mathlib.Core.Path.{_≡_, refl, sym, ap, _∙_, subst}
 use mathlib.Core.Bool.{Bool, true, false, true≢false, _&&_}
 use Prim.Native.Nat.{ℕ, suc, _+_, _-_, _*_, _/_, _%_, _^_, _≤_, _<_, min}
 use native.Mathlib.Omega.{arith}
-use native.Mathlib.Nat.{one-mul, mul-comm, mul-right-comm, le-div-iff-mul-le, div-lt-iff-lt-mul, div-eq-of-lt, div-div-eq-div-mul, mul-add-div-right, lt-of-mul-lt-mul-right, mul-lt-mul-of-pos-right, mul-div-cancel, mul-le-mul-right, lt-of-le-of-lt, lt-of-lt-of-le, le-of-eq}
+use native.Mathlib.Nat.{one-mul, mul-comm, mul-right-comm, le-div-iff-mul-le, div-lt-iff-lt-mul, div-eq-of-lt, div-div-eq-div-mul, mul-add-div-right}
+use native.Mathlib.Nat.{lt-of-mul-lt-mul-right, mul-lt-mul-of-pos-right, mul-div-cancel, mul-le-mul-right, lt-of-le-of-lt, lt-of-lt-of-le, le-of-eq}
 use lib.Dec.{T, eqb, ltb, lt→ltb, lit≤}
 use lib.IntN.{ℤ, pos, negsuc}
 use lib.Ieee.{Float, nan, inf, fin, binary64, emax, up, down, mul, lt, eq, fits, toUnsigned}
@@ -61,7 +62,8 @@ refused-low (fin true m e) t =
   where
     pos2 : (b : ℕ) → 0 < b → 0 < 2 * b
     pos2 b h = omega arith
-refused-low (fin false m e) t = absurd (none (1 * down e) (m * up e * 2) (subst (λ (z : ℕ). 0 < z) (sym (one-mul (down e))) (down-pos e)) (ltb-false 0 (1 * down e + m * up e * 2) t))
+refused-low (fin false m e) t =
+    absurd (none (1 * down e) (m * up e * 2) (subst (λ (z : ℕ). 0 < z) (sym (one-mul (down e))) (down-pos e)) (ltb-false 0 (1 * down e + m * up e * 2) t))
   where
     none : (x y : ℕ) → 0 < x → x + y ≤ 0 → ⊥
     none x y h k = omega arith
@@ -140,7 +142,8 @@ pos-double (fin false n d) a b p h v =
     let x = n * up d in
     let D = down d in
     let w : a * 2 < 2 ^ 64 * b = omega arith in
-    let g : x * b < 2 ^ 64 * D * b = lt-of-le-of-lt (le-of-eq (v .1)) (lt-of-lt-of-le (mul-lt-mul-of-pos-right w (down-pos d)) (le-of-eq (mul-right-comm (2 ^ 64) b D))) in
+    let g : x * b < 2 ^ 64 * D * b =
+    lt-of-le-of-lt (le-of-eq (v .1)) (lt-of-lt-of-le (mul-lt-mul-of-pos-right w (down-pos d)) (le-of-eq (mul-right-comm (2 ^ 64) b D))) in
     let i : x < 2 ^ 64 * D = lt-of-mul-lt-mul-right b g in
     let z : x / D < 2 ^ 64 = div-lt-iff-lt-mul (down-pos d) .1 i in
     let s : x / D ≡ a * 2 / b = div-same x D (a * 2) b (down-pos d) p (v .1) in (
@@ -154,7 +157,8 @@ abbrev pub fromHalves : ℕ → Outcome ℤ
 fromHalves u = given (pos (min (u / 2 + u % 2) (2 ^ 63 - 1)))
 
 pub halved : (x : Float) → T (fits binary64 x) → lt minus-half x ≡ true → lt x top ≡ true
-    → T (lt (fin true 1 (pos 0)) (mul binary64 x two)) × T (lt (mul binary64 x two) (fin false 1 (pos 64))) × (fromHalves (toUnsigned 64 (mul binary64 x two)) ≡ nearestUnits x)
+    → T (lt (fin true 1 (pos 0)) (mul binary64 x two)) × T (lt (mul binary64 x two) (fin false 1 (pos 64)))
+    × (fromHalves (toUnsigned 64 (mul binary64 x two)) ≡ nearestUnits x)
 unfolding lt
 halved nan f t r = absurd (true≢false (sym t))
 halved (inf true) f t r = absurd (true≢false (sym t))

@@ -16,7 +16,8 @@ pub ratio-pos : (z : ℤ) (k h d n : ℕ) → leZ (pos 0) z ≡ true → n ≡ m
 ratio-pos (pos m) k h d n e q = cut-pos ((m * k + h) / d) n q
 ratio-pos (negsuc m) k h d n e q = absurd (true≢false (sym e))
 
-pub ratio-neg : (z : ℤ) (k h d n : ℕ) → leZ (pos 0) z ≡ false → n ≡ min ((natAbs z * k + h) / d) (2 ^ 63 + 1) → inI64 (negℤ (pos n)) ≡ inI64 (signedRatio z k h d)
+pub ratio-neg : (z : ℤ) (k h d n : ℕ) → leZ (pos 0) z ≡ false → n ≡ min ((natAbs z * k + h) / d) (2 ^ 63 + 1) → inI64 (negℤ (pos n)) ≡ inI64
+    (signedRatio z k h d)
 ratio-neg (pos m) k h d n e q = absurd (not-neg m e)
 ratio-neg (negsuc m) k h d n e q = cut-neg ((suc m * k + h) / d) n q
 

@@ -119,10 +119,14 @@ minus-nat m (suc n) = refl
 
 module _ (a b : ℤ) where
   pub pos-pos-ge : leZ (pos 0) a ≡ true → leZ (pos 0) b ≡ true → natAbs b ≤ natAbs a → pos (natAbs a - natAbs b) ≡ a -ℤ b
-  pos-pos-ge p q h = sym (ap (λ (z : ℤ). z -ℤ b) (is-pos a p) ∙ ap (λ (z : ℤ). pos (natAbs a) -ℤ z) (is-pos b q) ∙ minus-nat (natAbs a) (natAbs b) ∙ sub-ge (natAbs a) (natAbs b) h)
+  pos-pos-ge p q h =
+      sym (ap (λ (z : ℤ). z -ℤ b) (is-pos a p) ∙ ap (λ (z : ℤ). pos (natAbs a) -ℤ z) (is-pos b q) ∙ minus-nat (natAbs a) (natAbs b) ∙ sub-ge (natAbs a)
+      (natAbs b) h)
 
   pub pos-pos-lt : leZ (pos 0) a ≡ true → leZ (pos 0) b ≡ true → natAbs a < natAbs b → negℤ (pos (natAbs b - natAbs a)) ≡ a -ℤ b
-  pos-pos-lt p q h = sym (ap (λ (z : ℤ). z -ℤ b) (is-pos a p) ∙ ap (λ (z : ℤ). pos (natAbs a) -ℤ z) (is-pos b q) ∙ minus-nat (natAbs a) (natAbs b) ∙ sub-lt (natAbs a) (natAbs b) h)
+  pos-pos-lt p q h =
+      sym (ap (λ (z : ℤ). z -ℤ b) (is-pos a p) ∙ ap (λ (z : ℤ). pos (natAbs a) -ℤ z) (is-pos b q) ∙ minus-nat (natAbs a) (natAbs b) ∙ sub-lt (natAbs a)
+      (natAbs b) h)
 
 pub pos-neg : (a b : ℤ) → leZ (pos 0) a ≡ true → leZ (pos 0) b ≡ false → pos (natAbs a + natAbs b) ≡ a -ℤ b
 pos-neg (pos m) (pos n) p q = absurd (not-neg n q)

@@ -34,7 +34,16 @@ returns c =
     let after-follows-on : tie.After-follows-on = search in
     let after-fine-of : tie.After-fine-of = search in
     let after-both : tie.After-both = search in
-    rw (c .count .ensures, c .before .columns-after .ensures, c .before .before .rows-after .ensures, after-both .both .ensures, after-fine-of .fine-of .ensures, after-follows-on .follows-on .ensures, after-asked-of .asked-of .ensures, after-rank-of .rank-of .ensures)
+    rw (
+      c .count .ensures,
+      c .before .columns-after .ensures,
+      c .before .before .rows-after .ensures,
+      after-both .both .ensures,
+      after-fine-of .fine-of .ensures,
+      after-follows-on .follows-on .ensures,
+      after-asked-of .asked-of .ensures,
+      after-rank-of .rank-of .ensures,
+    )
 
 pub advance-spec : {M : Type 1} → statement M
 advance-spec =

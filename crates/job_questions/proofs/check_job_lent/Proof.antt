@@ -28,7 +28,9 @@ returns c =
     let after-survey-job : tie.After-survey-job = search in
     let after-found2 : tie.After-found2 = search in
     let a = start .args in
-    job-no (itemsOf (records (a .bytes .now))) (a .equally-long) [] (a .bytes .now) (after-survey-job .survey-job .result) (after-survey-job .survey-job .ensures) _ (after-found2 .found2 .given .1) (c .before .first-no .result) (c .before .first-no .ensures) (c .if1 .taken)
+    job-no (itemsOf (records (a .bytes .now))) (a .equally-long) [] (a .bytes .now) (after-survey-job .survey-job .result)
+    (after-survey-job .survey-job .ensures) _ (after-found2 .found2 .given .1) (c .before .first-no .result) (c .before .first-no .ensures)
+    (c .if1 .taken)
 
 returns-2 : tie.Need-returns-2
 unfolding verdictLent
@@ -36,7 +38,8 @@ returns-2 c =
     let start : tie.Start = search in
     let after-survey-job : tie.After-survey-job = search in
     let a = start .args in
-    job-stopped (itemsOf (records (a .bytes .now))) (a .equally-long) [] (a .bytes .now) (after-survey-job .survey-job .result) _ (after-survey-job .survey-job .ensures) (c .before .found .given .1)
+    job-stopped (itemsOf (records (a .bytes .now))) (a .equally-long) [] (a .bytes .now) (after-survey-job .survey-job .result) _
+    (after-survey-job .survey-job .ensures) (c .before .found .given .1)
 
 returns-3 : tie.Need-returns-3
 unfolding verdictLent
@@ -45,8 +48,11 @@ returns-3 c =
     let after-survey-job : tie.After-survey-job = search in
     let after-found2 : tie.After-found2 = search in
     let v = itemsOf (records (start .args .bytes .now)) in
-    ap given (job-items v (start .args .equally-long) [] (start .args .bytes .now) (after-survey-job .survey-job .result) (after-survey-job .survey-job .ensures) _ (after-found2 .found2 .given .1) (c .before .before .first-no .result) (c .before .before .first-no .ensures))
-    ∙ job-yes v (start .args .equally-long) [] (start .args .bytes .now) (after-survey-job .survey-job .result) (after-survey-job .survey-job .ensures) _ (after-found2 .found2 .given .1) (c .before .before .first-no .result) (c .before .before .first-no .ensures) (c .before .if1 .left)
+    ap given (job-items v (start .args .equally-long) [] (start .args .bytes .now) (after-survey-job .survey-job .result)
+    (after-survey-job .survey-job .ensures) _ (after-found2 .found2 .given .1) (c .before .before .first-no .result)
+    (c .before .before .first-no .ensures))
+    ∙ job-yes v (start .args .equally-long) [] (start .args .bytes .now) (after-survey-job .survey-job .result) (after-survey-job .survey-job .ensures) _
+    (after-found2 .found2 .given .1) (c .before .before .first-no .result) (c .before .before .first-no .ensures) (c .before .if1 .left)
 
 pub check-job-lent-spec : {M : Type 1} → statement M
 check-job-lent-spec =

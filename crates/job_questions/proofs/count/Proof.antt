@@ -22,7 +22,13 @@ returns : tie.Need-returns
 returns c =
     let after-one-more : tie.After-one-more = search in
     let after-one-more2 : tie.After-one-more2 = search in
-    rw (c .one-more5 .ensures, c .before .one-more4 .ensures, c .before .before .one-more3 .ensures, after-one-more2 .one-more2 .ensures, after-one-more .one-more .ensures)
+    rw (
+      c .one-more5 .ensures,
+      c .before .one-more4 .ensures,
+      c .before .before .one-more3 .ensures,
+      after-one-more2 .one-more2 .ensures,
+      after-one-more .one-more .ensures,
+    )
 
 pub count-spec : {M : Type 1} → statement M
 count-spec =

@@ -46,12 +46,14 @@ returns-2 c =
 returns-3 : tie.Need-returns-3
 returns-3 c =
     let after-what3 : tie.After-what3 = search in
-    rw (c .size-ok .ensures, toZ-ofZ {w = w64} {z = after-what3 .what3 .given .0 .0 .size} (record { sfits = omega arith })) (sym (ap fine (after-what3 .what3 .given .1)))
+    rw (c .size-ok .ensures, toZ-ofZ {w = w64} {z = after-what3 .what3 .given .0 .0 .size} (record { sfits = omega arith }))
+    (sym (ap fine (after-what3 .what3 .given .1)))
 
 returns-4 : tie.Need-returns-4
 returns-4 c =
     let after-what4 : tie.After-what4 = search in
-    rw (c .size-ok2 .ensures, toZ-ofZ {w = w64} {z = after-what4 .what4 .given .0 .0 .size} (record { sfits = omega arith })) (sym (ap fine (after-what4 .what4 .given .1)))
+    rw (c .size-ok2 .ensures, toZ-ofZ {w = w64} {z = after-what4 .what4 .given .0 .0 .size} (record { sfits = omega arith }))
+    (sym (ap fine (after-what4 .what4 .given .1)))
 
 returns-5 : tie.Need-returns-5
 returns-5 c = sym (ap fine (c .enum-told .given .1))

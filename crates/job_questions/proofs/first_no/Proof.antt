@@ -17,14 +17,17 @@ returns-3 : tie.Need-returns-3
 unfolding answer
 returns-3 c =
     let else1 : tie.Else1 = search in
-    yes-here _ _ _ _ (not-false _ (else1 .if1 .left)) (yes-here _ _ _ _ (not-false _ (c .before .before .if2 .left)) (no-here _ _ _ (not-true _ (c .if3 .taken))))
+    yes-here _ _ _ _ (not-false _ (else1 .if1 .left))
+    (yes-here _ _ _ _ (not-false _ (c .before .before .if2 .left)) (no-here _ _ _ (not-true _ (c .if3 .taken))))
 
 returns-4 : tie.Need-returns-4
 unfolding answer
 returns-4 c =
     let else1 : tie.Else1 = search in
     let else2 : tie.Else2 = search in
-    yes-here _ _ _ _ (not-false _ (else1 .if1 .left)) (yes-here _ _ _ _ (not-false _ (else2 .if2 .left)) (yes-here _ _ _ _ (not-false _ (c .before .before .if3 .left)) (no-here _ _ _ (not-true _ (c .if4 .taken)))))
+    yes-here _ _ _ _ (not-false _ (else1 .if1 .left))
+    (yes-here _ _ _ _ (not-false _ (else2 .if2 .left))
+    (yes-here _ _ _ _ (not-false _ (c .before .before .if3 .left)) (no-here _ _ _ (not-true _ (c .if4 .taken)))))
 
 returns-5 : tie.Need-returns-5
 unfolding answer
@@ -33,7 +36,10 @@ returns-5 c =
     let else2 : tie.Else2 = search in
     let else3 : tie.Else3 = search in
     let else4 : tie.Else4 = search in
-    yes-here _ _ _ _ (not-false _ (else1 .if1 .left)) (yes-here _ _ _ _ (not-false _ (else2 .if2 .left)) (yes-here _ _ _ _ (not-false _ (else3 .if3 .left)) (yes-here _ _ _ _ (not-false _ (else4 .if4 .left)) (no-here _ _ _ (not-true _ (c .if5 .taken))))))
+    yes-here _ _ _ _ (not-false _ (else1 .if1 .left))
+    (yes-here _ _ _ _ (not-false _ (else2 .if2 .left))
+    (yes-here _ _ _ _ (not-false _ (else3 .if3 .left))
+    (yes-here _ _ _ _ (not-false _ (else4 .if4 .left)) (no-here _ _ _ (not-true _ (c .if5 .taken))))))
 
 returns-6 : tie.Need-returns-6
 unfolding answer
@@ -42,7 +48,11 @@ returns-6 c =
     let else2 : tie.Else2 = search in
     let else3 : tie.Else3 = search in
     let else4 : tie.Else4 = search in
-    yes-here _ _ _ _ (not-false _ (else1 .if1 .left)) (yes-here _ _ _ _ (not-false _ (else2 .if2 .left)) (yes-here _ _ _ _ (not-false _ (else3 .if3 .left)) (yes-here _ _ _ _ (not-false _ (else4 .if4 .left)) (yes-here _ _ _ _ (not-false _ (c .before .before .if5 .left)) (no-here _ _ _ (not-true _ (c .if6 .taken)))))))
+    yes-here _ _ _ _ (not-false _ (else1 .if1 .left))
+    (yes-here _ _ _ _ (not-false _ (else2 .if2 .left))
+    (yes-here _ _ _ _ (not-false _ (else3 .if3 .left))
+    (yes-here _ _ _ _ (not-false _ (else4 .if4 .left))
+    (yes-here _ _ _ _ (not-false _ (c .before .before .if5 .left)) (no-here _ _ _ (not-true _ (c .if6 .taken)))))))
 
 returns-7 : tie.Need-returns-7
 unfolding answer
@@ -51,7 +61,11 @@ returns-7 c =
     let else2 : tie.Else2 = search in
     let else3 : tie.Else3 = search in
     let else4 : tie.Else4 = search in
-    yes-here _ _ _ _ (not-false _ (else1 .if1 .left)) (yes-here _ _ _ _ (not-false _ (else2 .if2 .left)) (yes-here _ _ _ _ (not-false _ (else3 .if3 .left)) (yes-here _ _ _ _ (not-false _ (else4 .if4 .left)) (yes-here _ _ _ _ (not-false _ (c .before .before .if5 .left)) (yes-here _ _ _ _ (not-false _ (c .if6 .left)) (none-no _))))))
+    yes-here _ _ _ _ (not-false _ (else1 .if1 .left))
+    (yes-here _ _ _ _ (not-false _ (else2 .if2 .left))
+    (yes-here _ _ _ _ (not-false _ (else3 .if3 .left))
+    (yes-here _ _ _ _ (not-false _ (else4 .if4 .left))
+    (yes-here _ _ _ _ (not-false _ (c .before .before .if5 .left)) (yes-here _ _ _ _ (not-false _ (c .if6 .left)) (none-no _))))))
 
 pub first-no-spec : {M : Type 1} → statement M
 first-no-spec =

@@ -36,7 +36,8 @@ returns-2 c =
     let start : tie.Start Inv-loop μ-loop = search in
     let else1 : tie.Else1 Inv-loop μ-loop = search in
     let at-loop : tie.At-loop Inv-loop μ-loop = search in
-    seen-nothing (start .args .bytes .now) (at-loop .loop .s .now) (at-loop .loop .t) (at-loop .loop .inv) (c .before .before .read-record .result) (c .before .before .read-record .ensures) (else1 .if1 .left) (c .enum-told .given .1)
+    seen-nothing (start .args .bytes .now) (at-loop .loop .s .now) (at-loop .loop .t) (at-loop .loop .inv) (c .before .before .read-record .result)
+    (c .before .before .read-record .ensures) (else1 .if1 .left) (c .enum-told .given .1)
 
 rank-of-requires : tie.Need-rank-of-requires Inv-loop μ-loop
 rank-of-requires c κs = search needs
@@ -48,7 +49,9 @@ returns-3 c =
     let at-loop : tie.At-loop Inv-loop μ-loop = search in
     let after-read-record : tie.After-read-record Inv-loop μ-loop = search in
     let after-found : tie.After-found Inv-loop μ-loop = search in
-    seen-early (start .args .bytes .now) (at-loop .loop .s .now) (at-loop .loop .t) (at-loop .loop .inv) (after-read-record .read-record .result) (after-read-record .read-record .ensures) _ _ (c .before .before .rank-of .result) (after-found .found .given .1) (c .before .before .rank-of .ensures) (c .before .if2 .taken) (else1 .if1 .left) (c .if3 .taken)
+    seen-early (start .args .bytes .now) (at-loop .loop .s .now) (at-loop .loop .t) (at-loop .loop .inv) (after-read-record .read-record .result)
+    (after-read-record .read-record .ensures) _ _ (c .before .before .rank-of .result) (after-found .found .given .1)
+    (c .before .before .rank-of .ensures) (c .before .if2 .taken) (else1 .if1 .left) (c .if3 .taken)
 
 returns-4 : tie.Need-returns-4 Inv-loop μ-loop
 returns-4 c =
@@ -57,7 +60,9 @@ returns-4 c =
     let at-loop : tie.At-loop Inv-loop μ-loop = search in
     let after-read-record : tie.After-read-record Inv-loop μ-loop = search in
     let after-found : tie.After-found Inv-loop μ-loop = search in
-    seen-end (start .args .bytes .now) (at-loop .loop .s .now) (at-loop .loop .t) (at-loop .loop .inv) (after-read-record .read-record .result) (after-read-record .read-record .ensures) _ _ (c .before .before .rank-of .result) (after-found .found .given .1) (c .before .before .rank-of .ensures) (c .before .if2 .taken) (else1 .if1 .left) (c .if3 .left)
+    seen-end (start .args .bytes .now) (at-loop .loop .s .now) (at-loop .loop .t) (at-loop .loop .inv) (after-read-record .read-record .result)
+    (after-read-record .read-record .ensures) _ _ (c .before .before .rank-of .result) (after-found .found .given .1)
+    (c .before .before .rank-of .ensures) (c .before .if2 .taken) (else1 .if1 .left) (c .if3 .left)
 
 advance-requires : tie.Need-advance-requires Inv-loop μ-loop
 advance-requires c κs =
@@ -70,28 +75,45 @@ sub-s c =
     let at-loop : tie.At-loop Inv-loop μ-loop = search in
     let after-read-record : tie.After-read-record Inv-loop μ-loop = search in
     let after-found : tie.After-found Inv-loop μ-loop = search in
-    omega (arith, step-used (at-loop .loop .s .now) (after-read-record .read-record .result) _ _ (after-read-record .read-record .ensures) (after-found .found .given .1))
+    omega (
+      arith,
+      step-used (at-loop .loop .s .now) (after-read-record .read-record .result) _ _ (after-read-record .read-record .ensures)
+          (after-found .found .given .1),
+    )
 
 part-s-start : tie.Need-part-s-start Inv-loop μ-loop
 part-s-start c =
     let at-loop : tie.At-loop Inv-loop μ-loop = search in
     let after-read-record : tie.After-read-record Inv-loop μ-loop = search in
     let after-found : tie.After-found Inv-loop μ-loop = search in
-    omega (arith, step-used (at-loop .loop .s .now) (after-read-record .read-record .result) _ _ (after-read-record .read-record .ensures) (after-found .found .given .1))
+    omega (
+      arith,
+      step-used (at-loop .loop .s .now) (after-read-record .read-record .result) _ _ (after-read-record .read-record .ensures)
+          (after-found .found .given .1),
+    )
 
 part-s-end : tie.Need-part-s-end Inv-loop μ-loop
 part-s-end c =
     let at-loop : tie.At-loop Inv-loop μ-loop = search in
     let after-read-record : tie.After-read-record Inv-loop μ-loop = search in
     let after-found : tie.After-found Inv-loop μ-loop = search in
-    omega (arith, step-used (at-loop .loop .s .now) (after-read-record .read-record .result) _ _ (after-read-record .read-record .ensures) (after-found .found .given .1))
+    omega (
+      arith,
+      step-used (at-loop .loop .s .now) (after-read-record .read-record .result) _ _ (after-read-record .read-record .ensures)
+          (after-found .found .given .1),
+    )
 
 loop-less : tie.Need-loop-less Inv-loop μ-loop
 loop-less c =
     let at-loop : tie.At-loop Inv-loop μ-loop = search in
     let after-read-record : tie.After-read-record Inv-loop μ-loop = search in
     let after-found : tie.After-found Inv-loop μ-loop = search in
-    omega (arith, step-used (at-loop .loop .s .now) (after-read-record .read-record .result) _ _ (after-read-record .read-record .ensures) (after-found .found .given .1), length-part (after-found .found .given .0 .1 .0) (at-loop .loop .s .now))
+    omega (
+      arith,
+      step-used (at-loop .loop .s .now) (after-read-record .read-record .result) _ _ (after-read-record .read-record .ensures)
+          (after-found .found .given .1),
+      length-part (after-found .found .given .0 .1 .0) (at-loop .loop .s .now),
+    )
 
 loop-again : tie.Need-loop-again Inv-loop μ-loop
 loop-again c =
@@ -100,7 +122,9 @@ loop-again c =
     let after-read-record : tie.After-read-record Inv-loop μ-loop = search in
     let after-found : tie.After-found Inv-loop μ-loop = search in
     let after-rank-of : tie.After-rank-of Inv-loop μ-loop = search in
-    seen-more (start .args .bytes .now) (at-loop .loop .s .now) (at-loop .loop .t) (at-loop .loop .inv) (after-read-record .read-record .result) (after-read-record .read-record .ensures) _ _ (after-rank-of .rank-of .result) (c .before .advance .result) (after-found .found .given .1) (after-rank-of .rank-of .ensures) (c .before .before .if2 .left) (c .before .advance .ensures)
+    seen-more (start .args .bytes .now) (at-loop .loop .s .now) (at-loop .loop .t) (at-loop .loop .inv) (after-read-record .read-record .result)
+    (after-read-record .read-record .ensures) _ _ (after-rank-of .rank-of .result) (c .before .advance .result) (after-found .found .given .1)
+    (after-rank-of .rank-of .ensures) (c .before .before .if2 .left) (c .before .advance .ensures)
 
 pub survey-job-spec : {M : Type 1} → statement M
 survey-job-spec =

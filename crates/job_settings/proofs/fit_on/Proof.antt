@@ -21,7 +21,8 @@ enum-known-fit c = search needs
 returns : tie.Need-returns
 returns c =
     let start : tie.Start = search in
-    rw (c .is-given2 .ensures, c .before .is-given .ensures) (sym (ap (λ (x : FlagSetting). fitOn x (start .args .fit-width) (start .args .fit-height)) (c .before .before .enum-told .given .1)))
+    rw (c .is-given2 .ensures, c .before .is-given .ensures)
+    (sym (ap (λ (x : FlagSetting). fitOn x (start .args .fit-width) (start .args .fit-height)) (c .before .before .enum-told .given .1)))
 
 returns-2 : tie.Need-returns-2
 returns-2 c =

@@ -38,7 +38,14 @@ returns-2 c =
     let after-float : tie.After-float = search in
     let after-float2 : tie.After-float2 = search in
     let after-float3 : tie.After-float3 = search in
-    rw (c .float6 .ensures, c .before .float5 .ensures, c .before .before .float4 .ensures, after-float3 .float3 .ensures, after-float2 .float2 .ensures, after-float .float .ensures) (sym (ap marginSetting (after-margins .margins .given .1)))
+    rw (
+      c .float6 .ensures,
+      c .before .float5 .ensures,
+      c .before .before .float4 .ensures,
+      after-float3 .float3 .ensures,
+      after-float2 .float2 .ensures,
+      after-float .float .ensures,
+    ) (sym (ap marginSetting (after-margins .margins .given .1)))
 
 pub margin-setting-spec : {M : Type 1} → statement M
 margin-setting-spec =

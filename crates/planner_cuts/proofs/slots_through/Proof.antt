@@ -32,7 +32,8 @@ returns c =
     let s : tie.At-loop Inv-loop μ-loop = search in
     let i = s .loop .i in
     let l = s .before .args .indexes .now in
-    let e : through (s .before .args .last) l ≡ i - 1 + 1 = through-front (s .before .args .last) (i - 1) 0 l (through-found (s .before .args .last) i l (c .before .before .loop-test .taken) (s .loop .inv .0) (s .loop .inv .1) (c .if1 .taken)) in
+    let e : through (s .before .args .last) l ≡ i - 1 + 1 = through-front (s .before .args .last) (i - 1) 0 l
+    (through-found (s .before .args .last) i l (c .before .before .loop-test .taken) (s .loop .inv .0) (s .loop .inv .1) (c .if1 .taken)) in
     omega arith
 
 sub-i : tie.Need-sub-i Inv-loop μ-loop
@@ -45,7 +46,8 @@ loop-again : tie.Need-loop-again Inv-loop μ-loop
 loop-again c =
     let s : tie.At-loop Inv-loop μ-loop = search in (
       omega arith,
-      through-passed (s .before .args .last) (s .loop .i) (s .before .args .indexes .now) (c .before .before .loop-test .taken) (s .loop .inv .0) (s .loop .inv .1) (c .if1 .left),
+      through-passed (s .before .args .last) (s .loop .i) (s .before .args .indexes .now) (c .before .before .loop-test .taken) (s .loop .inv .0)
+          (s .loop .inv .1) (c .if1 .left),
     )
 
 returns-2 : tie.Need-returns-2 Inv-loop μ-loop

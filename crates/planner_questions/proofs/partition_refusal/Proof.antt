@@ -25,7 +25,8 @@ unfolding firstNo
 returns c =
     let after-formed : tie.After-formed = search in
     let f = c .before in
-    c .first-refused .ensures ∙ rw (f .all-small .ensures, f .before .rising-within .ensures, f .before .before .in-grid .ensures, after-formed .formed .ensures)
+    c .first-refused .ensures
+    ∙ rw (f .all-small .ensures, f .before .rising-within .ensures, f .before .before .in-grid .ensures, after-formed .formed .ensures)
 
 pub partition-refusal-spec : {M : Type 1} → statement M
 partition-refusal-spec =

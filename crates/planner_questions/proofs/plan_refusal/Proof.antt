@@ -42,7 +42,16 @@ returns c =
     let after-rising-within : tie.After-rising-within = search in
     let f = c .before in
     c .first-refused .ensures
-    ∙ rw (f .all-small2 .ensures, f .before .all-small .ensures, f .before .before .rising-within2 .ensures, after-rising-within .rising-within .ensures, after-in-grid2 .in-grid2 .ensures, after-in-grid .in-grid .ensures, after-formed2 .formed2 .ensures, after-formed .formed .ensures)
+    ∙ rw (
+      f .all-small2 .ensures,
+      f .before .all-small .ensures,
+      f .before .before .rising-within2 .ensures,
+      after-rising-within .rising-within .ensures,
+      after-in-grid2 .in-grid2 .ensures,
+      after-in-grid .in-grid .ensures,
+      after-formed2 .formed2 .ensures,
+      after-formed .formed .ensures,
+    )
 
 pub plan-refusal-spec : {M : Type 1} → statement M
 plan-refusal-spec =

@@ -16,7 +16,8 @@ returns c = let a = c .before .args in rw (lt-leb (a .rows) (a .row-room) (c .if
 
 returns-2 : tie.Need-returns-2
 unfolding roomNo
-returns-2 c = let a = c .before .before .args in rw (le-leb (a .rows) (a .row-room) (c .before .if1 .left), lt-leb (a .columns) (a .column-room) (c .if2 .taken))
+returns-2 c = let a = c .before .before .args in
+    rw (le-leb (a .rows) (a .row-room) (c .before .if1 .left), lt-leb (a .columns) (a .column-room) (c .if2 .taken))
 
 div-if4 : tie.Need-div-if4
 div-if4 c = search needs
@@ -40,7 +41,8 @@ returns-4 c =
     let else1 : tie.Else1 = search in
     let a = start .args in
     let few : a .rows * a .columns ≤ a .limit =
-    split (a .rows * a .columns) (a .limit) (λ l. l) (λ l. absurd (omega (arith, c .if4 .left, div-lt-iff-lt-mul {x = a .limit} {y = a .columns} (c .before .if3 .taken) .1 (omega (arith, l))))) in
+    split (a .rows * a .columns) (a .limit) (λ l. l)
+    (λ l. absurd (omega (arith, c .if4 .left, div-lt-iff-lt-mul {x = a .limit} {y = a .columns} (c .before .if3 .taken) .1 (omega (arith, l))))) in
     rw (
       le-leb (a .rows) (a .row-room) (else1 .if1 .left),
       le-leb (a .columns) (a .column-room) (c .before .before .if2 .left),

@@ -51,7 +51,8 @@ loop-again c =
     let l = at-loop .loop in
     let is = start .args .indexes .now in (
       omega arith,
-      ap (λ (b : Bool). ltb (getD is (l .i - 1 - 1) 0) (getD is (l .i - 1) 0) && b) (l .inv .1) ∙ sym (rising-back (l .i) is (c .before .before .loop-test .taken) (l .inv .0)),
+      ap (λ (b : Bool). ltb (getD is (l .i - 1 - 1) 0) (getD is (l .i - 1) 0) && b) (l .inv .1) ∙ sym
+          (rising-back (l .i) is (c .before .before .loop-test .taken) (l .inv .0)),
     )
 
 returns : tie.Need-returns Inv-loop μ-loop

@@ -152,7 +152,8 @@ returns c =
     let at-loop : tie.At-loop Inv-loop2 μ-loop2 Inv-loop μ-loop = search in
     let l = at-loop .loop in
     let a = start .args in
-    turn-ends (a .firsts .now) (a .lasts .now) (l .span) _ (passed (c .before)) (length (a .firsts .now) - l .expanded) (l .expanded) (said (c .before) true (c .if1 .taken))
+    turn-ends (a .firsts .now) (a .lasts .now) (l .span) _ (passed (c .before)) (length (a .firsts .now) - l .expanded) (l .expanded)
+    (said (c .before) true (c .if1 .taken))
     ∙ l .inv .1
 
 pub expand-repeat-for-merges-spec : {M : Type 1} → statement M

@@ -27,7 +27,15 @@ unfolding widenTitle
 returns-3 c =
     let o : tie.After-pairs-ordered = search in
     let else2 : tie.Else2 = search in
-    rw (eq-eqb _ _ (o .before .if1 .left), ← o .pairs-ordered .ensures, not-false (o .pairs-ordered .result) (else2 .if2 .left), ← c .before .before .limit .ensures, ← c .before .all-within .ensures, not-true (c .before .all-within .result) (c .if3 .taken))
+    rw (
+      eq-eqb _ _ (o .before .if1 .left),
+      ← o .pairs-ordered .ensures,
+      not-false (o .pairs-ordered .result)
+          (else2 .if2 .left),
+      ← c .before .before .limit .ensures,
+      ← c .before .all-within .ensures,
+      not-true (c .before .all-within .result) (c .if3 .taken),
+    )
 
 widened-title-requires : tie.Need-widened-title-requires
 widened-title-requires c κs = search needs
@@ -38,7 +46,17 @@ returns-4 c =
     let o : tie.After-pairs-ordered = search in
     let else2 : tie.Else2 = search in
     let after-limit : tie.After-limit = search in
-    rw (eq-eqb _ _ (o .before .if1 .left), ← o .pairs-ordered .ensures, not-false (o .pairs-ordered .result) (else2 .if2 .left), ← after-limit .limit .ensures, ← c .before .before .all-within .ensures, not-false (c .before .before .all-within .result) (c .before .if3 .left), c .widened-title .ensures)
+    rw (
+      eq-eqb _ _ (o .before .if1 .left),
+      ← o .pairs-ordered .ensures,
+      not-false (o .pairs-ordered .result)
+          (else2 .if2 .left),
+      ← after-limit .limit .ensures,
+      ← c .before .before .all-within .ensures,
+      not-false (c .before .before .all-within .result)
+          (c .before .if3 .left),
+      c .widened-title .ensures,
+    )
 
 pub widen-title-spec : {M : Type 1} → statement M
 widen-title-spec =

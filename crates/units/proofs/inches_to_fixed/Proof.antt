@@ -33,7 +33,8 @@ raw-is x =
     ∙ ap (λ (d : Float). nearestUnits (mul binary64 (mul binary64 x (ofInt binary64 (pos 96))) d)) thousand
 
 -- the two tests, at the numbers as the laws have them
-known : (c : tie.Then2) → let x = raw (c .before .before .args .inches) in T (lt (fin true 1 (pos 0)) (mul binary64 x two)) × T (lt (mul binary64 x two) (fin false 1 (pos 64))) × (fromHalves (toUnsigned 64 (mul binary64 x two)) ≡ nearestUnits x)
+known : (c : tie.Then2) → let x = raw (c .before .before .args .inches) in T (lt (fin true 1 (pos 0)) (mul binary64 x two)) × T
+    (lt (mul binary64 x two) (fin false 1 (pos 64))) × (fromHalves (toUnsigned 64 (mul binary64 x two)) ≡ nearestUnits x)
 unfolding raw ofBits neg
 known c = halved (raw (c .before .before .args .inches)) (raw-fits (c .before .before .args .inches)) (c .before .if1 .taken) (c .if2 .taken)
 

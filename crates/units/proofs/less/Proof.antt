@@ -43,7 +43,8 @@ returns-3 c =
     c .minus .ensures
     ∙ ap (λ (z : ℤ). inI64 (z -ℤ toZ w64 (ofZ w64 y))) (toZ-ofZ w64 x X)
     ∙ ap (λ (z : ℤ). inI64 (x -ℤ z)) (toZ-ofZ w64 y Y)
-    ∙ sym (ap (λ (l : Length). lessOf (lengthOutcome l) (lengthOutcome (s .before .before .args .b))) (s .a .given .1) ∙ ap (λ (l : Length). lessOf (given x) (lengthOutcome l)) (t .b .given .1))
+    ∙ sym (ap (λ (l : Length). lessOf (lengthOutcome l) (lengthOutcome (s .before .before .args .b))) (s .a .given .1) ∙ ap
+    (λ (l : Length). lessOf (given x) (lengthOutcome l)) (t .b .given .1))
 
 pub less-spec : {M : Type 1} → statement M
 less-spec =

@@ -84,7 +84,8 @@ returns c =
     let then1 : tie.Then1 = search in
     let h : natAbs (b s) ≤ natAbs (a s) = omega (arith, m-is s, n-is s, c .before .if3 .taken) in
     let e : s .before .magnitude .result - s .magnitude2 .result ≡ natAbs (a s) - natAbs (b s) = omega (arith, m-is s, n-is s) in
-    c .positive .ensures ∙ ap (λ (x : ℕ). inI64 (pos x)) e ∙ ap inI64 (pos-pos-ge (a s) (b s) (a-test s (then1 .if1 .taken)) (b-test s (c .before .before .if2 .taken)) h)
+    c .positive .ensures ∙ ap (λ (x : ℕ). inI64 (pos x)) e
+    ∙ ap inI64 (pos-pos-ge (a s) (b s) (a-test s (then1 .if1 .taken)) (b-test s (c .before .before .if2 .taken)) h)
 
 returns-2 : tie.Need-returns-2
 returns-2 c =
@@ -92,19 +93,22 @@ returns-2 c =
     let then1 : tie.Then1 = search in
     let h : natAbs (a s) < natAbs (b s) = omega (arith, m-is s, n-is s, c .before .if3 .left) in
     let e : s .magnitude2 .result - s .before .magnitude .result ≡ natAbs (b s) - natAbs (a s) = omega (arith, m-is s, n-is s) in
-    c .negative .ensures ∙ ap (λ (x : ℕ). inI64 (negℤ (pos x))) e ∙ ap inI64 (pos-pos-lt (a s) (b s) (a-test s (then1 .if1 .taken)) (b-test s (c .before .before .if2 .taken)) h)
+    c .negative .ensures ∙ ap (λ (x : ℕ). inI64 (negℤ (pos x))) e
+    ∙ ap inI64 (pos-pos-lt (a s) (b s) (a-test s (then1 .if1 .taken)) (b-test s (c .before .before .if2 .taken)) h)
 
 returns-3 : tie.Need-returns-3
 returns-3 c =
     let s : tie.After-magnitude2 = search in
     let e : s .before .magnitude .result + s .magnitude2 .result ≡ natAbs (a s) + natAbs (b s) = omega (arith, m-is s, n-is s) in
-    c .positive2 .ensures ∙ ap (λ (x : ℕ). inI64 (pos x)) e ∙ ap inI64 (pos-neg (a s) (b s) (a-test s (c .before .before .if1 .taken)) (b-test s (c .before .if2 .left)))
+    c .positive2 .ensures ∙ ap (λ (x : ℕ). inI64 (pos x)) e
+    ∙ ap inI64 (pos-neg (a s) (b s) (a-test s (c .before .before .if1 .taken)) (b-test s (c .before .if2 .left)))
 
 returns-4 : tie.Need-returns-4
 returns-4 c =
     let s : tie.After-magnitude2 = search in
     let e : s .before .magnitude .result + s .magnitude2 .result ≡ natAbs (a s) + natAbs (b s) = omega (arith, m-is s, n-is s) in
-    c .negative2 .ensures ∙ ap (λ (x : ℕ). inI64 (negℤ (pos x))) e ∙ ap inI64 (neg-pos (a s) (b s) (a-test s (c .before .before .if1 .left)) (b-test s (c .before .if4 .taken)))
+    c .negative2 .ensures ∙ ap (λ (x : ℕ). inI64 (negℤ (pos x))) e
+    ∙ ap inI64 (neg-pos (a s) (b s) (a-test s (c .before .before .if1 .left)) (b-test s (c .before .if4 .taken)))
 
 returns-5 : tie.Need-returns-5
 returns-5 c =
@@ -112,7 +116,8 @@ returns-5 c =
     let else1 : tie.Else1 = search in
     let h : natAbs (b s) ≤ natAbs (a s) = omega (arith, m-is s, n-is s, c .before .if5 .taken) in
     let e : s .before .magnitude .result - s .magnitude2 .result ≡ natAbs (a s) - natAbs (b s) = omega (arith, m-is s, n-is s) in
-    c .negative3 .ensures ∙ ap (λ (x : ℕ). inI64 (negℤ (pos x))) e ∙ ap inI64 (neg-neg-ge (a s) (b s) (a-test s (else1 .if1 .left)) (b-test s (c .before .before .if4 .left)) h)
+    c .negative3 .ensures ∙ ap (λ (x : ℕ). inI64 (negℤ (pos x))) e
+    ∙ ap inI64 (neg-neg-ge (a s) (b s) (a-test s (else1 .if1 .left)) (b-test s (c .before .before .if4 .left)) h)
 
 returns-6 : tie.Need-returns-6
 returns-6 c =
@@ -120,7 +125,8 @@ returns-6 c =
     let else1 : tie.Else1 = search in
     let h : natAbs (a s) < natAbs (b s) = omega (arith, m-is s, n-is s, c .before .if5 .left) in
     let e : s .magnitude2 .result - s .before .magnitude .result ≡ natAbs (b s) - natAbs (a s) = omega (arith, m-is s, n-is s) in
-    c .positive3 .ensures ∙ ap (λ (x : ℕ). inI64 (pos x)) e ∙ ap inI64 (neg-neg-lt (a s) (b s) (a-test s (else1 .if1 .left)) (b-test s (c .before .before .if4 .left)) h)
+    c .positive3 .ensures ∙ ap (λ (x : ℕ). inI64 (pos x)) e
+    ∙ ap inI64 (neg-neg-lt (a s) (b s) (a-test s (else1 .if1 .left)) (b-test s (c .before .before .if4 .left)) h)
 
 pub minus-spec : {M : Type 1} → statement M
 minus-spec =

@@ -34,7 +34,8 @@ returns-2 c =
     let n = c .before .before .args .n in
     let h = c .if2 .taken in
     let p : 0 < n = omega (arith, c .before .if1 .left) in
-    ap given (ap (λ (z : ℤ). toZ w64 (ofZ w64 z)) (made n p h) ∙ toZ-ofZ w64 (negℤ (pos n)) (record { sfits = mag-negℤ n h })) ∙ sym (inside (negℤ (pos n)) (mag-negℤ n h))
+    ap given (ap (λ (z : ℤ). toZ w64 (ofZ w64 z)) (made n p h) ∙ toZ-ofZ w64 (negℤ (pos n)) (record { sfits = mag-negℤ n h })) ∙ sym
+    (inside (negℤ (pos n)) (mag-negℤ n h))
 
 returns-3 : tie.Need-returns-3
 returns-3 c =

@@ -31,7 +31,8 @@ div-if2 c = search needs
 small : (c : tie.Else2) → let a = c .before .before .args in a .m % a .d * a .k + a .h < 2 ^ 32
 small c =
     let a = c .before .before .args in
-    rest (a .m) (a .k) (a .h) (a .d) (c .before .before .pre) (c .before .before .fits .k .fits) (c .before .before .fits .h .fits) (c .before .before .fits .d .fits)
+    rest (a .m) (a .k) (a .h) (a .d) (c .before .before .pre) (c .before .before .fits .k .fits) (c .before .before .fits .h .fits)
+    (c .before .before .fits .d .fits)
 
 whole : (c : tie.Else2) → let a = c .before .before .args in a .m / a .d * a .k ≤ 2 ^ 63
 whole c =

@@ -14,7 +14,8 @@ use Rattle.units.proofs.signed_ratio.Tie as tie
 got : (c : tie.After-ratio) → let a = c .before .before .args in c .ratio .result ≡ min ((natAbs (a .z) * a .k + a .h) / a .d) (2 ^ 63 + 1)
 got c =
     let a = c .before .before .args in
-    c .ratio .ensures ∙ ap (λ (m : ℕ). min ((m * a .k + a .h) / a .d) (2 ^ 63 + 1)) (c .before .magnitude .ensures ∙ ap natAbs (toZ-ofZ w64 (a .z) (c .before .before .fits .z)))
+    c .ratio .ensures ∙ ap (λ (m : ℕ). min ((m * a .k + a .h) / a .d) (2 ^ 63 + 1))
+    (c .before .magnitude .ensures ∙ ap natAbs (toZ-ofZ w64 (a .z) (c .before .before .fits .z)))
 
 magnitude-requires : tie.Need-magnitude-requires
 magnitude-requires c κs = search needs

@@ -42,7 +42,8 @@ returns-2 c =
     let start : tie.Start = search in
     let q = c .before .before in
     let a = start .args in
-    capacity-of (a .side .0) (a .permille) (a .titles .0) (a .headings .0) (refused 10) (q .before .before .if1 .left) (sym (ap lengthOutcome (c .enum-told .given .1)) ∙ whole-is q)
+    capacity-of (a .side .0) (a .permille) (a .titles .0) (a .headings .0) (refused 10) (q .before .before .if1 .left)
+    (sym (ap lengthOutcome (c .enum-told .given .1)) ∙ whole-is q)
 
 less-requires : tie.Need-less-requires
 less-requires c κs = search needs
@@ -59,8 +60,10 @@ returns-3 c =
     let s : tie.After-whole = search in
     let q = s .before .before in
     let a = start .args in
-    ap given (c .at-least-one .ensures ∙ ap atLeastOne (c .before .less2 .ensures ∙ ap (λ (o : Outcome ℤ). lessOf o (given (a .headings .0))) (c .before .before .less .ensures)))
-    ∙ capacity-of (a .side .0) (a .permille) (a .titles .0) (a .headings .0) (given (s .whole .given .0 .0 .0)) (q .before .before .if1 .left) (sym (ap lengthOutcome (s .whole .given .1)) ∙ whole-is q)
+    ap given (c .at-least-one .ensures
+    ∙ ap atLeastOne (c .before .less2 .ensures ∙ ap (λ (o : Outcome ℤ). lessOf o (given (a .headings .0))) (c .before .before .less .ensures)))
+    ∙ capacity-of (a .side .0) (a .permille) (a .titles .0) (a .headings .0) (given (s .whole .given .0 .0 .0)) (q .before .before .if1 .left)
+    (sym (ap lengthOutcome (s .whole .given .1)) ∙ whole-is q)
 
 pub unscaled-capacity-spec : {M : Type 1} → statement M
 unscaled-capacity-spec =

@@ -41,7 +41,8 @@ returns c =
     let a : tie.After-answer = search in
     let g = a .answer .given in
     let p = g .0 .0 in
-    page-put (a .before .before .args .answer) p _ _ (g .1) (rw (as-bit (p .rows .«empty_body»), as-bit (p .rows .«manual_break»), as-bit (p .columns .«empty_body»), as-bit (p .columns .«manual_break»)))
+    page-put (a .before .before .args .answer) p _ _ (g .1)
+    (rw (as-bit (p .rows .«empty_body»), as-bit (p .rows .«manual_break»), as-bit (p .columns .«empty_body»), as-bit (p .columns .«manual_break»)))
 
 returns-2 : tie.Need-returns-2
 returns-2 c =

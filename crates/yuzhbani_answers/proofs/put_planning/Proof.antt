@@ -19,8 +19,10 @@ returns : tie.Need-returns
 returns c =
     let p : tie.After-planning = search in
     let g = p .planning .given in
-    let old = p .before .before .args .numbers .now in
-    (ap answerOf (sym (g .1)), (c .put-plan .ensures .0 ∙ ap (λ (p : Planning). numbersOf p old) (sym (g .1)), subst HadBack (sym (g .1)) (c .put-plan .ensures .1)))
+    let old = p .before .before .args .numbers .now in (
+      ap answerOf (sym (g .1)),
+      (c .put-plan .ensures .0 ∙ ap (λ (p : Planning). numbersOf p old) (sym (g .1)), subst HadBack (sym (g .1)) (c .put-plan .ensures .1)),
+    )
 
 returns-2 : tie.Need-returns-2
 returns-2 c =

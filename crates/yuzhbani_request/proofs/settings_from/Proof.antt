@@ -44,7 +44,14 @@ returns c =
     let after-setting-from2 : tie.After-setting-from2 = search in
     let after-setting-from3 : tie.After-setting-from3 = search in
     let after-setting-from4 : tie.After-setting-from4 = search in
-    rw (c .before .before .order-from .ensures, after-setting-from4 .setting-from4 .ensures, after-setting-from3 .setting-from3 .ensures, after-setting-from2 .setting-from2 .ensures, m .margins-from .ensures, m .before .before .setting-from .ensures)
+    rw (
+      c .before .before .order-from .ensures,
+      after-setting-from4 .setting-from4 .ensures,
+      after-setting-from3 .setting-from3 .ensures,
+      after-setting-from2 .setting-from2 .ensures,
+      m .margins-from .ensures,
+      m .before .before .setting-from .ensures,
+    )
 
 pub settings-from-spec : {M : Type 1} → statement M
 settings-from-spec =

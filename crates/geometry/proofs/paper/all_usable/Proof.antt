@@ -26,7 +26,14 @@ returns c =
     let after-usable : tie.After-usable = search in
     let after-usable2 : tie.After-usable2 = search in
     let after-usable3 : tie.After-usable3 = search in
-    rw (after-usable .usable .ensures, after-usable2 .usable2 .ensures, after-usable3 .usable3 .ensures, c .before .before .usable4 .ensures, c .before .usable5 .ensures, c .usable6 .ensures)
+    rw (
+      after-usable .usable .ensures,
+      after-usable2 .usable2 .ensures,
+      after-usable3 .usable3 .ensures,
+      c .before .before .usable4 .ensures,
+      c .before .usable5 .ensures,
+      c .usable6 .ensures,
+    )
 
 pub all-usable-spec : {M : Type 1} → statement M
 all-usable-spec =

@@ -32,7 +32,15 @@ returns c =
     let after-inches-to-fixed2 : tie.After-inches-to-fixed2 = search in
     let after-between : tie.After-between = search in
     let after-between2 : tie.After-between2 = search in
-    rw (c .placed .ensures, c .before .footer-at .ensures, c .before .before .inches-to-fixed3 .ensures, after-between2 .between2 .ensures, after-between .between .ensures, after-inches-to-fixed2 .inches-to-fixed2 .ensures, after-inches-to-fixed .inches-to-fixed .ensures)
+    rw (
+      c .placed .ensures,
+      c .before .footer-at .ensures,
+      c .before .before .inches-to-fixed3 .ensures,
+      after-between2 .between2 .ensures,
+      after-between .between .ensures,
+      after-inches-to-fixed2 .inches-to-fixed2 .ensures,
+      after-inches-to-fixed .inches-to-fixed .ensures,
+    )
 
 pub content-between-spec : {M : Type 1} → statement M
 content-between-spec =

@@ -24,7 +24,13 @@ unfolding marginsHold
 returns c =
     let after-all-usable : tie.After-all-usable = search in
     let after-shorter : tie.After-shorter = search in
-    rw (after-all-usable .all-usable .ensures, after-shorter .shorter .ensures, c .before .before .shorter2 .ensures, c .before .shorter3 .ensures, c .shorter4 .ensures)
+    rw (
+      after-all-usable .all-usable .ensures,
+      after-shorter .shorter .ensures,
+      c .before .before .shorter2 .ensures,
+      c .before .shorter3 .ensures,
+      c .shorter4 .ensures,
+    )
 
 pub margins-hold-spec : {M : Type 1} → statement M
 margins-hold-spec =

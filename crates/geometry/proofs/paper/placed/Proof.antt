@@ -70,7 +70,14 @@ returns-6 c =
     let after-width : tie.After-width = search in
     let after-height : tie.After-height = search in
     let after-header-y : tie.After-header-y = search in
-    rw (after-x .x .given .1, after-y .y .given .1, after-width .width .given .1, after-height .height .given .1, after-header-y .header-y .given .1, c .enum-told6 .given .1)
+    rw (
+      after-x .x .given .1,
+      after-y .y .given .1,
+      after-width .width .given .1,
+      after-height .height .given .1,
+      after-header-y .header-y .given .1,
+      c .enum-told6 .given .1,
+    )
 
 returns-7 : tie.Need-returns-7
 returns-7 c =
@@ -79,7 +86,14 @@ returns-7 c =
     let after-width : tie.After-width = search in
     let after-height : tie.After-height = search in
     let after-header-y : tie.After-header-y = search in
-    rw (after-x .x .given .1, after-y .y .given .1, after-width .width .given .1, after-height .height .given .1, after-header-y .header-y .given .1, c .before .footer-y .given .1)
+    rw (
+      after-x .x .given .1,
+      after-y .y .given .1,
+      after-width .width .given .1,
+      after-height .height .given .1,
+      after-header-y .header-y .given .1,
+      c .before .footer-y .given .1,
+    )
 
 pub placed-spec : {M : Type 1} → statement M
 placed-spec =

@@ -40,7 +40,8 @@ upright-requires-2 c κs = search needs
 returns-2 : tie.Need-returns-2
 returns-2 c =
     let k = c .before .before .args .code in
-    ap given (c .upright2 .ensures) ∙ sym (unlisted k (λ l. ⊎-elim (λ w. w .1 .left) (λ w. absurd (lt-irrefl k (lt-of-lt-of-le l (w .left)))) (c .before .if1 .came)))
+    ap given (c .upright2 .ensures)
+    ∙ sym (unlisted k (λ l. ⊎-elim (λ w. w .1 .left) (λ w. absurd (lt-irrefl k (lt-of-lt-of-le l (w .left)))) (c .before .if1 .came)))
 
 pub resolved-spec : {M : Type 1} → statement M
 resolved-spec =

@@ -19,7 +19,8 @@ returns : tie.Need-returns
 returns c =
     let raw = c .before .raw .result in
     let s : SFits w64 raw = search needs in
-    let e : c .nearest-i64-to-f64 .result ≡ ofInt binary64 (c .before .before .args .side .0) = c .nearest-i64-to-f64 .ensures ∙ ap (ofInt binary64) (toZ-ofZ w64 raw s ∙ c .before .raw .ensures) in
+    let e : c .nearest-i64-to-f64 .result ≡ ofInt binary64 (c .before .before .args .side .0) = c .nearest-i64-to-f64 .ensures ∙ ap (ofInt binary64)
+    (toZ-ofZ w64 raw s ∙ c .before .raw .ensures) in
     rw (e, ninety-six, thousand)
 
 pub shorter-spec : {M : Type 1} → statement M

@@ -21,7 +21,8 @@ returns c =
     let start : tie.Start = search in
     let after-check-job-lent : tie.After-check-job-lent = search in
     let a = start .args in
-    admit-no (a .equally-long) (a .bytes .now) (a .room) (after-check-job-lent .check-job-lent .result) (after-check-job-lent .check-job-lent .ensures) _ (c .before .checked .given .1)
+    admit-no (a .equally-long) (a .bytes .now) (a .room) (after-check-job-lent .check-job-lent .result) (after-check-job-lent .check-job-lent .ensures) _
+    (c .before .checked .given .1)
 
 returns-2 : tie.Need-returns-2
 returns-2 c =
@@ -29,7 +30,8 @@ returns-2 c =
     let after-check-job-lent : tie.After-check-job-lent = search in
     let after-checked2 : tie.After-checked2 = search in
     let a = start .args in
-    admit-yes (a .equally-long) (a .bytes .now) (a .room) (after-check-job-lent .check-job-lent .result) (after-check-job-lent .check-job-lent .ensures) _ (after-checked2 .checked2 .given .1) _ (c .before .fit-in .ensures) (c .if1 .taken)
+    admit-yes (a .equally-long) (a .bytes .now) (a .room) (after-check-job-lent .check-job-lent .result) (after-check-job-lent .check-job-lent .ensures) _
+    (after-checked2 .checked2 .given .1) _ (c .before .fit-in .ensures) (c .if1 .taken)
 
 returns-3 : tie.Need-returns-3
 returns-3 c =
@@ -37,7 +39,8 @@ returns-3 c =
     let after-check-job-lent : tie.After-check-job-lent = search in
     let after-checked2 : tie.After-checked2 = search in
     let a = start .args in
-    admit-full (a .equally-long) (a .bytes .now) (a .room) (after-check-job-lent .check-job-lent .result) (after-check-job-lent .check-job-lent .ensures) _ (after-checked2 .checked2 .given .1) _ (c .before .fit-in .ensures) (c .if1 .left)
+    admit-full (a .equally-long) (a .bytes .now) (a .room) (after-check-job-lent .check-job-lent .result) (after-check-job-lent .check-job-lent .ensures) _
+    (after-checked2 .checked2 .given .1) _ (c .before .fit-in .ensures) (c .if1 .left)
 
 pub admit-spec : {M : Type 1} → statement M
 admit-spec =

@@ -26,14 +26,16 @@ returns-2 c =
     let start : tie.Start = search in
     let after-next-record : tie.After-next-record = search in
     let after-found : tie.After-found = search in
-    kind-some (start .args .wanted) _ _ (after-next-record .next-record .ensures) _ _ _ (after-found .found .given .1) (c .before .rank-of .ensures) (c .if1 .taken)
+    kind-some (start .args .wanted) _ _ (after-next-record .next-record .ensures) _ _ _ (after-found .found .given .1) (c .before .rank-of .ensures)
+    (c .if1 .taken)
 
 returns-3 : tie.Need-returns-3
 returns-3 c =
     let start : tie.Start = search in
     let after-next-record : tie.After-next-record = search in
     let after-found : tie.After-found = search in
-    kind-other (start .args .wanted) _ _ (after-next-record .next-record .ensures) _ _ _ (after-found .found .given .1) (c .before .rank-of .ensures) (c .if1 .left)
+    kind-other (start .args .wanted) _ _ (after-next-record .next-record .ensures) _ _ _ (after-found .found .given .1) (c .before .rank-of .ensures)
+    (c .if1 .left)
 
 pub next-of-spec : {M : Type 1} → statement M
 next-of-spec =

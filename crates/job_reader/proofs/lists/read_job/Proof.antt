@@ -35,8 +35,11 @@ write-items-requires : tie.Need-write-items-requires
 write-items-requires c κs =
     let d : tie.After-admitted2 = search in
     let s = start d in
-    let after-admit-to = asked d in
-    (given-sorted (s .args .bytes .now) (lent s) (after-admit-to .admit-to .result) (after-admit-to .admit-to .ensures) _ (d .admitted2 .given .1), given-room (s .args .bytes .now) (lent s) (after-admit-to .admit-to .result) (after-admit-to .admit-to .ensures) _ (d .admitted2 .given .1))
+    let after-admit-to = asked d in (
+      given-sorted (s .args .bytes .now) (lent s) (after-admit-to .admit-to .result) (after-admit-to .admit-to .ensures) _ (d .admitted2 .given .1),
+      given-room
+          (s .args .bytes .now) (lent s) (after-admit-to .admit-to .result) (after-admit-to .admit-to .ensures) _ (d .admitted2 .given .1),
+    )
 
 settings-of-requires : tie.Need-settings-of-requires
 settings-of-requires c κs =
@@ -137,7 +140,8 @@ returns-2 c =
     let d = admitted after-write-items in
     let s = start d in
     let after-admit-to = asked d in
-    job-given (s .args .bytes .now) (lent s) (after-admit-to .admit-to .result) (after-admit-to .admit-to .ensures) _ (d .admitted2 .given .1) _ _ (c .settings-of .ensures) (after-write-items .write-items .ensures)
+    job-given (s .args .bytes .now) (lent s) (after-admit-to .admit-to .result) (after-admit-to .admit-to .ensures) _ (d .admitted2 .given .1) _ _
+    (c .settings-of .ensures) (after-write-items .write-items .ensures)
 
 pub read-job-spec : {M : Type 1} → statement M
 read-job-spec =

@@ -34,7 +34,8 @@ returns : tie.Need-returns Inv-loop μ-loop
 returns c =
     let start : tie.Start Inv-loop μ-loop = search in
     let at-loop : tie.At-loop Inv-loop μ-loop = search in
-    past-end 0 14 (start .args .bytes .now) (at-loop .loop .s .now) (at-loop .loop .inv) (c .before .before .next-record .result) (c .before .before .next-record .ensures) (c .enum-told .given .1)
+    past-end 0 14 (start .args .bytes .now) (at-loop .loop .s .now) (at-loop .loop .inv) (c .before .before .next-record .result)
+    (c .before .before .next-record .ensures) (c .enum-told .given .1)
 
 rank-of-requires : tie.Need-rank-of-requires Inv-loop μ-loop
 rank-of-requires c κs = search needs
@@ -50,35 +51,53 @@ returns-2 c =
     let at-loop : tie.At-loop Inv-loop μ-loop = search in
     let after-next-record : tie.After-next-record Inv-loop μ-loop = search in
     let after-found : tie.After-found Inv-loop μ-loop = search in
-    past-at 0 14 (start .args .bytes .now) (at-loop .loop .s .now) (at-loop .loop .inv) (after-next-record .next-record .result) (after-next-record .next-record .ensures) _ _ (after-found .found .given .1) (omega (arith, c .before .rank-of .ensures, c .if1 .taken))
+    past-at 0 14 (start .args .bytes .now) (at-loop .loop .s .now) (at-loop .loop .inv) (after-next-record .next-record .result)
+    (after-next-record .next-record .ensures) _ _ (after-found .found .given .1) (omega (arith, c .before .rank-of .ensures, c .if1 .taken))
 
 sub-s : tie.Need-sub-s Inv-loop μ-loop
 sub-s c =
     let at-loop : tie.At-loop Inv-loop μ-loop = search in
     let after-next-record : tie.After-next-record Inv-loop μ-loop = search in
     let after-found : tie.After-found Inv-loop μ-loop = search in
-    omega (arith, walk-used (at-loop .loop .s .now) (after-next-record .next-record .result) (after-next-record .next-record .ensures) _ _ (after-found .found .given .1))
+    omega (
+      arith,
+      walk-used (at-loop .loop .s .now) (after-next-record .next-record .result) (after-next-record .next-record .ensures) _ _
+          (after-found .found .given .1),
+    )
 
 part-s-start : tie.Need-part-s-start Inv-loop μ-loop
 part-s-start c =
     let at-loop : tie.At-loop Inv-loop μ-loop = search in
     let after-next-record : tie.After-next-record Inv-loop μ-loop = search in
     let after-found : tie.After-found Inv-loop μ-loop = search in
-    omega (arith, walk-used (at-loop .loop .s .now) (after-next-record .next-record .result) (after-next-record .next-record .ensures) _ _ (after-found .found .given .1))
+    omega (
+      arith,
+      walk-used (at-loop .loop .s .now) (after-next-record .next-record .result) (after-next-record .next-record .ensures) _ _
+          (after-found .found .given .1),
+    )
 
 part-s-end : tie.Need-part-s-end Inv-loop μ-loop
 part-s-end c =
     let at-loop : tie.At-loop Inv-loop μ-loop = search in
     let after-next-record : tie.After-next-record Inv-loop μ-loop = search in
     let after-found : tie.After-found Inv-loop μ-loop = search in
-    omega (arith, walk-used (at-loop .loop .s .now) (after-next-record .next-record .result) (after-next-record .next-record .ensures) _ _ (after-found .found .given .1))
+    omega (
+      arith,
+      walk-used (at-loop .loop .s .now) (after-next-record .next-record .result) (after-next-record .next-record .ensures) _ _
+          (after-found .found .given .1),
+    )
 
 loop-less : tie.Need-loop-less Inv-loop μ-loop
 loop-less c =
     let at-loop : tie.At-loop Inv-loop μ-loop = search in
     let after-next-record : tie.After-next-record Inv-loop μ-loop = search in
     let after-found : tie.After-found Inv-loop μ-loop = search in
-    omega (arith, walk-used (at-loop .loop .s .now) (after-next-record .next-record .result) (after-next-record .next-record .ensures) _ _ (after-found .found .given .1), length-part (after-found .found .given .0 .1 .0) (at-loop .loop .s .now))
+    omega (
+      arith,
+      walk-used (at-loop .loop .s .now) (after-next-record .next-record .result) (after-next-record .next-record .ensures) _ _
+          (after-found .found .given .1),
+      length-part (after-found .found .given .0 .1 .0) (at-loop .loop .s .now),
+    )
 
 loop-again : tie.Need-loop-again Inv-loop μ-loop
 loop-again c =
@@ -86,7 +105,9 @@ loop-again c =
     let at-loop : tie.At-loop Inv-loop μ-loop = search in
     let after-next-record : tie.After-next-record Inv-loop μ-loop = search in
     let after-found : tie.After-found Inv-loop μ-loop = search in
-    going-on 0 14 (start .args .bytes .now) (at-loop .loop .s .now) (at-loop .loop .inv) (after-next-record .next-record .result) (after-next-record .next-record .ensures) _ _ (after-found .found .given .1) (omega (arith, c .before .before .rank-of .ensures, c .before .if1 .left))
+    going-on 0 14 (start .args .bytes .now) (at-loop .loop .s .now) (at-loop .loop .inv) (after-next-record .next-record .result)
+    (after-next-record .next-record .ensures) _ _ (after-found .found .given .1)
+    (omega (arith, c .before .before .rank-of .ensures, c .before .if1 .left))
 
 pub settings-end-spec : {M : Type 1} → statement M
 settings-end-spec =

@@ -11,7 +11,8 @@ use Rattle.job_reader.proofs.lists.write_breaks.Statement.{statement}
 use Rattle.job_reader.proofs.lists.write_breaks.Tie as tie
 
 abbrev Inv-loop : tie.InvT-loop
-Inv-loop bytes wanted breaks₀ s₀ k₀ breaks s k = Going wanted (wanted + 1) bytes s × One (field 0) (marked wanted (records bytes)) breaks₀ k (marked wanted (records s)) breaks
+Inv-loop bytes wanted breaks₀ s₀ k₀ breaks s k = Going wanted (wanted + 1) bytes s × One (field 0) (marked wanted (records bytes)) breaks₀ k
+    (marked wanted (records s)) breaks
 
 abbrev μ-loop : tie.MeasureT-loop
 μ-loop bytes wanted breaks₀ s₀ k₀ breaks s k = length s
@@ -42,36 +43,54 @@ returns : tie.Need-returns Inv-loop μ-loop
 returns c =
     let start : tie.Start Inv-loop μ-loop = search in
     let at-loop : tie.At-loop Inv-loop μ-loop = search in
-    let a = start .args in
-    (kind-past (a .wanted) (a .bytes .now) (at-loop .loop .s .now) (at-loop .loop .inv .0) (c .before .before .next-of .result) (c .before .before .next-of .ensures) (c .enum-told .given .1), one-done _ _ _ _ _ _ (at-loop .loop .inv .1) (kind-end (a .wanted) (a .bytes .now) (at-loop .loop .s .now) (at-loop .loop .inv .0) (c .before .before .next-of .result) (c .before .before .next-of .ensures) (c .enum-told .given .1)))
+    let a = start .args in (
+      kind-past (a .wanted) (a .bytes .now) (at-loop .loop .s .now) (at-loop .loop .inv .0) (c .before .before .next-of .result)
+          (c .before .before .next-of .ensures) (c .enum-told .given .1),
+      one-done _ _ _ _ _ _ (at-loop .loop .inv .1)
+          (kind-end (a .wanted) (a .bytes .now) (at-loop .loop .s .now) (at-loop .loop .inv .0) (c .before .before .next-of .result)
+          (c .before .before .next-of .ensures) (c .enum-told .given .1)),
+    )
 
 sub-s : tie.Need-sub-s Inv-loop μ-loop
 sub-s c =
     let start : tie.Start Inv-loop μ-loop = search in
     let at-loop : tie.At-loop Inv-loop μ-loop = search in
     let after-next-of : tie.After-next-of Inv-loop μ-loop = search in
-    omega (arith, kind-used (start .args .wanted) (start .args .bytes .now) (at-loop .loop .s .now) (at-loop .loop .inv .0) (after-next-of .next-of .result) (after-next-of .next-of .ensures) _ _ (c .before .found .given .1))
+    omega (
+      arith,
+      kind-used (start .args .wanted) (start .args .bytes .now) (at-loop .loop .s .now) (at-loop .loop .inv .0) (after-next-of .next-of .result)
+          (after-next-of .next-of .ensures) _ _ (c .before .found .given .1),
+    )
 
 part-s-start : tie.Need-part-s-start Inv-loop μ-loop
 part-s-start c =
     let start : tie.Start Inv-loop μ-loop = search in
     let at-loop : tie.At-loop Inv-loop μ-loop = search in
     let after-next-of : tie.After-next-of Inv-loop μ-loop = search in
-    omega (arith, kind-used (start .args .wanted) (start .args .bytes .now) (at-loop .loop .s .now) (at-loop .loop .inv .0) (after-next-of .next-of .result) (after-next-of .next-of .ensures) _ _ (c .before .found .given .1))
+    omega (
+      arith,
+      kind-used (start .args .wanted) (start .args .bytes .now) (at-loop .loop .s .now) (at-loop .loop .inv .0) (after-next-of .next-of .result)
+          (after-next-of .next-of .ensures) _ _ (c .before .found .given .1),
+    )
 
 part-s-end : tie.Need-part-s-end Inv-loop μ-loop
 part-s-end c =
     let start : tie.Start Inv-loop μ-loop = search in
     let at-loop : tie.At-loop Inv-loop μ-loop = search in
     let after-next-of : tie.After-next-of Inv-loop μ-loop = search in
-    omega (arith, kind-used (start .args .wanted) (start .args .bytes .now) (at-loop .loop .s .now) (at-loop .loop .inv .0) (after-next-of .next-of .result) (after-next-of .next-of .ensures) _ _ (c .before .found .given .1))
+    omega (
+      arith,
+      kind-used (start .args .wanted) (start .args .bytes .now) (at-loop .loop .s .now) (at-loop .loop .inv .0) (after-next-of .next-of .result)
+          (after-next-of .next-of .ensures) _ _ (c .before .found .given .1),
+    )
 
 break-of-requires : tie.Need-break-of-requires Inv-loop μ-loop
 break-of-requires c κs =
     let start : tie.Start Inv-loop μ-loop = search in
     let at-loop : tie.At-loop Inv-loop μ-loop = search in
     let after-next-of : tie.After-next-of Inv-loop μ-loop = search in
-    rw (kind-rank (start .args .wanted) (start .args .bytes .now) (at-loop .loop .s .now) (at-loop .loop .inv .0) (after-next-of .next-of .result) (after-next-of .next-of .ensures) _ _ (c .before .before .found .given .1)) (start .pre .1 .0)
+    rw (kind-rank (start .args .wanted) (start .args .bytes .now) (at-loop .loop .s .now) (at-loop .loop .inv .0) (after-next-of .next-of .result)
+    (after-next-of .next-of .ensures) _ _ (c .before .before .found .given .1)) (start .pre .1 .0)
 
 mul-breaks : tie.Need-mul-breaks Inv-loop μ-loop
 mul-breaks c =
@@ -79,7 +98,12 @@ mul-breaks c =
     let at-loop : tie.At-loop Inv-loop μ-loop = search in
     let after-next-of : tie.After-next-of Inv-loop μ-loop = search in
     let after-found : tie.After-found Inv-loop μ-loop = search in
-    omega (arith, one-room _ _ _ _ _ _ (at-loop .loop .inv .1) _ _ (kind-head (start .args .wanted) (start .args .bytes .now) (at-loop .loop .s .now) (at-loop .loop .inv .0) (after-next-of .next-of .result) (after-next-of .next-of .ensures) _ _ (after-found .found .given .1)) (start .pre .1 .1))
+    omega (
+      arith,
+      one-room _ _ _ _ _ _ (at-loop .loop .inv .1) _ _
+          (kind-head (start .args .wanted) (start .args .bytes .now) (at-loop .loop .s .now) (at-loop .loop .inv .0) (after-next-of .next-of .result)
+          (after-next-of .next-of .ensures) _ _ (after-found .found .given .1)) (start .pre .1 .1),
+    )
 
 slice-write-breaks : tie.Need-slice-write-breaks Inv-loop μ-loop
 slice-write-breaks c =
@@ -87,7 +111,9 @@ slice-write-breaks c =
     let at-loop : tie.At-loop Inv-loop μ-loop = search in
     let after-next-of : tie.After-next-of Inv-loop μ-loop = search in
     let after-found : tie.After-found Inv-loop μ-loop = search in
-    one-room _ _ _ _ _ _ (at-loop .loop .inv .1) _ _ (kind-head (start .args .wanted) (start .args .bytes .now) (at-loop .loop .s .now) (at-loop .loop .inv .0) (after-next-of .next-of .result) (after-next-of .next-of .ensures) _ _ (after-found .found .given .1)) (start .pre .1 .1)
+    one-room _ _ _ _ _ _ (at-loop .loop .inv .1) _ _
+    (kind-head (start .args .wanted) (start .args .bytes .now) (at-loop .loop .s .now) (at-loop .loop .inv .0) (after-next-of .next-of .result)
+    (after-next-of .next-of .ensures) _ _ (after-found .found .given .1)) (start .pre .1 .1)
 
 add-k : tie.Need-add-k Inv-loop μ-loop
 add-k c =
@@ -95,7 +121,12 @@ add-k c =
     let at-loop : tie.At-loop Inv-loop μ-loop = search in
     let after-next-of : tie.After-next-of Inv-loop μ-loop = search in
     let after-found : tie.After-found Inv-loop μ-loop = search in
-    omega (arith, one-room _ _ _ _ _ _ (at-loop .loop .inv .1) _ _ (kind-head (start .args .wanted) (start .args .bytes .now) (at-loop .loop .s .now) (at-loop .loop .inv .0) (after-next-of .next-of .result) (after-next-of .next-of .ensures) _ _ (after-found .found .given .1)) (start .pre .1 .1))
+    omega (
+      arith,
+      one-room _ _ _ _ _ _ (at-loop .loop .inv .1) _ _
+          (kind-head (start .args .wanted) (start .args .bytes .now) (at-loop .loop .s .now) (at-loop .loop .inv .0) (after-next-of .next-of .result)
+          (after-next-of .next-of .ensures) _ _ (after-found .found .given .1)) (start .pre .1 .1),
+    )
 
 loop-less : tie.Need-loop-less Inv-loop μ-loop
 loop-less c =
@@ -103,7 +134,12 @@ loop-less c =
     let at-loop : tie.At-loop Inv-loop μ-loop = search in
     let after-next-of : tie.After-next-of Inv-loop μ-loop = search in
     let after-found : tie.After-found Inv-loop μ-loop = search in
-    omega (arith, kind-used (start .args .wanted) (start .args .bytes .now) (at-loop .loop .s .now) (at-loop .loop .inv .0) (after-next-of .next-of .result) (after-next-of .next-of .ensures) _ _ (after-found .found .given .1), length-part (after-found .found .given .0 .1 .0) (at-loop .loop .s .now))
+    omega (
+      arith,
+      kind-used (start .args .wanted) (start .args .bytes .now) (at-loop .loop .s .now) (at-loop .loop .inv .0) (after-next-of .next-of .result)
+          (after-next-of .next-of .ensures) _ _ (after-found .found .given .1),
+      length-part (after-found .found .given .0 .1 .0) (at-loop .loop .s .now),
+    )
 
 loop-again : tie.Need-loop-again Inv-loop μ-loop
 loop-again c =
@@ -111,8 +147,13 @@ loop-again c =
     let at-loop : tie.At-loop Inv-loop μ-loop = search in
     let after-next-of : tie.After-next-of Inv-loop μ-loop = search in
     let after-found : tie.After-found Inv-loop μ-loop = search in
-    let a = start .args in
-    (kind-on (a .wanted) (a .bytes .now) (at-loop .loop .s .now) (at-loop .loop .inv .0) (after-next-of .next-of .result) (after-next-of .next-of .ensures) _ _ (after-found .found .given .1), one-store _ _ _ _ _ _ (at-loop .loop .inv .1) _ _ (c .break-of .result) (kind-head (a .wanted) (a .bytes .now) (at-loop .loop .s .now) (at-loop .loop .inv .0) (after-next-of .next-of .result) (after-next-of .next-of .ensures) _ _ (after-found .found .given .1)) (start .pre .1 .1) (c .break-of .ensures))
+    let a = start .args in (
+      kind-on (a .wanted) (a .bytes .now) (at-loop .loop .s .now) (at-loop .loop .inv .0) (after-next-of .next-of .result)
+          (after-next-of .next-of .ensures) _ _ (after-found .found .given .1),
+      one-store _ _ _ _ _ _ (at-loop .loop .inv .1) _ _ (c .break-of .result)
+          (kind-head (a .wanted) (a .bytes .now) (at-loop .loop .s .now) (at-loop .loop .inv .0) (after-next-of .next-of .result)
+          (after-next-of .next-of .ensures) _ _ (after-found .found .given .1)) (start .pre .1 .1) (c .break-of .ensures),
+    )
 
 pub write-breaks-spec : {M : Type 1} → statement M
 write-breaks-spec =

@@ -91,10 +91,14 @@ merges-written d = search
 -- the lists hold every kind
 room : (d : tie.After-settings-end) →
     let start : tie.Start = search in
-    let a = start .args in Rooms (job d) (lists (a .row-indexes .now) (a .row-sizes .now) (a .column-indexes .now) (a .column-sizes .now) (a .merge-first-rows .now) (a .merge-first-columns .now) (a .merge-last-rows .now) (a .merge-last-columns .now) (a .row-breaks .now) (a .column-breaks .now))
+    let a = start .args in Rooms (job d)
+    (lists (a .row-indexes .now) (a .row-sizes .now) (a .column-indexes .now) (a .column-sizes .now) (a .merge-first-rows .now)
+    (a .merge-first-columns .now) (a .merge-last-rows .now) (a .merge-last-columns .now) (a .row-breaks .now) (a .column-breaks .now))
 room d =
     let start : tie.Start = search in
-    let a = start .args in rooms (job d) (lists (a .row-indexes .now) (a .row-sizes .now) (a .column-indexes .now) (a .column-sizes .now) (a .merge-first-rows .now) (a .merge-first-columns .now) (a .merge-last-rows .now) (a .merge-last-columns .now) (a .row-breaks .now) (a .column-breaks .now)) (start .pre .1)
+    let a = start .args in rooms (job d)
+    (lists (a .row-indexes .now) (a .row-sizes .now) (a .column-indexes .now) (a .column-sizes .now) (a .merge-first-rows .now)
+    (a .merge-first-columns .now) (a .merge-last-rows .now) (a .merge-last-columns .now) (a .row-breaks .now) (a .column-breaks .now)) (start .pre .1)
 
 settings-end-requires : tie.Need-settings-end-requires
 settings-end-requires c κs =

@@ -12,7 +12,10 @@ use Rattle.job_reader.proofs.lists.write_merges.Statement.{statement}
 use Rattle.job_reader.proofs.lists.write_merges.Tie as tie
 
 abbrev Inv-loop : tie.InvT-loop
-Inv-loop bytes first-rows₀ first-columns₀ last-rows₀ last-columns₀ s₀ k₀ first-rows first-columns last-rows last-columns s k = Going 16 17 bytes s × One (field 0) (marked 16 (records bytes)) first-rows₀ k (marked 16 (records s)) first-rows × One (field 1) (marked 16 (records bytes)) first-columns₀ k (marked 16 (records s)) first-columns × One (field 2) (marked 16 (records bytes)) last-rows₀ k (marked 16 (records s)) last-rows × One (field 3) (marked 16 (records bytes)) last-columns₀ k (marked 16 (records s)) last-columns
+Inv-loop bytes first-rows₀ first-columns₀ last-rows₀ last-columns₀ s₀ k₀ first-rows first-columns last-rows last-columns s k = Going 16 17 bytes s × One
+    (field 0) (marked 16 (records bytes)) first-rows₀ k (marked 16 (records s)) first-rows × One (field 1) (marked 16 (records bytes)) first-columns₀ k
+    (marked 16 (records s)) first-columns × One (field 2) (marked 16 (records bytes)) last-rows₀ k (marked 16 (records s)) last-rows × One (field 3)
+    (marked 16 (records bytes)) last-columns₀ k (marked 16 (records s)) last-columns
 
 abbrev μ-loop : tie.MeasureT-loop
 μ-loop bytes first-rows₀ first-columns₀ last-rows₀ last-columns₀ s₀ k₀ first-rows first-columns last-rows last-columns s k = length s
@@ -60,36 +63,69 @@ returns : tie.Need-returns Inv-loop μ-loop
 returns c =
     let start : tie.Start Inv-loop μ-loop = search in
     let at-loop : tie.At-loop Inv-loop μ-loop = search in
-    let a = start .args in
-    (kind-past 16 (a .bytes .now) (at-loop .loop .s .now) (at-loop .loop .inv .0) (c .before .before .next-of .result) (c .before .before .next-of .ensures) (c .enum-told .given .1), (one-done _ _ _ _ _ _ (at-loop .loop .inv .1) (kind-end 16 (a .bytes .now) (at-loop .loop .s .now) (at-loop .loop .inv .0) (c .before .before .next-of .result) (c .before .before .next-of .ensures) (c .enum-told .given .1)), (one-done _ _ _ _ _ _ (at-loop .loop .inv .2) (kind-end 16 (a .bytes .now) (at-loop .loop .s .now) (at-loop .loop .inv .0) (c .before .before .next-of .result) (c .before .before .next-of .ensures) (c .enum-told .given .1)), (one-done _ _ _ _ _ _ (at-loop .loop .inv .3) (kind-end 16 (a .bytes .now) (at-loop .loop .s .now) (at-loop .loop .inv .0) (c .before .before .next-of .result) (c .before .before .next-of .ensures) (c .enum-told .given .1)), one-done _ _ _ _ _ _ (at-loop .loop .inv .4) (kind-end 16 (a .bytes .now) (at-loop .loop .s .now) (at-loop .loop .inv .0) (c .before .before .next-of .result) (c .before .before .next-of .ensures) (c .enum-told .given .1))))))
+    let a = start .args in (
+      kind-past 16 (a .bytes .now) (at-loop .loop .s .now) (at-loop .loop .inv .0) (c .before .before .next-of .result) (c .before .before .next-of .ensures)
+          (c .enum-told .given .1),
+      (
+        one-done _ _ _ _ _ _ (at-loop .loop .inv .1)
+            (kind-end 16 (a .bytes .now) (at-loop .loop .s .now) (at-loop .loop .inv .0) (c .before .before .next-of .result)
+            (c .before .before .next-of .ensures) (c .enum-told .given .1)),
+        (
+          one-done _ _ _ _ _ _ (at-loop .loop .inv .2)
+              (kind-end 16 (a .bytes .now) (at-loop .loop .s .now) (at-loop .loop .inv .0) (c .before .before .next-of .result)
+              (c .before .before .next-of .ensures) (c .enum-told .given .1)),
+          (
+            one-done _ _ _ _ _ _ (at-loop .loop .inv .3)
+                (kind-end 16 (a .bytes .now) (at-loop .loop .s .now) (at-loop .loop .inv .0) (c .before .before .next-of .result)
+                (c .before .before .next-of .ensures) (c .enum-told .given .1)),
+            one-done _ _ _ _ _ _ (at-loop .loop .inv .4)
+                (kind-end 16 (a .bytes .now) (at-loop .loop .s .now) (at-loop .loop .inv .0)
+                (c .before .before .next-of .result) (c .before .before .next-of .ensures) (c .enum-told .given .1)),
+          ),
+        ),
+      ),
+    )
 
 sub-s : tie.Need-sub-s Inv-loop μ-loop
 sub-s c =
     let start : tie.Start Inv-loop μ-loop = search in
     let at-loop : tie.At-loop Inv-loop μ-loop = search in
     let after-next-of : tie.After-next-of Inv-loop μ-loop = search in
-    omega (arith, kind-used 16 (start .args .bytes .now) (at-loop .loop .s .now) (at-loop .loop .inv .0) (after-next-of .next-of .result) (after-next-of .next-of .ensures) _ _ (c .before .found .given .1))
+    omega (
+      arith,
+      kind-used 16 (start .args .bytes .now) (at-loop .loop .s .now) (at-loop .loop .inv .0) (after-next-of .next-of .result)
+          (after-next-of .next-of .ensures) _ _ (c .before .found .given .1),
+    )
 
 part-s-start : tie.Need-part-s-start Inv-loop μ-loop
 part-s-start c =
     let start : tie.Start Inv-loop μ-loop = search in
     let at-loop : tie.At-loop Inv-loop μ-loop = search in
     let after-next-of : tie.After-next-of Inv-loop μ-loop = search in
-    omega (arith, kind-used 16 (start .args .bytes .now) (at-loop .loop .s .now) (at-loop .loop .inv .0) (after-next-of .next-of .result) (after-next-of .next-of .ensures) _ _ (c .before .found .given .1))
+    omega (
+      arith,
+      kind-used 16 (start .args .bytes .now) (at-loop .loop .s .now) (at-loop .loop .inv .0) (after-next-of .next-of .result)
+          (after-next-of .next-of .ensures) _ _ (c .before .found .given .1),
+    )
 
 part-s-end : tie.Need-part-s-end Inv-loop μ-loop
 part-s-end c =
     let start : tie.Start Inv-loop μ-loop = search in
     let at-loop : tie.At-loop Inv-loop μ-loop = search in
     let after-next-of : tie.After-next-of Inv-loop μ-loop = search in
-    omega (arith, kind-used 16 (start .args .bytes .now) (at-loop .loop .s .now) (at-loop .loop .inv .0) (after-next-of .next-of .result) (after-next-of .next-of .ensures) _ _ (c .before .found .given .1))
+    omega (
+      arith,
+      kind-used 16 (start .args .bytes .now) (at-loop .loop .s .now) (at-loop .loop .inv .0) (after-next-of .next-of .result)
+          (after-next-of .next-of .ensures) _ _ (c .before .found .given .1),
+    )
 
 cells-of-requires : tie.Need-cells-of-requires Inv-loop μ-loop
 cells-of-requires c κs =
     let start : tie.Start Inv-loop μ-loop = search in
     let at-loop : tie.At-loop Inv-loop μ-loop = search in
     let after-next-of : tie.After-next-of Inv-loop μ-loop = search in
-    kind-rank 16 (start .args .bytes .now) (at-loop .loop .s .now) (at-loop .loop .inv .0) (after-next-of .next-of .result) (after-next-of .next-of .ensures) _ _ (c .before .before .found .given .1)
+    kind-rank 16 (start .args .bytes .now) (at-loop .loop .s .now) (at-loop .loop .inv .0) (after-next-of .next-of .result)
+    (after-next-of .next-of .ensures) _ _ (c .before .before .found .given .1)
 
 mul-first-rows : tie.Need-mul-first-rows Inv-loop μ-loop
 mul-first-rows c =
@@ -97,7 +133,12 @@ mul-first-rows c =
     let at-loop : tie.At-loop Inv-loop μ-loop = search in
     let after-next-of : tie.After-next-of Inv-loop μ-loop = search in
     let after-found : tie.After-found Inv-loop μ-loop = search in
-    omega (arith, one-room _ _ _ _ _ _ (at-loop .loop .inv .1) _ _ (kind-head 16 (start .args .bytes .now) (at-loop .loop .s .now) (at-loop .loop .inv .0) (after-next-of .next-of .result) (after-next-of .next-of .ensures) _ _ (after-found .found .given .1)) (start .pre .1 .0))
+    omega (
+      arith,
+      one-room _ _ _ _ _ _ (at-loop .loop .inv .1) _ _
+          (kind-head 16 (start .args .bytes .now) (at-loop .loop .s .now) (at-loop .loop .inv .0) (after-next-of .next-of .result)
+          (after-next-of .next-of .ensures) _ _ (after-found .found .given .1)) (start .pre .1 .0),
+    )
 
 slice-write-first-rows : tie.Need-slice-write-first-rows Inv-loop μ-loop
 slice-write-first-rows c =
@@ -105,7 +146,9 @@ slice-write-first-rows c =
     let at-loop : tie.At-loop Inv-loop μ-loop = search in
     let after-next-of : tie.After-next-of Inv-loop μ-loop = search in
     let after-found : tie.After-found Inv-loop μ-loop = search in
-    one-room _ _ _ _ _ _ (at-loop .loop .inv .1) _ _ (kind-head 16 (start .args .bytes .now) (at-loop .loop .s .now) (at-loop .loop .inv .0) (after-next-of .next-of .result) (after-next-of .next-of .ensures) _ _ (after-found .found .given .1)) (start .pre .1 .0)
+    one-room _ _ _ _ _ _ (at-loop .loop .inv .1) _ _
+    (kind-head 16 (start .args .bytes .now) (at-loop .loop .s .now) (at-loop .loop .inv .0) (after-next-of .next-of .result)
+    (after-next-of .next-of .ensures) _ _ (after-found .found .given .1)) (start .pre .1 .0)
 
 cast-first-columns : tie.Need-cast-first-columns Inv-loop μ-loop
 cast-first-columns c = search needs
@@ -116,7 +159,12 @@ mul-first-columns c =
     let at-loop : tie.At-loop Inv-loop μ-loop = search in
     let after-next-of : tie.After-next-of Inv-loop μ-loop = search in
     let after-found : tie.After-found Inv-loop μ-loop = search in
-    omega (arith, one-room _ _ _ _ _ _ (at-loop .loop .inv .2) _ _ (kind-head 16 (start .args .bytes .now) (at-loop .loop .s .now) (at-loop .loop .inv .0) (after-next-of .next-of .result) (after-next-of .next-of .ensures) _ _ (after-found .found .given .1)) (omega (arith, start .pre .1 .0, start .pre .1 .1 .0)))
+    omega (
+      arith,
+      one-room _ _ _ _ _ _ (at-loop .loop .inv .2) _ _
+          (kind-head 16 (start .args .bytes .now) (at-loop .loop .s .now) (at-loop .loop .inv .0) (after-next-of .next-of .result)
+          (after-next-of .next-of .ensures) _ _ (after-found .found .given .1)) (omega (arith, start .pre .1 .0, start .pre .1 .1 .0)),
+    )
 
 slice-write-first-columns : tie.Need-slice-write-first-columns Inv-loop μ-loop
 slice-write-first-columns c =
@@ -124,7 +172,9 @@ slice-write-first-columns c =
     let at-loop : tie.At-loop Inv-loop μ-loop = search in
     let after-next-of : tie.After-next-of Inv-loop μ-loop = search in
     let after-found : tie.After-found Inv-loop μ-loop = search in
-    one-room _ _ _ _ _ _ (at-loop .loop .inv .2) _ _ (kind-head 16 (start .args .bytes .now) (at-loop .loop .s .now) (at-loop .loop .inv .0) (after-next-of .next-of .result) (after-next-of .next-of .ensures) _ _ (after-found .found .given .1)) (omega (arith, start .pre .1 .0, start .pre .1 .1 .0))
+    one-room _ _ _ _ _ _ (at-loop .loop .inv .2) _ _
+    (kind-head 16 (start .args .bytes .now) (at-loop .loop .s .now) (at-loop .loop .inv .0) (after-next-of .next-of .result)
+    (after-next-of .next-of .ensures) _ _ (after-found .found .given .1)) (omega (arith, start .pre .1 .0, start .pre .1 .1 .0))
 
 mul-last-rows : tie.Need-mul-last-rows Inv-loop μ-loop
 mul-last-rows c =
@@ -132,7 +182,12 @@ mul-last-rows c =
     let at-loop : tie.At-loop Inv-loop μ-loop = search in
     let after-next-of : tie.After-next-of Inv-loop μ-loop = search in
     let after-found : tie.After-found Inv-loop μ-loop = search in
-    omega (arith, one-room _ _ _ _ _ _ (at-loop .loop .inv .3) _ _ (kind-head 16 (start .args .bytes .now) (at-loop .loop .s .now) (at-loop .loop .inv .0) (after-next-of .next-of .result) (after-next-of .next-of .ensures) _ _ (after-found .found .given .1)) (omega (arith, start .pre .1 .0, start .pre .1 .1 .1 .0)))
+    omega (
+      arith,
+      one-room _ _ _ _ _ _ (at-loop .loop .inv .3) _ _
+          (kind-head 16 (start .args .bytes .now) (at-loop .loop .s .now) (at-loop .loop .inv .0) (after-next-of .next-of .result)
+          (after-next-of .next-of .ensures) _ _ (after-found .found .given .1)) (omega (arith, start .pre .1 .0, start .pre .1 .1 .1 .0)),
+    )
 
 slice-write-last-rows : tie.Need-slice-write-last-rows Inv-loop μ-loop
 slice-write-last-rows c =
@@ -140,7 +195,9 @@ slice-write-last-rows c =
     let at-loop : tie.At-loop Inv-loop μ-loop = search in
     let after-next-of : tie.After-next-of Inv-loop μ-loop = search in
     let after-found : tie.After-found Inv-loop μ-loop = search in
-    one-room _ _ _ _ _ _ (at-loop .loop .inv .3) _ _ (kind-head 16 (start .args .bytes .now) (at-loop .loop .s .now) (at-loop .loop .inv .0) (after-next-of .next-of .result) (after-next-of .next-of .ensures) _ _ (after-found .found .given .1)) (omega (arith, start .pre .1 .0, start .pre .1 .1 .1 .0))
+    one-room _ _ _ _ _ _ (at-loop .loop .inv .3) _ _
+    (kind-head 16 (start .args .bytes .now) (at-loop .loop .s .now) (at-loop .loop .inv .0) (after-next-of .next-of .result)
+    (after-next-of .next-of .ensures) _ _ (after-found .found .given .1)) (omega (arith, start .pre .1 .0, start .pre .1 .1 .1 .0))
 
 cast-last-columns : tie.Need-cast-last-columns Inv-loop μ-loop
 cast-last-columns c = search needs
@@ -151,7 +208,12 @@ mul-last-columns c =
     let at-loop : tie.At-loop Inv-loop μ-loop = search in
     let after-next-of : tie.After-next-of Inv-loop μ-loop = search in
     let after-found : tie.After-found Inv-loop μ-loop = search in
-    omega (arith, one-room _ _ _ _ _ _ (at-loop .loop .inv .4) _ _ (kind-head 16 (start .args .bytes .now) (at-loop .loop .s .now) (at-loop .loop .inv .0) (after-next-of .next-of .result) (after-next-of .next-of .ensures) _ _ (after-found .found .given .1)) (omega (arith, start .pre .1 .0, start .pre .1 .1 .1 .1)))
+    omega (
+      arith,
+      one-room _ _ _ _ _ _ (at-loop .loop .inv .4) _ _
+          (kind-head 16 (start .args .bytes .now) (at-loop .loop .s .now) (at-loop .loop .inv .0) (after-next-of .next-of .result)
+          (after-next-of .next-of .ensures) _ _ (after-found .found .given .1)) (omega (arith, start .pre .1 .0, start .pre .1 .1 .1 .1)),
+    )
 
 slice-write-last-columns : tie.Need-slice-write-last-columns Inv-loop μ-loop
 slice-write-last-columns c =
@@ -159,7 +221,9 @@ slice-write-last-columns c =
     let at-loop : tie.At-loop Inv-loop μ-loop = search in
     let after-next-of : tie.After-next-of Inv-loop μ-loop = search in
     let after-found : tie.After-found Inv-loop μ-loop = search in
-    one-room _ _ _ _ _ _ (at-loop .loop .inv .4) _ _ (kind-head 16 (start .args .bytes .now) (at-loop .loop .s .now) (at-loop .loop .inv .0) (after-next-of .next-of .result) (after-next-of .next-of .ensures) _ _ (after-found .found .given .1)) (omega (arith, start .pre .1 .0, start .pre .1 .1 .1 .1))
+    one-room _ _ _ _ _ _ (at-loop .loop .inv .4) _ _
+    (kind-head 16 (start .args .bytes .now) (at-loop .loop .s .now) (at-loop .loop .inv .0) (after-next-of .next-of .result)
+    (after-next-of .next-of .ensures) _ _ (after-found .found .given .1)) (omega (arith, start .pre .1 .0, start .pre .1 .1 .1 .1))
 
 add-k : tie.Need-add-k Inv-loop μ-loop
 add-k c =
@@ -167,7 +231,12 @@ add-k c =
     let at-loop : tie.At-loop Inv-loop μ-loop = search in
     let after-next-of : tie.After-next-of Inv-loop μ-loop = search in
     let after-found : tie.After-found Inv-loop μ-loop = search in
-    omega (arith, one-room _ _ _ _ _ _ (at-loop .loop .inv .1) _ _ (kind-head 16 (start .args .bytes .now) (at-loop .loop .s .now) (at-loop .loop .inv .0) (after-next-of .next-of .result) (after-next-of .next-of .ensures) _ _ (after-found .found .given .1)) (start .pre .1 .0))
+    omega (
+      arith,
+      one-room _ _ _ _ _ _ (at-loop .loop .inv .1) _ _
+          (kind-head 16 (start .args .bytes .now) (at-loop .loop .s .now) (at-loop .loop .inv .0) (after-next-of .next-of .result)
+          (after-next-of .next-of .ensures) _ _ (after-found .found .given .1)) (start .pre .1 .0),
+    )
 
 loop-less : tie.Need-loop-less Inv-loop μ-loop
 loop-less c =
@@ -175,7 +244,12 @@ loop-less c =
     let at-loop : tie.At-loop Inv-loop μ-loop = search in
     let after-next-of : tie.After-next-of Inv-loop μ-loop = search in
     let after-found : tie.After-found Inv-loop μ-loop = search in
-    omega (arith, kind-used 16 (start .args .bytes .now) (at-loop .loop .s .now) (at-loop .loop .inv .0) (after-next-of .next-of .result) (after-next-of .next-of .ensures) _ _ (after-found .found .given .1), length-part (after-found .found .given .0 .1 .0) (at-loop .loop .s .now))
+    omega (
+      arith,
+      kind-used 16 (start .args .bytes .now) (at-loop .loop .s .now) (at-loop .loop .inv .0) (after-next-of .next-of .result)
+          (after-next-of .next-of .ensures) _ _ (after-found .found .given .1),
+      length-part (after-found .found .given .0 .1 .0) (at-loop .loop .s .now),
+    )
 
 loop-again : tie.Need-loop-again Inv-loop μ-loop
 loop-again c =
@@ -184,11 +258,23 @@ loop-again c =
     let after-next-of : tie.After-next-of Inv-loop μ-loop = search in
     let after-found : tie.After-found Inv-loop μ-loop = search in
     let a = start .args in (
-      kind-on 16 (a .bytes .now) (at-loop .loop .s .now) (at-loop .loop .inv .0) (after-next-of .next-of .result) (after-next-of .next-of .ensures) _ _ (after-found .found .given .1),
-      one-store _ _ _ _ _ _ (at-loop .loop .inv .1) _ _ (c .before .before .cells-of .result .«first_row») (kind-head 16 (a .bytes .now) (at-loop .loop .s .now) (at-loop .loop .inv .0) (after-next-of .next-of .result) (after-next-of .next-of .ensures) _ _ (after-found .found .given .1)) (start .pre .1 .0) (ap (λ (m : Range). m .«first_row») (c .before .before .cells-of .ensures)),
-      one-store _ _ _ _ _ _ (at-loop .loop .inv .2) _ _ (c .before .before .cells-of .result .«first_column») (kind-head 16 (a .bytes .now) (at-loop .loop .s .now) (at-loop .loop .inv .0) (after-next-of .next-of .result) (after-next-of .next-of .ensures) _ _ (after-found .found .given .1)) (omega (arith, start .pre .1 .0, start .pre .1 .1 .0)) (ap (λ (m : Range). m .«first_column») (c .before .before .cells-of .ensures)),
-      one-store _ _ _ _ _ _ (at-loop .loop .inv .3) _ _ (c .before .before .cells-of .result .«last_row») (kind-head 16 (a .bytes .now) (at-loop .loop .s .now) (at-loop .loop .inv .0) (after-next-of .next-of .result) (after-next-of .next-of .ensures) _ _ (after-found .found .given .1)) (omega (arith, start .pre .1 .0, start .pre .1 .1 .1 .0)) (ap (λ (m : Range). m .«last_row») (c .before .before .cells-of .ensures)),
-      one-store _ _ _ _ _ _ (at-loop .loop .inv .4) _ _ (c .before .before .cells-of .result .«last_column») (kind-head 16 (a .bytes .now) (at-loop .loop .s .now) (at-loop .loop .inv .0) (after-next-of .next-of .result) (after-next-of .next-of .ensures) _ _ (after-found .found .given .1)) (omega (arith, start .pre .1 .0, start .pre .1 .1 .1 .1)) (ap (λ (m : Range). m .«last_column») (c .before .before .cells-of .ensures)),
+      kind-on 16 (a .bytes .now) (at-loop .loop .s .now) (at-loop .loop .inv .0) (after-next-of .next-of .result) (after-next-of .next-of .ensures) _ _
+          (after-found .found .given .1),
+      one-store _ _ _ _ _ _ (at-loop .loop .inv .1) _ _ (c .before .before .cells-of .result .«first_row»)
+          (kind-head 16 (a .bytes .now) (at-loop .loop .s .now) (at-loop .loop .inv .0) (after-next-of .next-of .result) (after-next-of .next-of .ensures) _ _
+          (after-found .found .given .1)) (start .pre .1 .0) (ap (λ (m : Range). m .«first_row») (c .before .before .cells-of .ensures)),
+      one-store _ _ _ _ _ _ (at-loop .loop .inv .2) _ _ (c .before .before .cells-of .result .«first_column»)
+          (kind-head 16 (a .bytes .now) (at-loop .loop .s .now) (at-loop .loop .inv .0) (after-next-of .next-of .result) (after-next-of .next-of .ensures) _ _
+          (after-found .found .given .1)) (omega (arith, start .pre .1 .0, start .pre .1 .1 .0))
+          (ap (λ (m : Range). m .«first_column») (c .before .before .cells-of .ensures)),
+      one-store _ _ _ _ _ _ (at-loop .loop .inv .3) _ _ (c .before .before .cells-of .result .«last_row»)
+          (kind-head 16 (a .bytes .now) (at-loop .loop .s .now) (at-loop .loop .inv .0) (after-next-of .next-of .result) (after-next-of .next-of .ensures) _ _
+          (after-found .found .given .1)) (omega (arith, start .pre .1 .0, start .pre .1 .1 .1 .0))
+          (ap (λ (m : Range). m .«last_row») (c .before .before .cells-of .ensures)),
+      one-store _ _ _ _ _ _ (at-loop .loop .inv .4) _ _ (c .before .before .cells-of .result .«last_column»)
+          (kind-head 16 (a .bytes .now) (at-loop .loop .s .now) (at-loop .loop .inv .0) (after-next-of .next-of .result) (after-next-of .next-of .ensures) _ _
+          (after-found .found .given .1)) (omega (arith, start .pre .1 .0, start .pre .1 .1 .1 .1))
+          (ap (λ (m : Range). m .«last_column») (c .before .before .cells-of .ensures)),
     )
 
 pub write-merges-spec : {M : Type 1} → statement M

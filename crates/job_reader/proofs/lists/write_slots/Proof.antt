@@ -13,7 +13,8 @@ use Rattle.job_reader.proofs.lists.write_slots.Statement.{statement}
 use Rattle.job_reader.proofs.lists.write_slots.Tie as tie
 
 abbrev Inv-loop : tie.InvT-loop
-Inv-loop bytes wanted indexes₀ sizes₀ s₀ k₀ indexes sizes s k = Going wanted (wanted + 1) bytes s × One (field 0) (marked wanted (records bytes)) indexes₀ k (marked wanted (records s)) indexes × One (field 1) (marked wanted (records bytes)) sizes₀ k (marked wanted (records s)) sizes
+Inv-loop bytes wanted indexes₀ sizes₀ s₀ k₀ indexes sizes s k = Going wanted (wanted + 1) bytes s × One (field 0) (marked wanted (records bytes)) indexes₀ k
+    (marked wanted (records s)) indexes × One (field 1) (marked wanted (records bytes)) sizes₀ k (marked wanted (records s)) sizes
 
 abbrev μ-loop : tie.MeasureT-loop
 μ-loop bytes wanted indexes₀ sizes₀ s₀ k₀ indexes sizes s k = length s
@@ -51,36 +52,59 @@ returns : tie.Need-returns Inv-loop μ-loop
 returns c =
     let start : tie.Start Inv-loop μ-loop = search in
     let at-loop : tie.At-loop Inv-loop μ-loop = search in
-    let a = start .args in
-    (kind-past (a .wanted) (a .bytes .now) (at-loop .loop .s .now) (at-loop .loop .inv .0) (c .before .before .next-of .result) (c .before .before .next-of .ensures) (c .enum-told .given .1), (one-done _ _ _ _ _ _ (at-loop .loop .inv .1) (kind-end (a .wanted) (a .bytes .now) (at-loop .loop .s .now) (at-loop .loop .inv .0) (c .before .before .next-of .result) (c .before .before .next-of .ensures) (c .enum-told .given .1)), one-done _ _ _ _ _ _ (at-loop .loop .inv .2) (kind-end (a .wanted) (a .bytes .now) (at-loop .loop .s .now) (at-loop .loop .inv .0) (c .before .before .next-of .result) (c .before .before .next-of .ensures) (c .enum-told .given .1))))
+    let a = start .args in (
+      kind-past (a .wanted) (a .bytes .now) (at-loop .loop .s .now) (at-loop .loop .inv .0) (c .before .before .next-of .result)
+          (c .before .before .next-of .ensures) (c .enum-told .given .1),
+      (
+        one-done _ _ _ _ _ _ (at-loop .loop .inv .1)
+            (kind-end (a .wanted) (a .bytes .now) (at-loop .loop .s .now) (at-loop .loop .inv .0) (c .before .before .next-of .result)
+            (c .before .before .next-of .ensures) (c .enum-told .given .1)),
+        one-done _ _ _ _ _ _ (at-loop .loop .inv .2)
+            (kind-end (a .wanted) (a .bytes .now) (at-loop .loop .s .now) (at-loop .loop .inv .0) (c .before .before .next-of .result)
+            (c .before .before .next-of .ensures) (c .enum-told .given .1)),
+      ),
+    )
 
 sub-s : tie.Need-sub-s Inv-loop μ-loop
 sub-s c =
     let start : tie.Start Inv-loop μ-loop = search in
     let at-loop : tie.At-loop Inv-loop μ-loop = search in
     let after-next-of : tie.After-next-of Inv-loop μ-loop = search in
-    omega (arith, kind-used (start .args .wanted) (start .args .bytes .now) (at-loop .loop .s .now) (at-loop .loop .inv .0) (after-next-of .next-of .result) (after-next-of .next-of .ensures) _ _ (c .before .found .given .1))
+    omega (
+      arith,
+      kind-used (start .args .wanted) (start .args .bytes .now) (at-loop .loop .s .now) (at-loop .loop .inv .0) (after-next-of .next-of .result)
+          (after-next-of .next-of .ensures) _ _ (c .before .found .given .1),
+    )
 
 part-s-start : tie.Need-part-s-start Inv-loop μ-loop
 part-s-start c =
     let start : tie.Start Inv-loop μ-loop = search in
     let at-loop : tie.At-loop Inv-loop μ-loop = search in
     let after-next-of : tie.After-next-of Inv-loop μ-loop = search in
-    omega (arith, kind-used (start .args .wanted) (start .args .bytes .now) (at-loop .loop .s .now) (at-loop .loop .inv .0) (after-next-of .next-of .result) (after-next-of .next-of .ensures) _ _ (c .before .found .given .1))
+    omega (
+      arith,
+      kind-used (start .args .wanted) (start .args .bytes .now) (at-loop .loop .s .now) (at-loop .loop .inv .0) (after-next-of .next-of .result)
+          (after-next-of .next-of .ensures) _ _ (c .before .found .given .1),
+    )
 
 part-s-end : tie.Need-part-s-end Inv-loop μ-loop
 part-s-end c =
     let start : tie.Start Inv-loop μ-loop = search in
     let at-loop : tie.At-loop Inv-loop μ-loop = search in
     let after-next-of : tie.After-next-of Inv-loop μ-loop = search in
-    omega (arith, kind-used (start .args .wanted) (start .args .bytes .now) (at-loop .loop .s .now) (at-loop .loop .inv .0) (after-next-of .next-of .result) (after-next-of .next-of .ensures) _ _ (c .before .found .given .1))
+    omega (
+      arith,
+      kind-used (start .args .wanted) (start .args .bytes .now) (at-loop .loop .s .now) (at-loop .loop .inv .0) (after-next-of .next-of .result)
+          (after-next-of .next-of .ensures) _ _ (c .before .found .given .1),
+    )
 
 slot-of-requires : tie.Need-slot-of-requires Inv-loop μ-loop
 slot-of-requires c κs =
     let start : tie.Start Inv-loop μ-loop = search in
     let at-loop : tie.At-loop Inv-loop μ-loop = search in
     let after-next-of : tie.After-next-of Inv-loop μ-loop = search in
-    rw (kind-rank (start .args .wanted) (start .args .bytes .now) (at-loop .loop .s .now) (at-loop .loop .inv .0) (after-next-of .next-of .result) (after-next-of .next-of .ensures) _ _ (c .before .before .found .given .1)) (start .pre .1 .0)
+    rw (kind-rank (start .args .wanted) (start .args .bytes .now) (at-loop .loop .s .now) (at-loop .loop .inv .0) (after-next-of .next-of .result)
+    (after-next-of .next-of .ensures) _ _ (c .before .before .found .given .1)) (start .pre .1 .0)
 
 mul-indexes : tie.Need-mul-indexes Inv-loop μ-loop
 mul-indexes c =
@@ -88,7 +112,12 @@ mul-indexes c =
     let at-loop : tie.At-loop Inv-loop μ-loop = search in
     let after-next-of : tie.After-next-of Inv-loop μ-loop = search in
     let after-found : tie.After-found Inv-loop μ-loop = search in
-    omega (arith, one-room _ _ _ _ _ _ (at-loop .loop .inv .1) _ _ (kind-head (start .args .wanted) (start .args .bytes .now) (at-loop .loop .s .now) (at-loop .loop .inv .0) (after-next-of .next-of .result) (after-next-of .next-of .ensures) _ _ (after-found .found .given .1)) (start .pre .1 .1 .0))
+    omega (
+      arith,
+      one-room _ _ _ _ _ _ (at-loop .loop .inv .1) _ _
+          (kind-head (start .args .wanted) (start .args .bytes .now) (at-loop .loop .s .now) (at-loop .loop .inv .0) (after-next-of .next-of .result)
+          (after-next-of .next-of .ensures) _ _ (after-found .found .given .1)) (start .pre .1 .1 .0),
+    )
 
 slice-write-indexes : tie.Need-slice-write-indexes Inv-loop μ-loop
 slice-write-indexes c =
@@ -96,7 +125,9 @@ slice-write-indexes c =
     let at-loop : tie.At-loop Inv-loop μ-loop = search in
     let after-next-of : tie.After-next-of Inv-loop μ-loop = search in
     let after-found : tie.After-found Inv-loop μ-loop = search in
-    one-room _ _ _ _ _ _ (at-loop .loop .inv .1) _ _ (kind-head (start .args .wanted) (start .args .bytes .now) (at-loop .loop .s .now) (at-loop .loop .inv .0) (after-next-of .next-of .result) (after-next-of .next-of .ensures) _ _ (after-found .found .given .1)) (start .pre .1 .1 .0)
+    one-room _ _ _ _ _ _ (at-loop .loop .inv .1) _ _
+    (kind-head (start .args .wanted) (start .args .bytes .now) (at-loop .loop .s .now) (at-loop .loop .inv .0) (after-next-of .next-of .result)
+    (after-next-of .next-of .ensures) _ _ (after-found .found .given .1)) (start .pre .1 .1 .0)
 
 mul-sizes : tie.Need-mul-sizes Inv-loop μ-loop
 mul-sizes c =
@@ -104,7 +135,12 @@ mul-sizes c =
     let at-loop : tie.At-loop Inv-loop μ-loop = search in
     let after-next-of : tie.After-next-of Inv-loop μ-loop = search in
     let after-found : tie.After-found Inv-loop μ-loop = search in
-    omega (arith, one-room _ _ _ _ _ _ (at-loop .loop .inv .2) _ _ (kind-head (start .args .wanted) (start .args .bytes .now) (at-loop .loop .s .now) (at-loop .loop .inv .0) (after-next-of .next-of .result) (after-next-of .next-of .ensures) _ _ (after-found .found .given .1)) (omega (arith, start .pre .1 .1 .0, start .pre .1 .1 .1)))
+    omega (
+      arith,
+      one-room _ _ _ _ _ _ (at-loop .loop .inv .2) _ _
+          (kind-head (start .args .wanted) (start .args .bytes .now) (at-loop .loop .s .now) (at-loop .loop .inv .0) (after-next-of .next-of .result)
+          (after-next-of .next-of .ensures) _ _ (after-found .found .given .1)) (omega (arith, start .pre .1 .1 .0, start .pre .1 .1 .1)),
+    )
 
 slice-write-sizes : tie.Need-slice-write-sizes Inv-loop μ-loop
 slice-write-sizes c =
@@ -112,7 +148,9 @@ slice-write-sizes c =
     let at-loop : tie.At-loop Inv-loop μ-loop = search in
     let after-next-of : tie.After-next-of Inv-loop μ-loop = search in
     let after-found : tie.After-found Inv-loop μ-loop = search in
-    one-room _ _ _ _ _ _ (at-loop .loop .inv .2) _ _ (kind-head (start .args .wanted) (start .args .bytes .now) (at-loop .loop .s .now) (at-loop .loop .inv .0) (after-next-of .next-of .result) (after-next-of .next-of .ensures) _ _ (after-found .found .given .1)) (omega (arith, start .pre .1 .1 .0, start .pre .1 .1 .1))
+    one-room _ _ _ _ _ _ (at-loop .loop .inv .2) _ _
+    (kind-head (start .args .wanted) (start .args .bytes .now) (at-loop .loop .s .now) (at-loop .loop .inv .0) (after-next-of .next-of .result)
+    (after-next-of .next-of .ensures) _ _ (after-found .found .given .1)) (omega (arith, start .pre .1 .1 .0, start .pre .1 .1 .1))
 
 add-k : tie.Need-add-k Inv-loop μ-loop
 add-k c =
@@ -120,7 +158,12 @@ add-k c =
     let at-loop : tie.At-loop Inv-loop μ-loop = search in
     let after-next-of : tie.After-next-of Inv-loop μ-loop = search in
     let after-found : tie.After-found Inv-loop μ-loop = search in
-    omega (arith, one-room _ _ _ _ _ _ (at-loop .loop .inv .1) _ _ (kind-head (start .args .wanted) (start .args .bytes .now) (at-loop .loop .s .now) (at-loop .loop .inv .0) (after-next-of .next-of .result) (after-next-of .next-of .ensures) _ _ (after-found .found .given .1)) (start .pre .1 .1 .0))
+    omega (
+      arith,
+      one-room _ _ _ _ _ _ (at-loop .loop .inv .1) _ _
+          (kind-head (start .args .wanted) (start .args .bytes .now) (at-loop .loop .s .now) (at-loop .loop .inv .0) (after-next-of .next-of .result)
+          (after-next-of .next-of .ensures) _ _ (after-found .found .given .1)) (start .pre .1 .1 .0),
+    )
 
 loop-less : tie.Need-loop-less Inv-loop μ-loop
 loop-less c =
@@ -128,7 +171,12 @@ loop-less c =
     let at-loop : tie.At-loop Inv-loop μ-loop = search in
     let after-next-of : tie.After-next-of Inv-loop μ-loop = search in
     let after-found : tie.After-found Inv-loop μ-loop = search in
-    omega (arith, kind-used (start .args .wanted) (start .args .bytes .now) (at-loop .loop .s .now) (at-loop .loop .inv .0) (after-next-of .next-of .result) (after-next-of .next-of .ensures) _ _ (after-found .found .given .1), length-part (after-found .found .given .0 .1 .0) (at-loop .loop .s .now))
+    omega (
+      arith,
+      kind-used (start .args .wanted) (start .args .bytes .now) (at-loop .loop .s .now) (at-loop .loop .inv .0) (after-next-of .next-of .result)
+          (after-next-of .next-of .ensures) _ _ (after-found .found .given .1),
+      length-part (after-found .found .given .0 .1 .0) (at-loop .loop .s .now),
+    )
 
 loop-again : tie.Need-loop-again Inv-loop μ-loop
 loop-again c =
@@ -137,9 +185,16 @@ loop-again c =
     let after-next-of : tie.After-next-of Inv-loop μ-loop = search in
     let after-found : tie.After-found Inv-loop μ-loop = search in
     let a = start .args in (
-      kind-on (a .wanted) (a .bytes .now) (at-loop .loop .s .now) (at-loop .loop .inv .0) (after-next-of .next-of .result) (after-next-of .next-of .ensures) _ _ (after-found .found .given .1),
-      one-store _ _ _ _ _ _ (at-loop .loop .inv .1) _ _ (c .slot-of .result .index) (kind-head (a .wanted) (a .bytes .now) (at-loop .loop .s .now) (at-loop .loop .inv .0) (after-next-of .next-of .result) (after-next-of .next-of .ensures) _ _ (after-found .found .given .1)) (start .pre .1 .1 .0) (ap (λ (m : Measured). m .index) (c .slot-of .ensures)),
-      one-store _ _ _ _ _ _ (at-loop .loop .inv .2) _ _ (c .slot-of .result .size) (kind-head (a .wanted) (a .bytes .now) (at-loop .loop .s .now) (at-loop .loop .inv .0) (after-next-of .next-of .result) (after-next-of .next-of .ensures) _ _ (after-found .found .given .1)) (omega (arith, start .pre .1 .1 .0, start .pre .1 .1 .1)) (ap (λ (m : Measured). m .size) (c .slot-of .ensures)),
+      kind-on (a .wanted) (a .bytes .now) (at-loop .loop .s .now) (at-loop .loop .inv .0) (after-next-of .next-of .result)
+          (after-next-of .next-of .ensures) _ _ (after-found .found .given .1),
+      one-store _ _ _ _ _ _ (at-loop .loop .inv .1) _ _ (c .slot-of .result .index)
+          (kind-head (a .wanted) (a .bytes .now) (at-loop .loop .s .now) (at-loop .loop .inv .0) (after-next-of .next-of .result)
+          (after-next-of .next-of .ensures) _ _ (after-found .found .given .1)) (start .pre .1 .1 .0)
+          (ap (λ (m : Measured). m .index) (c .slot-of .ensures)),
+      one-store _ _ _ _ _ _ (at-loop .loop .inv .2) _ _ (c .slot-of .result .size)
+          (kind-head (a .wanted) (a .bytes .now) (at-loop .loop .s .now) (at-loop .loop .inv .0) (after-next-of .next-of .result)
+          (after-next-of .next-of .ensures) _ _ (after-found .found .given .1)) (omega (arith, start .pre .1 .1 .0, start .pre .1 .1 .1))
+          (ap (λ (m : Measured). m .size) (c .slot-of .ensures)),
     )
 
 pub write-slots-spec : {M : Type 1} → statement M

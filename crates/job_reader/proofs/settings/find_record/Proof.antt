@@ -32,7 +32,8 @@ returns : tie.Need-returns Inv-loop μ-loop
 returns c =
     let start : tie.Start Inv-loop μ-loop = search in
     let at-loop : tie.At-loop Inv-loop μ-loop = search in
-    look-end (start .args .wanted) (start .args .bytes .now) (at-loop .loop .s .now) (at-loop .loop .inv .0) (at-loop .loop .inv .1) (c .before .before .next-record .result) (c .before .before .next-record .ensures) (c .enum-told .given .1)
+    look-end (start .args .wanted) (start .args .bytes .now) (at-loop .loop .s .now) (at-loop .loop .inv .0) (at-loop .loop .inv .1)
+    (c .before .before .next-record .result) (c .before .before .next-record .ensures) (c .enum-told .given .1)
 
 rank-of-requires : tie.Need-rank-of-requires Inv-loop μ-loop
 rank-of-requires c κs = search needs
@@ -43,7 +44,9 @@ returns-2 c =
     let at-loop : tie.At-loop Inv-loop μ-loop = search in
     let after-next-record : tie.After-next-record Inv-loop μ-loop = search in
     let after-found : tie.After-found Inv-loop μ-loop = search in
-    look-found (start .args .wanted) (start .args .bytes .now) (at-loop .loop .s .now) (at-loop .loop .inv .0) (at-loop .loop .inv .1) (after-next-record .next-record .result) (after-next-record .next-record .ensures) _ _ _ (after-found .found .given .1) (c .before .rank-of .ensures) (c .if1 .taken)
+    look-found (start .args .wanted) (start .args .bytes .now) (at-loop .loop .s .now) (at-loop .loop .inv .0) (at-loop .loop .inv .1)
+    (after-next-record .next-record .result) (after-next-record .next-record .ensures) _ _ _ (after-found .found .given .1) (c .before .rank-of .ensures)
+    (c .if1 .taken)
 
 returns-3 : tie.Need-returns-3 Inv-loop μ-loop
 returns-3 c =
@@ -51,35 +54,54 @@ returns-3 c =
     let at-loop : tie.At-loop Inv-loop μ-loop = search in
     let after-next-record : tie.After-next-record Inv-loop μ-loop = search in
     let after-found : tie.After-found Inv-loop μ-loop = search in
-    look-past (start .args .wanted) (start .args .bytes .now) (at-loop .loop .s .now) (at-loop .loop .inv .0) (at-loop .loop .inv .1) (after-next-record .next-record .result) (after-next-record .next-record .ensures) _ _ _ (after-found .found .given .1) (c .before .before .rank-of .ensures) (c .if2 .taken)
+    look-past (start .args .wanted) (start .args .bytes .now) (at-loop .loop .s .now) (at-loop .loop .inv .0) (at-loop .loop .inv .1)
+    (after-next-record .next-record .result) (after-next-record .next-record .ensures) _ _ _ (after-found .found .given .1)
+    (c .before .before .rank-of .ensures) (c .if2 .taken)
 
 sub-s : tie.Need-sub-s Inv-loop μ-loop
 sub-s c =
     let at-loop : tie.At-loop Inv-loop μ-loop = search in
     let after-next-record : tie.After-next-record Inv-loop μ-loop = search in
     let after-found : tie.After-found Inv-loop μ-loop = search in
-    omega (arith, walk-used (at-loop .loop .s .now) (after-next-record .next-record .result) (after-next-record .next-record .ensures) _ _ (after-found .found .given .1))
+    omega (
+      arith,
+      walk-used (at-loop .loop .s .now) (after-next-record .next-record .result) (after-next-record .next-record .ensures) _ _
+          (after-found .found .given .1),
+    )
 
 part-s-start : tie.Need-part-s-start Inv-loop μ-loop
 part-s-start c =
     let at-loop : tie.At-loop Inv-loop μ-loop = search in
     let after-next-record : tie.After-next-record Inv-loop μ-loop = search in
     let after-found : tie.After-found Inv-loop μ-loop = search in
-    omega (arith, walk-used (at-loop .loop .s .now) (after-next-record .next-record .result) (after-next-record .next-record .ensures) _ _ (after-found .found .given .1))
+    omega (
+      arith,
+      walk-used (at-loop .loop .s .now) (after-next-record .next-record .result) (after-next-record .next-record .ensures) _ _
+          (after-found .found .given .1),
+    )
 
 part-s-end : tie.Need-part-s-end Inv-loop μ-loop
 part-s-end c =
     let at-loop : tie.At-loop Inv-loop μ-loop = search in
     let after-next-record : tie.After-next-record Inv-loop μ-loop = search in
     let after-found : tie.After-found Inv-loop μ-loop = search in
-    omega (arith, walk-used (at-loop .loop .s .now) (after-next-record .next-record .result) (after-next-record .next-record .ensures) _ _ (after-found .found .given .1))
+    omega (
+      arith,
+      walk-used (at-loop .loop .s .now) (after-next-record .next-record .result) (after-next-record .next-record .ensures) _ _
+          (after-found .found .given .1),
+    )
 
 loop-less : tie.Need-loop-less Inv-loop μ-loop
 loop-less c =
     let at-loop : tie.At-loop Inv-loop μ-loop = search in
     let after-next-record : tie.After-next-record Inv-loop μ-loop = search in
     let after-found : tie.After-found Inv-loop μ-loop = search in
-    omega (arith, walk-used (at-loop .loop .s .now) (after-next-record .next-record .result) (after-next-record .next-record .ensures) _ _ (after-found .found .given .1), length-part (after-found .found .given .0 .1 .0) (at-loop .loop .s .now))
+    omega (
+      arith,
+      walk-used (at-loop .loop .s .now) (after-next-record .next-record .result) (after-next-record .next-record .ensures) _ _
+          (after-found .found .given .1),
+      length-part (after-found .found .given .0 .1 .0) (at-loop .loop .s .now),
+    )
 
 loop-again : tie.Need-loop-again Inv-loop μ-loop
 loop-again c =
@@ -88,7 +110,9 @@ loop-again c =
     let after-next-record : tie.After-next-record Inv-loop μ-loop = search in
     let after-found : tie.After-found Inv-loop μ-loop = search in
     let after-rank-of : tie.After-rank-of Inv-loop μ-loop = search in
-    look-on (start .args .wanted) (start .args .bytes .now) (at-loop .loop .s .now) (at-loop .loop .inv .0) (at-loop .loop .inv .1) (after-next-record .next-record .result) (after-next-record .next-record .ensures) _ _ _ (after-found .found .given .1) (after-rank-of .rank-of .ensures) (c .before .before .if1 .left)
+    look-on (start .args .wanted) (start .args .bytes .now) (at-loop .loop .s .now) (at-loop .loop .inv .0) (at-loop .loop .inv .1)
+    (after-next-record .next-record .result) (after-next-record .next-record .ensures) _ _ _ (after-found .found .given .1)
+    (after-rank-of .rank-of .ensures) (c .before .before .if1 .left)
 
 pub find-record-spec : {M : Type 1} → statement M
 find-record-spec =

@@ -19,7 +19,8 @@ enum-told c = search needs
 returns : tie.Need-returns
 returns c =
     let start : tie.Start = search in
-    from-none (start .args .wanted) (records (start .args .bytes .now)) (c .before .before .find-record .result) (c .before .before .find-record .ensures) flagFrom _ (c .enum-told .given .1) refl
+    from-none (start .args .wanted) (records (start .args .bytes .now)) (c .before .before .find-record .result)
+    (c .before .before .find-record .ensures) flagFrom _ (c .enum-told .given .1) refl
 
 enum-known-found-2 : tie.Need-enum-known-found-2
 enum-known-found-2 c = search needs
@@ -32,20 +33,24 @@ returns-2 c =
     let start : tie.Start = search in
     let after-find-record : tie.After-find-record = search in
     let after-found : tie.After-found = search in
-    from-one (start .args .wanted) (records (start .args .bytes .now)) (after-find-record .find-record .result) (after-find-record .find-record .ensures) flagFrom _ _ _ (after-found .found .given .1) (c .before .found2 .given .1) (λ t. refl)
+    from-one (start .args .wanted) (records (start .args .bytes .now)) (after-find-record .find-record .result)
+    (after-find-record .find-record .ensures) flagFrom _ _ _ (after-found .found .given .1) (c .before .found2 .given .1) (λ t. refl)
 
 returns-3 : tie.Need-returns-3
 returns-3 c =
     let start : tie.Start = search in
     let after-find-record : tie.After-find-record = search in
     let after-found : tie.After-found = search in
-    from-one (start .args .wanted) (records (start .args .bytes .now)) (after-find-record .find-record .result) (after-find-record .find-record .ensures) flagFrom _ _ _ (after-found .found .given .1) (c .before .found3 .given .1) (λ t. refl)
+    from-one (start .args .wanted) (records (start .args .bytes .now)) (after-find-record .find-record .result)
+    (after-find-record .find-record .ensures) flagFrom _ _ _ (after-found .found .given .1) (c .before .found3 .given .1) (λ t. refl)
 
 returns-4 : tie.Need-returns-4
 returns-4 c =
     let start : tie.Start = search in
     let after-find-record : tie.After-find-record = search in
-    absurd (no-flag (c .before .before .found .given .0 .0) (rw (found-rank (start .args .wanted) (records (start .args .bytes .now)) (after-find-record .find-record .result) (after-find-record .find-record .ensures) _ (c .before .before .found .given .1)) (start .pre .1)) (c .match2 .keys3))
+    absurd (no-flag (c .before .before .found .given .0 .0)
+    (rw (found-rank (start .args .wanted) (records (start .args .bytes .now)) (after-find-record .find-record .result)
+    (after-find-record .find-record .ensures) _ (c .before .before .found .given .1)) (start .pre .1)) (c .match2 .keys3))
 
 pub flag-of-spec : {M : Type 1} → statement M
 flag-of-spec =

@@ -19,12 +19,14 @@ enum-told-2 c = search needs
 returns : tie.Need-returns
 returns c =
     let start : tie.Start = search in
-    from-none (start .args .wanted) (records (start .args .bytes .now)) (c .before .before .find-record .result) (c .before .before .find-record .ensures) isThere _ (c .enum-told2 .given .1) refl
+    from-none (start .args .wanted) (records (start .args .bytes .now)) (c .before .before .find-record .result)
+    (c .before .before .find-record .ensures) isThere _ (c .enum-told2 .given .1) refl
 
 returns-2 : tie.Need-returns-2
 returns-2 c =
     let start : tie.Start = search in
-    from-one (start .args .wanted) (records (start .args .bytes .now)) (c .before .before .find-record .result) (c .before .before .find-record .ensures) isThere _ _ _ (c .enum-told .given .1) refl (λ t. refl)
+    from-one (start .args .wanted) (records (start .args .bytes .now)) (c .before .before .find-record .result)
+    (c .before .before .find-record .ensures) isThere _ _ _ (c .enum-told .given .1) refl (λ t. refl)
 
 pub is-there-spec : {M : Type 1} → statement M
 is-there-spec = tie.close (tie.spec find-record-requires enum-told enum-told-2 returns returns-2)

@@ -20,7 +20,8 @@ enum-told c = search needs
 returns : tie.Need-returns
 returns c =
     let start : tie.Start = search in
-    from-none 3 (records (start .args .bytes .now)) (c .before .before .find-record .result) (c .before .before .find-record .ensures) marginsFrom _ (c .enum-told .given .1) refl
+    from-none 3 (records (start .args .bytes .now)) (c .before .before .find-record .result) (c .before .before .find-record .ensures) marginsFrom _
+    (c .enum-told .given .1) refl
 
 enum-known-found-2 : tie.Need-enum-known-found-2
 enum-known-found-2 c = search needs
@@ -29,14 +30,17 @@ returns-2 : tie.Need-returns-2
 returns-2 c =
     let start : tie.Start = search in
     let after-find-record : tie.After-find-record = search in
-    absurd (no-other 2 (0 ∷ 1 ∷ 3 ∷ 4 ∷ 5 ∷ 6 ∷ 7 ∷ 8 ∷ 9 ∷ 10 ∷ 11 ∷ 12 ∷ 13 ∷ 14 ∷ 15 ∷ 16 ∷ 17 ∷ 18 ∷ []) (c .before .before .found .given .0 .0) tt (found-rank 3 (records (start .args .bytes .now)) (after-find-record .find-record .result) (after-find-record .find-record .ensures) _ (c .before .before .found .given .1)) (c .match2 .keys2))
+    absurd (no-other 2 (0 ∷ 1 ∷ 3 ∷ 4 ∷ 5 ∷ 6 ∷ 7 ∷ 8 ∷ 9 ∷ 10 ∷ 11 ∷ 12 ∷ 13 ∷ 14 ∷ 15 ∷ 16 ∷ 17 ∷ 18 ∷ []) (c .before .before .found .given .0 .0) tt
+    (found-rank 3 (records (start .args .bytes .now)) (after-find-record .find-record .result) (after-find-record .find-record .ensures) _
+    (c .before .before .found .given .1)) (c .match2 .keys2))
 
 returns-3 : tie.Need-returns-3
 returns-3 c =
     let start : tie.Start = search in
     let after-find-record : tie.After-find-record = search in
     let after-found : tie.After-found = search in
-    from-one 3 (records (start .args .bytes .now)) (after-find-record .find-record .result) (after-find-record .find-record .ensures) marginsFrom _ _ _ (after-found .found .given .1) (c .before .found2 .given .1) (λ t. refl)
+    from-one 3 (records (start .args .bytes .now)) (after-find-record .find-record .result) (after-find-record .find-record .ensures) marginsFrom _ _ _
+    (after-found .found .given .1) (c .before .found2 .given .1) (λ t. refl)
 
 pub margins-of-spec : {M : Type 1} → statement M
 margins-of-spec =

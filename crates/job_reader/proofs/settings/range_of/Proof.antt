@@ -24,7 +24,8 @@ returns : tie.Need-returns
 returns c =
     let start : tie.Start = search in
     let after-find-record : tie.After-find-record = search in
-    from-none 11 (records (start .args .bytes .now)) (after-find-record .find-record .result) (after-find-record .find-record .ensures) rangeFrom _ (c .before .enum-told .given .1) (sym (c .nowhere .ensures))
+    from-none 11 (records (start .args .bytes .now)) (after-find-record .find-record .result) (after-find-record .find-record .ensures) rangeFrom _
+    (c .before .enum-told .given .1) (sym (c .nowhere .ensures))
 
 enum-known-found-2 : tie.Need-enum-known-found-2
 enum-known-found-2 c = search needs
@@ -37,14 +38,17 @@ returns-2 c =
     let start : tie.Start = search in
     let after-find-record : tie.After-find-record = search in
     let after-found : tie.After-found = search in
-    absurd (no-other 10 (0 ∷ 1 ∷ 2 ∷ 3 ∷ 4 ∷ 5 ∷ 6 ∷ 7 ∷ 8 ∷ 9 ∷ 11 ∷ 12 ∷ 13 ∷ 14 ∷ 15 ∷ 16 ∷ 17 ∷ 18 ∷ []) (after-found .found .given .0 .0) tt (found-rank 11 (records (start .args .bytes .now)) (after-find-record .find-record .result) (after-find-record .find-record .ensures) _ (after-found .found .given .1)) (c .before .match2 .keys2))
+    absurd (no-other 10 (0 ∷ 1 ∷ 2 ∷ 3 ∷ 4 ∷ 5 ∷ 6 ∷ 7 ∷ 8 ∷ 9 ∷ 11 ∷ 12 ∷ 13 ∷ 14 ∷ 15 ∷ 16 ∷ 17 ∷ 18 ∷ []) (after-found .found .given .0 .0) tt
+    (found-rank 11 (records (start .args .bytes .now)) (after-find-record .find-record .result) (after-find-record .find-record .ensures) _
+    (after-found .found .given .1)) (c .before .match2 .keys2))
 
 returns-3 : tie.Need-returns-3
 returns-3 c =
     let start : tie.Start = search in
     let after-find-record : tie.After-find-record = search in
     let after-found : tie.After-found = search in
-    from-one 11 (records (start .args .bytes .now)) (after-find-record .find-record .result) (after-find-record .find-record .ensures) rangeFrom _ _ _ (after-found .found .given .1) (c .before .found2 .given .1) (λ t. refl)
+    from-one 11 (records (start .args .bytes .now)) (after-find-record .find-record .result) (after-find-record .find-record .ensures) rangeFrom _ _ _
+    (after-found .found .given .1) (c .before .found2 .given .1) (λ t. refl)
 
 pub range-of-spec : {M : Type 1} → statement M
 range-of-spec =

@@ -78,7 +78,21 @@ returns c =
     let after-margins-of = after-number-of2 .before in
     let after-is-there = after-margins-of .before in
     let after-number-of = after-is-there .before in
-    rw (c .column-title-of .ensures, after-row-title-of .row-title-of .ensures, after-range-of .range-of .ensures, after-limit-of .limit-of .ensures, after-is-there2 .is-there2 .ensures, after-flag-of2 .flag-of2 .ensures, after-flag-of .flag-of .ensures, after-number-of4 .number-of4 .ensures, after-number-of3 .number-of3 .ensures, after-number-of2 .number-of2 .ensures, after-margins-of .margins-of .ensures, after-is-there .is-there .ensures, after-number-of .number-of .ensures)
+    rw (
+      c .column-title-of .ensures,
+      after-row-title-of .row-title-of .ensures,
+      after-range-of .range-of .ensures,
+      after-limit-of .limit-of .ensures,
+      after-is-there2 .is-there2 .ensures,
+      after-flag-of2 .flag-of2 .ensures,
+      after-flag-of .flag-of .ensures,
+      after-number-of4 .number-of4 .ensures,
+      after-number-of3 .number-of3 .ensures,
+      after-number-of2 .number-of2 .ensures,
+      after-margins-of .margins-of .ensures,
+      after-is-there .is-there .ensures,
+      after-number-of .number-of .ensures,
+    )
 
 pub settings-of-spec : {M : Type 1} → statement M
 settings-of-spec =

@@ -16,7 +16,13 @@ signed-requires : tie.Need-signed-requires
 signed-requires c κs = search needs
 
 returns : tie.Need-returns
-returns c = rw (toZ-ofZ {w = w64} {z = c .signed .result} (record { sfits = c .signed .ok }), c .signed .ensures, c .before .u64-at .ensures, c .before .before .u16-at .ensures)
+returns c =
+    rw (
+      toZ-ofZ {w = w64} {z = c .signed .result} (record { sfits = c .signed .ok }),
+      c .signed .ensures,
+      c .before .u64-at .ensures,
+      c .before .before .u16-at .ensures,
+    )
 
 pub column-at-spec : {M : Type 1} → statement M
 column-at-spec = tie.close (tie.spec u16-at-requires u64-at-requires signed-requires returns)

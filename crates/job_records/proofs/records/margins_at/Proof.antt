@@ -34,7 +34,14 @@ returns c =
     let after-u64-at : tie.After-u64-at = search in
     let after-u64-at2 : tie.After-u64-at2 = search in
     let after-u64-at3 : tie.After-u64-at3 = search in
-    rw (c .u64-at6 .ensures, c .before .u64-at5 .ensures, c .before .before .u64-at4 .ensures, after-u64-at3 .u64-at3 .ensures, after-u64-at2 .u64-at2 .ensures, after-u64-at .u64-at .ensures)
+    rw (
+      c .u64-at6 .ensures,
+      c .before .u64-at5 .ensures,
+      c .before .before .u64-at4 .ensures,
+      after-u64-at3 .u64-at3 .ensures,
+      after-u64-at2 .u64-at2 .ensures,
+      after-u64-at .u64-at .ensures,
+    )
 
 pub margins-at-spec : {M : Type 1} → statement M
 margins-at-spec =

@@ -16,7 +16,13 @@ signed-requires : tie.Need-signed-requires
 signed-requires c κs = search needs
 
 returns : tie.Need-returns
-returns c = rw (toZ-ofZ {w = w64} {z = c .signed .result} (record { sfits = c .signed .ok }), c .signed .ensures, c .before .u64-at .ensures, c .before .before .u32-at .ensures)
+returns c =
+    rw (
+      toZ-ofZ {w = w64} {z = c .signed .result} (record { sfits = c .signed .ok }),
+      c .signed .ensures,
+      c .before .u64-at .ensures,
+      c .before .before .u32-at .ensures,
+    )
 
 pub row-at-spec : {M : Type 1} → statement M
 row-at-spec = tie.close (tie.spec u32-at-requires u64-at-requires signed-requires returns)

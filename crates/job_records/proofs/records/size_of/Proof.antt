@@ -40,7 +40,9 @@ returns-8 c = size-of-keys 18253 [] 50 _ (refl, tt) (c .match .keys8)
 
 returns-9 : tie.Need-returns-9
 unfolding formats
-returns-9 c = no-size ((18253 ∷ []) ∷ (21057 ∷ 21069 ∷ 22354 ∷ []) ∷ (19523 ∷ []) ∷ (20556 ∷ 21076 ∷ []) ∷ (17236 ∷ 21058 ∷ []) ∷ (17218 ∷ 17232 ∷ 17235 ∷ 18502 ∷ 22342 ∷ []) ∷ (17487 ∷ 21574 ∷ []) ∷ (16716 ∷ 17480 ∷ 20037 ∷ []) ∷ []) formats _ tt (c .match .rest)
+returns-9 c =
+    no-size ((18253 ∷ []) ∷ (21057 ∷ 21069 ∷ 22354 ∷ []) ∷ (19523 ∷ []) ∷ (20556 ∷ 21076 ∷ []) ∷ (17236 ∷ 21058 ∷ [])
+    ∷ (17218 ∷ 17232 ∷ 17235 ∷ 18502 ∷ 22342 ∷ []) ∷ (17487 ∷ 21574 ∷ []) ∷ (16716 ∷ 17480 ∷ 20037 ∷ []) ∷ []) formats _ tt (c .match .rest)
 
 pub size-of-spec : {M : Type 1} → statement M
 size-of-spec =

@@ -32,8 +32,11 @@ returns c =
     let after-planning : tie.After-planning = search in
     let p : tie.After-plan-line = search in
     let n = c .notes-line in
-    let g = after-planning .planning .given in
-    (and-then [] (take (p .plan-line .result) (p .plan-line .last .0)) _ _ _ (p .plan-line .ensures .0) (n .ensures .0) ∙ ap (λ (l : Planning). headLines (planOutcome l)) (sym (g .1)), counts (n .result) (n .last .0) (omega arith))
+    let g = after-planning .planning .given in (
+      and-then [] (take (p .plan-line .result) (p .plan-line .last .0)) _ _ _ (p .plan-line .ensures .0) (n .ensures .0) ∙ ap
+          (λ (l : Planning). headLines (planOutcome l)) (sym (g .1)),
+      counts (n .result) (n .last .0) (omega arith),
+    )
 
 returns-2 : tie.Need-returns-2
 unfolding headLines

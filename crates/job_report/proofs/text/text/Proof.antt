@@ -1,4 +1,5 @@
--- `job_report::text::text` meets its contract. The loop's invariant: i bytes stand from the place on. The measure is what is left of the bytes. Assumes nothing.
+-- `job_report::text::text` meets its contract. The loop's invariant: i bytes stand from the place on. The measure is what is left of the
+-- bytes. Assumes nothing.
 use Prim.Native.Nat.{_-_}
 use lib.ListN.{length}
 use borrow.Author.Needs.{needs}

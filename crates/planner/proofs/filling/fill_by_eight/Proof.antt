@@ -44,8 +44,11 @@ part-sum-of-eight-end c = search needs
 sum-of-eight-requires : tie.Need-sum-of-eight-requires Inv-loop μ-loop
 sum-of-eight-requires c κs =
     let s : tie.Start Inv-loop μ-loop = search in
-    let l = c .before .before .loop in
-    (small-mid (l .n) (l .n + 8) (s .args .sizes .now) (omega arith) (s .pre .0), length-mid (l .n) (l .n + 8) (s .args .sizes .now) (omega arith) ∙ omega arith)
+    let l = c .before .before .loop in (
+      small-mid (l .n) (l .n + 8) (s .args .sizes .now) (omega arith) (s .pre .0),
+      length-mid (l .n) (l .n + 8) (s .args .sizes .now) (omega arith)
+          ∙ omega arith,
+    )
 
 add-next : tie.Need-add-next Inv-loop μ-loop
 add-next c =

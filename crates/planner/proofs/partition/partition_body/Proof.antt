@@ -93,7 +93,8 @@ partition-slots-requires c κs =
     let d : tie.After-place-of2 = search in
     let s = start d in
     let a = s .args in
-    slots-mid (placed d .place-of .result) (d .place-of2 .result) (a .indexes .now) (a .sizes .now) (omega (arith, d .place-of2 .ensures .1, s .pre .even)) (s .pre)
+    slots-mid (placed d .place-of .result) (d .place-of2 .result) (a .indexes .now) (a .sizes .now) (omega (arith, d .place-of2 .ensures .1, s .pre .even))
+    (s .pre)
 
 same-length : tie.Need-same-length
 same-length c = search needs

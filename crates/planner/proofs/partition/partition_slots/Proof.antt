@@ -67,7 +67,8 @@ returns-2 c =
     let w : tie.After-write-axis = search in
     let l = start .args .list .now in
     let few = room-enough (all start) (tally start) (roomIn l) (omega (arith, else1 .if1 .left, after-room-in .room-in .ensures, counted d)) in
-    let e : roomFor (all start) (tally start) (roomIn l) ≡ given (d .count-axis .result) = few ∙ ap (λ (x : Tally). given x) (sym (d .count-axis .ensures .0)) in
+    let e : roomFor (all start) (tally start) (roomIn l) ≡ given (d .count-axis .result) = few ∙ ap (λ (x : Tally). given x)
+    (sym (d .count-axis .ensures .0)) in
     answers _ (all start) (d .count-axis .result) _ l _ e (w .write-axis .ensures)
 
 pub partition-slots-spec : {M : Type 1} → statement M

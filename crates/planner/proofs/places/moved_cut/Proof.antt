@@ -52,7 +52,8 @@ returns-3 c =
     let is = a .indexes .now in
     moved-past (a .held) _ _ (a .prev) (a .p) is (after-held .held .given .1) (b .before .place-of .result)
     (b .before .place-of .ensures .0 ∙ ap (λ (k : ℕ). below k is) (b .before .before .wide .ensures)) (b .if1 .left) (c .place-of2 .result)
-    (c .place-of2 .ensures .0 ∙ ap (λ (k : ℕ). below k is) (ap (λ (k : ℕ). k + 1) (c .before .wide2 .ensures) ∙ add-one _) ∙ sym (through-below _ is (s .pre)))
+    (c .place-of2 .ensures .0 ∙ ap (λ (k : ℕ). below k is) (ap (λ (k : ℕ). k + 1) (c .before .wide2 .ensures) ∙ add-one _) ∙ sym
+    (through-below _ is (s .pre)))
 
 pub moved-cut-spec : {M : Type 1} → statement M
 moved-cut-spec =

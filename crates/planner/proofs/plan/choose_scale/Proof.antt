@@ -56,8 +56,20 @@ part-fit-scale-end-4 c = search needs
 fit-scale-requires : tie.Need-fit-scale-requires
 fit-scale-requires c κs =
     let s : tie.Start = search in
-    let a = s .args in
-    (let q = s .pre .0 in record { low = q .low; slots = slots-mid (a .rows .from) (a .rows .to) (a .row-indexes .now) (a .row-sizes .now) (omega (arith, q .inside, q .slots .even)) (q .slots) }, let q = s .pre .1 in record { low = q .low; slots = slots-mid (a .columns .from) (a .columns .to) (a .column-indexes .now) (a .column-sizes .now) (omega (arith, q .inside, q .slots .even)) (q .slots) })
+    let a = s .args in (
+      let q = s .pre .0 in
+          record {
+            low = q .low;
+            slots = slots-mid (a .rows .from) (a .rows .to) (a .row-indexes .now) (a .row-sizes .now)
+                (omega (arith, q .inside, q .slots .even)) (q .slots);
+          },
+      let q = s .pre .1 in
+          record {
+            low = q .low;
+            slots = slots-mid (a .columns .from) (a .columns .to) (a .column-indexes .now) (a .column-sizes .now)
+                (omega (arith, q .inside, q .slots .even)) (q .slots);
+          },
+    )
 
 returns : tie.Need-returns
 returns c =

@@ -15,14 +15,18 @@ use Rattle.planner.proofs.plan.count_cut.Tie as tie
 counted : (t : tie.After-count-axis) →
     let start : tie.Start = search in
     let a = start .args in
-    t .count-axis .result ≡ tallies (length (readyRuns (a .ready) (a .permille) (a .indexes .now) (a .sizes .now) (a .merge-firsts .now) (a .merge-lasts .now) (a .breaks .now))) (expansions (readyRuns (a .ready) (a .permille) (a .indexes .now) (a .sizes .now) (a .merge-firsts .now) (a .merge-lasts .now) (a .breaks .now))) (readyShifts (a .ready) (a .permille) (a .indexes .now) (a .merge-firsts .now) (a .merge-lasts .now) (a .breaks .now))
+    t .count-axis .result ≡ tallies
+    (length (readyRuns (a .ready) (a .permille) (a .indexes .now) (a .sizes .now) (a .merge-firsts .now) (a .merge-lasts .now) (a .breaks .now)))
+    (expansions (readyRuns (a .ready) (a .permille) (a .indexes .now) (a .sizes .now) (a .merge-firsts .now) (a .merge-lasts .now) (a .breaks .now)))
+    (readyShifts (a .ready) (a .permille) (a .indexes .now) (a .merge-firsts .now) (a .merge-lasts .now) (a .breaks .now))
 unfolding axisTally
 counted t =
     let start : tie.Start = search in
     let after-frame-at : tie.After-frame-at = search in
     let a = start .args in
     t .count-axis .ensures .0
-    ∙ ap (λ (f : Frame). axisTally f (a .merge-firsts .now) (a .merge-lasts .now) (within (a .ready) (a .indexes .now)) (within (a .ready) (a .sizes .now)) (a .breaks .now)) (after-frame-at .frame-at .ensures)
+    ∙ ap (λ (f : Frame). axisTally f (a .merge-firsts .now) (a .merge-lasts .now) (within (a .ready) (a .indexes .now)) (within (a .ready) (a .sizes .now))
+    (a .breaks .now)) (after-frame-at .frame-at .ensures)
 
 frame-at-requires : tie.Need-frame-at-requires
 frame-at-requires c κs =
@@ -71,7 +75,8 @@ returns c =
     let rs = readyRuns (a .ready) (a .permille) (a .indexes .now) (a .sizes .now) (a .merge-firsts .now) (a .merge-lasts .now) (a .breaks .now) in
     let few = slots-mid (a .ready .from) (a .ready .to) (a .indexes .now) (a .sizes .now) (omega (arith, q .inside, q .slots .even)) (q .slots) .small .few in
     let made = c .final-cut .ensures in (
-      made ∙ ap cutFrom (counted t) ∙ cut-from rs (readyShifts (a .ready) (a .permille) (a .indexes .now) (a .merge-firsts .now) (a .merge-lasts .now) (a .breaks .now)),
+      made ∙ ap cutFrom (counted t) ∙ cut-from rs
+          (readyShifts (a .ready) (a .permille) (a .indexes .now) (a .merge-firsts .now) (a .merge-lasts .now) (a .breaks .now)),
       rw made (omega (arith, t .count-axis .ensures .1 .0, few), omega (arith, t .count-axis .ensures .1 .1, few), t .count-axis .ensures .1 .2),
     )
 

@@ -80,7 +80,8 @@ returns c =
     let chosen = scaled p .choose-scale .ensures
     ∙ scale-of (a .settings) (sidesOf (a .sides)) (rows-of d) (columns-of d) (rows-ready d .ready-axis .result) (d .ready-axis2 .result)
     (rows-ready d .ready-axis .ensures (a .row-breaks .now)) (d .ready-axis2 .ensures (a .column-breaks .now)) in
-    relay-scale (a .settings) (sidesOf (a .sides)) (rows-of d) (columns-of d) _ (roomIn (a .row-runs .now)) (roomIn (a .column-runs .now)) (a .settings .«page_limit») _
+    relay-scale (a .settings) (sidesOf (a .sides)) (rows-of d) (columns-of d) _ (roomIn (a .row-runs .now)) (roomIn (a .column-runs .now))
+    (a .settings .«page_limit») _
     (a .row-runs .now) (a .column-runs .now) _ _ chosen (p .plan-cut .ensures)
 
 pub plan-axes-spec : {M : Type 1} → statement M

@@ -10,7 +10,8 @@ use Rattle.planner_rules.specs.Lent.{roomIn}
 use Rattle.planner_rules.specs.Scale.{scaleOf}
 use Rattle.planner_rules.specs.Plan.{AxisInput, Layout, axisFor, sidesOf, layoutAt, readyRuns, cutOf, cutRuns, cutShifts, roomNo, Cuttable}
 use Rattle.planner_rules.proofs.TitleLaws.{ignored-le, expanded-le}
-use Rattle.planner_rules.proofs.PlanLaws.{cuttable, cut-of, row-count, column-count, page-count, room-refused, room-given, rows-fit, columns-fit, refuses-plan, room-of, few-pages, overflows-few, overflows-of, plan-value, written-of, answers-plan}
+use Rattle.planner_rules.proofs.PlanLaws.{cuttable, cut-of, row-count, column-count, page-count, room-refused, room-given, rows-fit, columns-fit}
+use Rattle.planner_rules.proofs.PlanLaws.{refuses-plan, room-of, few-pages, overflows-few, overflows-of, plan-value, written-of, answers-plan}
 use borrow.Author.Needs.{needs}
 use native.Mathlib.Omega.{arith}
 use Rattle.planner.proofs.plan.plan_cut.Statement.{statement}
@@ -42,7 +43,8 @@ columns-cut s =
 row-slots : (s : tie.Start) → let a = s .args in Cuttable (a .prepared .rows) (a .row-indexes .now) (a .row-sizes .now)
 row-slots s =
     let a = s .args in
-    cuttable (a .row-axis) (a .row-indexes .now) (a .row-sizes .now) (a .merge-first-rows .now) (a .merge-last-rows .now) (a .row-breaks .now) (a .prepared .rows) (a .sides .height .0) (s .pre .0)
+    cuttable (a .row-axis) (a .row-indexes .now) (a .row-sizes .now) (a .merge-first-rows .now) (a .merge-last-rows .now) (a .row-breaks .now)
+    (a .prepared .rows) (a .sides .height .0) (s .pre .0)
     (s .pre .1 .1 .0)
 
 column-slots : (s : tie.Start) → let a = s .args in Cuttable (a .prepared .columns) (a .column-indexes .now) (a .column-sizes .now)
@@ -155,7 +157,8 @@ returns c =
     let e : tie.After-room-refusal = search in
     let a = start e .args in
     refuses-plan _ _ (a .row-runs .now) (a .column-runs .now)
-    (room-refused (laid e) _ _ (roomIn (a .row-runs .now)) (roomIn (a .column-runs .now)) (a .settings .«page_limit») _ (row-runs e) (column-runs e) (pages-are e)
+    (room-refused (laid e) _ _ (roomIn (a .row-runs .now)) (roomIn (a .column-runs .now)) (a .settings .«page_limit») _ (row-runs e) (column-runs e)
+    (pages-are e)
     (asked e) (c .if1 .taken))
 
 write-cut-requires : tie.Need-write-cut-requires
@@ -165,7 +168,8 @@ write-cut-requires c κs =
     let s = start e in
     let a = s .args in
     let cut = counted-rows e .count-cut in
-    let fit = rows-fit (laid e) _ _ (roomIn (a .row-runs .now)) (roomIn (a .column-runs .now)) (a .settings .«page_limit») _ (row-runs e) (column-runs e) (pages-are e)
+    let fit = rows-fit (laid e) _ _ (roomIn (a .row-runs .now)) (roomIn (a .column-runs .now)) (a .settings .«page_limit») _ (row-runs e) (column-runs e)
+    (pages-are e)
     (asked e) (else1 .if1 .left) in
     (row-slots s, (cut .ensures .0, room-of (a .row-axis .first) (rows-cut s) _ (cut .result) (a .row-runs .now) (cut .ensures .0) fit))
 
@@ -176,7 +180,8 @@ write-cut-requires-2 c κs =
     let s = start e in
     let a = s .args in
     let cut = counted-columns e .count-cut2 in
-    let fit = columns-fit (laid e) _ _ (roomIn (a .row-runs .now)) (roomIn (a .column-runs .now)) (a .settings .«page_limit») _ (row-runs e) (column-runs e) (pages-are e)
+    let fit = columns-fit (laid e) _ _ (roomIn (a .row-runs .now)) (roomIn (a .column-runs .now)) (a .settings .«page_limit») _ (row-runs e) (column-runs e)
+    (pages-are e)
     (asked e) (passed w .if1 .left) in
     (column-slots s, (cut .ensures .0, room-of (a .column-axis .first) (columns-cut s) _ (cut .result) (a .column-runs .now) (cut .ensures .0) fit))
 
@@ -244,10 +249,23 @@ returns-2 c =
     let row-overflows = wrote-rows w .write-cut .ensures .1 ∙ overflows-of (a .prepared .rows) (a .sides .height .0) (rows-of s) yr p in
     let column-overflows = w .write-cut2 .ensures .1 ∙ overflows-of (a .prepared .columns) (a .sides .width .0) (columns-of s) yc p in
     let q : _ ≡ laid e .plan =
-    ap (λ (n : Notes). record { permille = p; «row_runs» = rc .runs; «column_runs» = cc .runs; «rows_empty» = rc .empty; «columns_empty» = cc .empty; pages = rc .runs * cc .runs; order = a .settings .order; notes = n }) (c .notes-of .ensures)
-    ∙ plan-value (a .settings) (sidesOf (a .sides)) (rows-of s) (columns-of s) (scaleOf (a .prepared .scale)) (a .prepared .rows) (a .prepared .columns) yr yc rc cc
+    ap (λ (n : Notes).
+    record {
+      permille = p;
+      «row_runs» = rc .runs;
+      «column_runs» = cc .runs;
+      «rows_empty» = rc .empty;
+      «columns_empty» = cc .empty;
+      pages =
+          rc .runs * cc .runs;
+      order = a .settings .order;
+      notes = n;
+    }) (c .notes-of .ensures)
+    ∙ plan-value (a .settings) (sidesOf (a .sides)) (rows-of s) (columns-of s) (scaleOf (a .prepared .scale)) (a .prepared .rows)
+    (a .prepared .columns) yr yc rc cc
     (row-cut e) (column-cut e) _ _ row-overflows column-overflows in
-    let room = room-given (laid e) _ _ (roomIn (a .row-runs .now)) (roomIn (a .column-runs .now)) (a .settings .«page_limit») _ (row-runs e) (column-runs e) (pages-are e)
+    let room = room-given (laid e) _ _ (roomIn (a .row-runs .now)) (roomIn (a .column-runs .now)) (a .settings .«page_limit») _ (row-runs e) (column-runs e)
+    (pages-are e)
     (asked e) (passed (wrote-rows w) .if1 .left) in
     answers-plan _ (laid e) _ room q (a .row-runs .now) (a .column-runs .now) _ _
     (written-of (a .prepared .rows) (a .sides .height .0) (rows-of s) yr p (a .row-runs .now) _ (wrote-rows w .write-cut .ensures .0))

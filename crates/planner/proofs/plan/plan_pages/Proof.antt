@@ -10,7 +10,8 @@ use Rattle.planner_rules.specs.declared.planning.Planning.{Planning}
 use Rattle.planner_rules.specs.Plan.{AxisInput, rowsOf, columnsOf, lookedAt, axisFor, sidesOutcome, contentSides, firstNo, planned, Planned}
 use Rattle.planner_rules.specs.Demand.{CoversPairs, FewestPlan, LargestPlan}
 use Rattle.planner_rules.proofs.Demand.{clauses}
-use Rattle.planner_rules.proofs.PlanLaws.{Asked, is-refused, is-asked, refuses-plan, no-breaks, looked, looked-few, ten-of, sides-of, relay-call, rows-fine, columns-fine}
+use Rattle.planner_rules.proofs.PlanLaws.{Asked, is-refused, is-asked, refuses-plan, no-breaks, looked, looked-few, ten-of, sides-of, relay-call, rows-fine}
+use Rattle.planner_rules.proofs.PlanLaws.{columns-fine}
 use borrow.Author.Needs.{needs}
 use native.Mathlib.Omega.{arith}
 use Rattle.planner.proofs.plan.plan_pages.Statement.{statement}
@@ -29,23 +30,29 @@ column-axis d = d .before
 abbrev rows : tie.After-plan-refusal → AxisInput
 rows d =
     let a = start d .args in
-    rowsOf (a .settings) (a .range) (a .row-title) (a .row-indexes .now) (a .row-sizes .now) (a .merge-first-rows .now) (a .merge-last-rows .now) (a .row-breaks .now)
+    rowsOf (a .settings) (a .range) (a .row-title) (a .row-indexes .now) (a .row-sizes .now) (a .merge-first-rows .now) (a .merge-last-rows .now)
+    (a .row-breaks .now)
 
 abbrev columns : tie.After-plan-refusal → AxisInput
 columns d =
     let a = start d .args in
-    columnsOf (a .settings) (a .range) (a .column-title) (a .column-indexes .now) (a .column-sizes .now) (a .merge-first-columns .now) (a .merge-last-columns .now) (a .column-breaks .now)
+    columnsOf (a .settings) (a .range) (a .column-title) (a .column-indexes .now) (a .column-sizes .now) (a .merge-first-columns .now)
+    (a .merge-last-columns .now) (a .column-breaks .now)
 
 -- the first no
 first-no : (d : tie.After-plan-refusal) → d .plan-refusal .result ≡ firstNo (rows d) (columns d)
 first-no d =
     let a = start d .args in
     d .plan-refusal .ensures
-    ∙ no-breaks (row-axis d .row-range .result) (column-axis d .column-range .result) (a .row-indexes .now) (a .row-sizes .now) (a .merge-first-rows .now) (a .merge-last-rows .now)
-    (lookedAt (a .settings .fit) (a .row-breaks .now)) (a .column-indexes .now) (a .column-sizes .now) (a .merge-first-columns .now) (a .merge-last-columns .now)
+    ∙ no-breaks (row-axis d .row-range .result) (column-axis d .column-range .result) (a .row-indexes .now) (a .row-sizes .now) (a .merge-first-rows .now)
+    (a .merge-last-rows .now)
+    (lookedAt (a .settings .fit) (a .row-breaks .now)) (a .column-indexes .now) (a .column-sizes .now) (a .merge-first-columns .now)
+    (a .merge-last-columns .now)
     (lookedAt (a .settings .fit) (a .column-breaks .now))
-    ∙ ap₂ firstNo (row-axis d .row-range .ensures (a .row-indexes .now) (a .row-sizes .now) (a .merge-first-rows .now) (a .merge-last-rows .now) (a .row-breaks .now))
-    (column-axis d .column-range .ensures (a .column-indexes .now) (a .column-sizes .now) (a .merge-first-columns .now) (a .merge-last-columns .now) (a .column-breaks .now))
+    ∙ ap₂ firstNo
+    (row-axis d .row-range .ensures (a .row-indexes .now) (a .row-sizes .now) (a .merge-first-rows .now) (a .merge-last-rows .now) (a .row-breaks .now))
+    (column-axis d .column-range .ensures (a .column-indexes .now) (a .column-sizes .now) (a .merge-first-columns .now) (a .merge-last-columns .now)
+    (a .column-breaks .now))
 
 -- and where there is none
 all-yes : (d : tie.After-plan-refusal) → d .plan-refusal .result ≤ 0 →
@@ -114,7 +121,8 @@ returns-2 c =
     let d = asked s in
     let a = start d .args in
     let ten : contentSides (a .settings) ≡ refused 10 = sym (s .content-sides .ensures) ∙ ap sidesOutcome (c .enum-told .given .1) in
-    let no = ten-of (a .settings) (rows d) (columns d) (a .row-runs .now) (a .column-runs .now) (d .plan-refusal .result) (first-no d) (all-yes d (s .before .if1 .left)) ten in
+    let no = ten-of (a .settings) (rows d) (columns d) (a .row-runs .now) (a .column-runs .now) (d .plan-refusal .result) (first-no d)
+    (all-yes d (s .before .if1 .left)) ten in
     four d _ _ _ (refuses-plan _ 10 (a .row-runs .now) (a .column-runs .now) no)
 
 looked-at-requires : tie.Need-looked-at-requires
@@ -143,9 +151,11 @@ plan-axes-requires c κs =
     let d = asked s in
     let a = start d .args in
     let y = all-yes d (s .before .if1 .left) in (
-      rows-fine (row-axis d .row-range .result) (a .settings) (a .range) (a .row-title) (a .row-indexes .now) (a .row-sizes .now) (a .merge-first-rows .now) (a .merge-last-rows .now)
+      rows-fine (row-axis d .row-range .result) (a .settings) (a .range) (a .row-title) (a .row-indexes .now) (a .row-sizes .now) (a .merge-first-rows .now)
+          (a .merge-last-rows .now)
           (a .row-breaks .now) (row-axis d .row-range .ensures) (y .rows-yes),
-      columns-fine (column-axis d .column-range .result) (a .settings) (a .range) (a .column-title) (a .column-indexes .now) (a .column-sizes .now) (a .merge-first-columns .now) (a .merge-last-columns .now)
+      columns-fine (column-axis d .column-range .result) (a .settings) (a .range) (a .column-title) (a .column-indexes .now) (a .column-sizes .now)
+          (a .merge-first-columns .now) (a .merge-last-columns .now)
           (a .column-breaks .now) (column-axis d .column-range .ensures) (y .columns-yes),
     )
 
@@ -164,10 +174,15 @@ returns-3 c =
     let t : contentSides (a .settings) ≡ given _ = sym (s .content-sides .ensures) ∙ ap sidesOutcome (opened p .sides .given .1) in
     let row-breaks = looked (a .settings .fit) (a .row-breaks .now) _ (row-kept p .looked-at .ensures) in
     let column-breaks = looked (a .settings .fit) (a .column-breaks .now) _ (column-kept p .looked-at2 .ensures) in
-    let ea = ap (λ (bs : List ℕ). axisFor (row-axis d .row-range .result) (a .row-indexes .now) (a .row-sizes .now) (a .merge-first-rows .now) (a .merge-last-rows .now) bs) row-breaks
+    let ea = ap
+    (λ (bs : List ℕ). axisFor (row-axis d .row-range .result) (a .row-indexes .now) (a .row-sizes .now) (a .merge-first-rows .now)
+    (a .merge-last-rows .now) bs) row-breaks
     ∙ row-axis d .row-range .ensures (a .row-indexes .now) (a .row-sizes .now) (a .merge-first-rows .now) (a .merge-last-rows .now) (a .row-breaks .now) in
-    let eb = ap (λ (bs : List ℕ). axisFor (column-axis d .column-range .result) (a .column-indexes .now) (a .column-sizes .now) (a .merge-first-columns .now) (a .merge-last-columns .now) bs) column-breaks
-    ∙ column-axis d .column-range .ensures (a .column-indexes .now) (a .column-sizes .now) (a .merge-first-columns .now) (a .merge-last-columns .now) (a .column-breaks .now) in
+    let eb = ap
+    (λ (bs : List ℕ). axisFor (column-axis d .column-range .result) (a .column-indexes .now) (a .column-sizes .now) (a .merge-first-columns .now)
+    (a .merge-last-columns .now) bs) column-breaks
+    ∙ column-axis d .column-range .ensures (a .column-indexes .now) (a .column-sizes .now) (a .merge-first-columns .now) (a .merge-last-columns .now)
+    (a .column-breaks .now) in
     let goes = sides-of (a .settings) (rows d) (columns d) (a .row-runs .now) (a .column-runs .now) (d .plan-refusal .result) (first-no d)
     (all-yes d (s .before .if1 .left)) _ t in
     four d _ _ _ (relay-call (a .settings) _ (rows d) (columns d) _ _ (a .row-runs .now) (a .column-runs .now) _ _ _ ea eb goes (p .plan-axes .ensures))

@@ -43,7 +43,13 @@ cast-t17 c =
     let after-body-start : tie.After-body-start = search in
     let q = s .pre in
     let st = after-body-start .body-start .ensures in
-    omega (arith, st, start-small (s .args .axis) (s .args .indexes .now) (s .args .sizes .now) (s .args .merge-firsts .now) (s .args .merge-lasts .now) q _ (ap (λ (w : Widened). w .title) (sym (after-widened-title .widened-title .ensures))), q .limit-small)
+    omega (
+      arith,
+      st,
+      start-small (s .args .axis) (s .args .indexes .now) (s .args .sizes .now) (s .args .merge-firsts .now) (s .args .merge-lasts .now) q _
+          (ap (λ (w : Widened). w .title) (sym (after-widened-title .widened-title .ensures))),
+      q .limit-small,
+    )
 
 longer-requires : tie.Need-longer-requires
 longer-requires c κs = search needs
@@ -67,10 +73,15 @@ returns c =
       hi-is = refl;
       target-is = refl;
       from-is = after-place-of .place-of .ensures .0 ∙ ap (λ (x : ℕ). below x is) st;
-      to-is = c .longer .ensures ∙ ap (λ (x : ℕ). max (after-place-of .place-of .result) x) (c .before .place-of2 .ensures .0 ∙ ap (λ (x : ℕ). below (x + 1) is) (c .before .before .wide .ensures));
+      to-is = c .longer .ensures ∙ ap (λ (x : ℕ). max (after-place-of .place-of .result) x)
+          (c .before .place-of2 .ensures .0 ∙ ap (λ (x : ℕ). below (x + 1) is) (c .before .before .wide .ensures));
       ignored-is = ap (λ (x : Widened). x .ignored) w;
       expanded-is = ap (λ (x : Widened). x .expanded) w;
-      low = record { headings-low = s .pre .headings-low; titles-low = rw (after-title-total .title-total .ensures) (title-total-le _ is (s .args .sizes .now) (s .pre .slots)) };
+      low = record {
+        headings-low = s .pre .headings-low;
+        titles-low = rw (after-title-total .title-total .ensures)
+            (title-total-le _ is (s .args .sizes .now) (s .pre .slots));
+      };
     }
 
 pub ready-axis-spec : {M : Type 1} → statement M

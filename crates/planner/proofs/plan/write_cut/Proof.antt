@@ -46,8 +46,10 @@ wrote w =
     let after-frame-at : tie.After-frame-at = search in
     let a = start w .args in
     let cut : Frame → List Run =
-    λ k. axisRuns k (a .merge-firsts .now) (a .merge-lasts .now) (within (a .ready) (a .indexes .now)) (within (a .ready) (a .sizes .now)) 0 (a .breaks .now) in
-    subst (λ (k : Frame). after w ≡ written (flat (orEmpty (a .first) (cut k))) (a .list .now)) (after-frame-at .frame-at .ensures) (w .write-page-runs .ensures)
+    λ k. axisRuns k (a .merge-firsts .now) (a .merge-lasts .now) (within (a .ready) (a .indexes .now)) (within (a .ready) (a .sizes .now)) 0
+    (a .breaks .now) in
+    subst (λ (k : Frame). after w ≡ written (flat (orEmpty (a .first) (cut k))) (a .list .now)) (after-frame-at .frame-at .ensures)
+    (w .write-page-runs .ensures)
 
 front : (w : tie.After-write-page-runs) → let a = start w .args in Front (orEmpty (a .first) (all (start w))) (a .cut .runs * 4) (after w)
 front w =
@@ -111,7 +113,8 @@ overflowing-runs-requires c κs =
     let a = s .args in
     let is = within (a .ready) (a .indexes .now) in
     let ss = within (a .ready) (a .sizes .now) in
-    let moderate = runs-moderate (a .first) (readyFrame (a .ready .fit) (a .permille)) (a .merge-firsts .now) (a .merge-lasts .now) is ss (a .breaks .now) (slots s) in
+    let moderate = runs-moderate (a .first) (readyFrame (a .ready .fit) (a .permille)) (a .merge-firsts .now) (a .merge-lasts .now) is ss (a .breaks .now)
+    (slots s) in
     (s .pre .0 .low, front-moderate _ _ _ (front w) moderate)
 
 same-length : tie.Need-same-length

@@ -16,7 +16,8 @@ all s =
 write-empty-requires : tie.Need-write-empty-requires
 write-empty-requires c κs =
     let start : tie.Start = search in
-    empty-room (start .args .first) (all start) (start .args .list .now) (start .args .list .now) (sym (start .pre .1 .0) ∙ c .before .if1 .taken) (start .pre .1 .1)
+    empty-room (start .args .first) (all start) (start .args .list .now) (start .args .list .now) (sym (start .pre .1 .0) ∙ c .before .if1 .taken)
+    (start .pre .1 .1)
 
 same-length : tie.Need-same-length
 same-length c = search needs
@@ -31,8 +32,11 @@ returns c =
 write-axis-requires : tie.Need-write-axis-requires
 write-axis-requires c κs =
     let start : tie.Start = search in
-    let else1 : tie.Else1 = search in
-    (start .pre .0, some-room (start .args .first) (all start) (start .args .list .now) (start .args .list .now) (sym (start .pre .1 .0) ∙ else1 .if1 .left) (start .pre .1 .1))
+    let else1 : tie.Else1 = search in (
+      start .pre .0,
+      some-room (start .args .first) (all start) (start .args .list .now) (start .args .list .now) (sym (start .pre .1 .0) ∙ else1 .if1 .left)
+          (start .pre .1 .1),
+    )
 
 same-length-2 : tie.Need-same-length-2
 same-length-2 c = search needs

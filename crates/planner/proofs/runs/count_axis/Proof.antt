@@ -113,7 +113,8 @@ loop-again c =
     let a = s .args in
     let p = cut .result .place in
     let even = s .pre .even in
-    let more = axis-more (a .k) (a .mfirsts .now) (a .mlasts .now) (a .indexes .now) (a .sizes .now) (l .prev) (l .j) (a .breaks .now) (cut .result) taken (cut .ensures .0) in
+    let more = axis-more (a .k) (a .mfirsts .now) (a .mlasts .now) (a .indexes .now) (a .sizes .now) (l .prev) (l .j) (a .breaks .now) (cut .result) taken
+    (cut .ensures .0) in
     let runs-are = ap (λ (r : Counted). r .runs) (t .ensures .0) in
     let grown-are = ap (λ (r : Counted). r .grown) (t .ensures .0) in
     let here = stretch (a .k) (a .mfirsts .now) (a .mlasts .now) (a .indexes .now) (a .sizes .now) (l .prev) p in
@@ -124,9 +125,30 @@ loop-again c =
       omega (arith, t .ensures .1 .0, len, cut .ensures .1 .0, l .inv .2),
       omega (arith, t .ensures .1 .1, len, cut .ensures .1 .0, l .inv .3),
       omega (arith, cut .ensures .1 .2, l .inv .4),
-      omega (arith, ap length more, length-append here there, stretch-length (a .k) (a .mfirsts .now) (a .mlasts .now) (a .indexes .now) (a .sizes .now) (l .prev) p, runs-are, l .inv .5),
-      omega (arith, ap expansions more, expansions-append here there, stretch-expansions (a .k) (a .mfirsts .now) (a .mlasts .now) (a .indexes .now) (a .sizes .now) (l .prev) p, grown-are, l .inv .6),
-      omega (arith, shifts-more (a .k) (a .mfirsts .now) (a .mlasts .now) (a .indexes .now) (a .sizes .now) (l .prev) (l .j) (a .breaks .now) (cut .result) taken (cut .ensures .0), l .inv .7),
+      omega (
+        arith,
+        ap length more,
+        length-append here there,
+        stretch-length (a .k) (a .mfirsts .now) (a .mlasts .now) (a .indexes .now) (a .sizes .now)
+            (l .prev) p,
+        runs-are,
+        l .inv .5,
+      ),
+      omega (
+        arith,
+        ap expansions more,
+        expansions-append here there,
+        stretch-expansions (a .k) (a .mfirsts .now) (a .mlasts .now) (a .indexes .now)
+            (a .sizes .now) (l .prev) p,
+        grown-are,
+        l .inv .6,
+      ),
+      omega (
+        arith,
+        shifts-more (a .k) (a .mfirsts .now) (a .mlasts .now) (a .indexes .now) (a .sizes .now) (l .prev) (l .j) (a .breaks .now)
+            (cut .result) taken (cut .ensures .0),
+        l .inv .7,
+      ),
     )
 
 mul-count-runs-3 : tie.Need-mul-count-runs-3 Inv-loop μ-loop
@@ -179,10 +201,37 @@ returns c =
     let stop = axis-end (a .k) (a .mfirsts .now) (a .mlasts .now) (a .indexes .now) (a .sizes .now) (l .prev) (l .j) (a .breaks .now) left in
     let len = length-mid (l .prev) (length (a .sizes .now)) (a .sizes .now) (omega arith) in (
       (λ i. tallies
-          ((let p : l .count + t .result .runs ≡ length (axisRuns (a .k) (a .mfirsts .now) (a .mlasts .now) (a .indexes .now) (a .sizes .now) 0 (a .breaks .now)) = omega (arith, ap length stop, stretch-length (a .k) (a .mfirsts .now) (a .mlasts .now) (a .indexes .now) (a .sizes .now) (l .prev) (length (a .sizes .now)), ap (λ (r : Counted). r .runs) (t .ensures .0), l .inv .5) in p) i)
-          ((let p : l .grown + t .result .grown ≡ expansions (axisRuns (a .k) (a .mfirsts .now) (a .mlasts .now) (a .indexes .now) (a .sizes .now) 0 (a .breaks .now)) = omega (arith, ap expansions stop, stretch-expansions (a .k) (a .mfirsts .now) (a .mlasts .now) (a .indexes .now) (a .sizes .now) (l .prev) (length (a .sizes .now)), ap (λ (r : Counted). r .grown) (t .ensures .0), l .inv .6) in p) i)
-          ((let p : l .shifts ≡ shifts (a .k) (a .mfirsts .now) (a .mlasts .now) (a .indexes .now) 0 (a .breaks .now) = omega (arith, shifts-end (a .k) (a .mfirsts .now) (a .mlasts .now) (a .indexes .now) (a .sizes .now) (l .prev) (l .j) (a .breaks .now) left, l .inv .7) in p) i)),
-      (omega (arith, l .inv .2, l .inv .1, t .ensures .1 .0, len), omega (arith, l .inv .3, l .inv .1, t .ensures .1 .1, len), omega (arith, l .inv .4, l .inv .0)),
+          ((let p : l .count + t .result .runs
+          ≡ length (axisRuns (a .k) (a .mfirsts .now) (a .mlasts .now) (a .indexes .now) (a .sizes .now) 0 (a .breaks .now)) =
+          omega (
+            arith,
+            ap length stop,
+            stretch-length (a .k) (a .mfirsts .now) (a .mlasts .now) (a .indexes .now) (a .sizes .now) (l .prev)
+                (length (a .sizes .now)),
+            ap (λ (r : Counted). r .runs) (t .ensures .0),
+            l .inv .5,
+          ) in p) i)
+          ((let p : l .grown + t .result .grown
+          ≡ expansions (axisRuns (a .k) (a .mfirsts .now) (a .mlasts .now) (a .indexes .now) (a .sizes .now) 0 (a .breaks .now)) =
+          omega (
+            arith,
+            ap expansions stop,
+            stretch-expansions (a .k) (a .mfirsts .now) (a .mlasts .now) (a .indexes .now) (a .sizes .now) (l .prev)
+                (length (a .sizes .now)),
+            ap (λ (r : Counted). r .grown) (t .ensures .0),
+            l .inv .6,
+          ) in p) i)
+          ((let p : l .shifts ≡ shifts (a .k) (a .mfirsts .now) (a .mlasts .now) (a .indexes .now) 0 (a .breaks .now) =
+          omega (
+            arith,
+            shifts-end (a .k) (a .mfirsts .now) (a .mlasts .now) (a .indexes .now) (a .sizes .now) (l .prev) (l .j) (a .breaks .now) left,
+            l .inv .7,
+          ) in p) i)),
+      (
+        omega (arith, l .inv .2, l .inv .1, t .ensures .1 .0, len),
+        omega (arith, l .inv .3, l .inv .1, t .ensures .1 .1, len),
+        omega (arith, l .inv .4, l .inv .0),
+      ),
     )
 
 pub count-axis-spec : {M : Type 1} → statement M

@@ -21,7 +21,8 @@ returns c =
     let start : tie.Start = search in
     let then1 : tie.Then1 = search in
     let a = start .args in (
-      next-stays (a .k) (a .mfirsts .now) (a .mlasts .now) (a .indexes .now) (a .prev) (a .b) (then1 .if1 .taken) (c .before .before .if2 .taken) (c .if3 .taken),
+      next-stays (a .k) (a .mfirsts .now) (a .mlasts .now) (a .indexes .now) (a .prev) (a .b) (then1 .if1 .taken) (c .before .before .if2 .taken)
+          (c .if3 .taken),
       (omega arith, omega arith, omega arith),
     )
 
@@ -41,23 +42,29 @@ so d =
     let start : tie.Start = search in
     let a = start .args in
     let p = d .before .break-place in (
-      next-is (a .k) (a .mfirsts .now) (a .mlasts .now) (a .indexes .now) (a .prev) (a .b) (p .result) (d .placed-cut .result) (p .ensures) (d .placed-cut .ensures),
-      subst (λ (c : Cut). c .shifted ≤ 1) (sym (d .placed-cut .ensures)) (placed-shifted (a .k) (a .mfirsts .now) (a .mlasts .now) (a .indexes .now) (a .prev) (p .result)),
+      next-is (a .k) (a .mfirsts .now) (a .mlasts .now) (a .indexes .now) (a .prev) (a .b) (p .result) (d .placed-cut .result) (p .ensures)
+          (d .placed-cut .ensures),
+      subst (λ (c : Cut). c .shifted ≤ 1) (sym (d .placed-cut .ensures))
+          (placed-shifted (a .k) (a .mfirsts .now) (a .mlasts .now) (a .indexes .now) (a .prev) (p .result)),
     )
 
 returns-2 : tie.Need-returns-2
 returns-2 c =
     let start : tie.Start = search in
     let d = c .before .before in
-    let a = start .args in
-    (kept-yes (length (a .indexes .now)) (a .prev) (d .placed-cut .result) (c .before .if4 .taken) (c .if5 .taken) ∙ so d .0, (omega arith, omega arith, so d .1))
+    let a = start .args in (
+      kept-yes (length (a .indexes .now)) (a .prev) (d .placed-cut .result) (c .before .if4 .taken) (c .if5 .taken) ∙ so d .0,
+      (omega arith, omega arith, so d .1),
+    )
 
 returns-3 : tie.Need-returns-3
 returns-3 c =
     let start : tie.Start = search in
     let d = c .before .before in
-    let a = start .args in
-    (kept-past (length (a .indexes .now)) (a .prev) (d .placed-cut .result) (c .before .if4 .taken) (c .if5 .left) ∙ so d .0, (omega arith, omega arith, so d .1))
+    let a = start .args in (
+      kept-past (length (a .indexes .now)) (a .prev) (d .placed-cut .result) (c .before .if4 .taken) (c .if5 .left) ∙ so d .0,
+      (omega arith, omega arith, so d .1),
+    )
 
 returns-4 : tie.Need-returns-4
 returns-4 c =

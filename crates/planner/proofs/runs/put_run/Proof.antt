@@ -57,8 +57,11 @@ returns c =
     let start : tie.Start = search in
     let after-wide : tie.After-wide = search in
     let after-wide2 : tie.After-wide2 = search in
-    let a = start .args in
-    (refl, rw (after-wide .wide .ensures, after-wide2 .wide2 .ensures) (four-stored (a .list .now) (a .at) (a .first) (a .last) (a .size) (a .mark) (start .pre)))
+    let a = start .args in (
+      refl,
+      rw (after-wide .wide .ensures, after-wide2 .wide2 .ensures)
+          (four-stored (a .list .now) (a .at) (a .first) (a .last) (a .size) (a .mark) (start .pre)),
+    )
 
 pub put-run-spec : {M : Type 1} → statement M
 put-run-spec =

@@ -55,7 +55,11 @@ loop-again c =
       search needs,
       search needs,
       omega (arith, s .pre .0 .small .each (l .n)),
-      omega (arith, again-fits (s .args .capacity) (s .args .last) (l .sum) (l .n) (s .args .indexes .now) (s .args .sizes .now) (search needs) (search needs) (c .if1 .taken)),
+      omega (
+        arith,
+        again-fits (s .args .capacity) (s .args .last) (l .sum) (l .n) (s .args .indexes .now) (s .args .sizes .now) (search needs) (search needs)
+            (c .if1 .taken),
+      ),
     )
 
 mul-if2 : tie.Need-mul-if2 Inv-loop μ-loop
@@ -69,7 +73,11 @@ returns c =
     let s : tie.Start Inv-loop μ-loop = search in
     let at-loop : tie.At-loop Inv-loop μ-loop = search in
     let l = at-loop .loop in
-    omega (arith, again-stops (s .args .capacity) (s .args .last) (l .sum) (l .n) (s .args .indexes .now) (s .args .sizes .now) (search needs) (search needs) (c .before .before .if1 .left) (c .if2 .taken))
+    omega (
+      arith,
+      again-stops (s .args .capacity) (s .args .last) (l .sum) (l .n) (s .args .indexes .now) (s .args .sizes .now) (search needs) (search needs)
+          (c .before .before .if1 .left) (c .if2 .taken),
+    )
 
 add-n-2 : tie.Need-add-n-2 Inv-loop μ-loop
 add-n-2 c = search needs
@@ -85,7 +93,11 @@ loop-again-2 c =
       search needs,
       search needs,
       omega (arith, s .pre .0 .small .each (l .n)),
-      omega (arith, again-title (s .args .capacity) (s .args .last) (l .sum) (l .n) (s .args .indexes .now) (s .args .sizes .now) (search needs) (search needs) (c .before .before .if1 .left) (c .if2 .left)),
+      omega (
+        arith,
+        again-title (s .args .capacity) (s .args .last) (l .sum) (l .n) (s .args .indexes .now) (s .args .sizes .now) (search needs)
+            (search needs) (c .before .before .if1 .left) (c .if2 .left),
+      ),
     )
 
 returns-2 : tie.Need-returns-2 Inv-loop μ-loop

@@ -21,7 +21,8 @@ returns c =
     let t = c .before .taken-slots in
     let a = s .args in
     let n = t .result in
-    let w = subst (Within (a .indexes .now)) (sym (c .merged-end .ensures)) (merged-within (a .k .lo) (a .k .hi) (a .firsts .now) (a .lasts .now) n (a .indexes .now) (search needs) (omega arith)) in (
+    let w = subst (Within (a .indexes .now)) (sym (c .merged-end .ensures))
+    (merged-within (a .k .lo) (a .k .hi) (a .firsts .now) (a .lasts .now) n (a .indexes .now) (search needs) (omega arith)) in (
       c .merged-end .ensures ∙ ap (λ (m : ℕ). merged (a .k .lo) (a .k .hi) (a .firsts .now) (a .lasts .now) m (a .indexes .now)) (t .ensures .0),
       (w .0, omega (arith, w .1, s .pre .0 .even), w .2),
     )

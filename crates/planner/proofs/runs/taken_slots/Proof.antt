@@ -37,7 +37,8 @@ returns-2 c =
     let a = start .args in (
       c .title-end .ensures .0
           ∙ taken-more (a .k) (a .indexes .now) (a .sizes .now) (c .before .before .natural-fill .result)
-          (c .before .before .natural-fill .ensures .0 ∙ ap (λ (q : ℕ). natural q (a .sizes .now)) (after-capacity-for .capacity-for .ensures)) (c .before .if1 .left),
+          (c .before .before .natural-fill .ensures .0 ∙ ap (λ (q : ℕ). natural q (a .sizes .now)) (after-capacity-for .capacity-for .ensures))
+          (c .before .if1 .left),
       search needs,
     )
 

@@ -52,8 +52,10 @@ part-resumed-fill-end-2 c = search needs
 
 resumed-fill-requires : tie.Need-resumed-fill-requires
 resumed-fill-requires c κs =
-    let s : tie.Start = search in
-    (slots-part (s .args .n) (s .args .indexes .now) (s .args .sizes .now) (s .pre .0), omega (arith, length-part (s .args .n) (s .args .sizes .now), s .pre .1))
+    let s : tie.Start = search in (
+      slots-part (s .args .n) (s .args .indexes .now) (s .args .sizes .now) (s .pre .0),
+      omega (arith, length-part (s .args .n) (s .args .sizes .now), s .pre .1),
+    )
 
 add-result : tie.Need-add-result
 add-result c = search needs
@@ -66,7 +68,8 @@ returns-2 c =
     let then2 : tie.Then2 = search in
     let a = s .args in (
       ap (λ (k : ℕ). a .n + k) (c .resumed-fill .ensures .0)
-          ∙ title-holds (a .title) _ _ (a .capacity) (a .n) (a .indexes .now) (a .sizes .now) (after-title .title .given .1) (b .if1 .taken) (then2 .if2 .taken),
+          ∙ title-holds (a .title) _ _ (a .capacity) (a .n) (a .indexes .now) (a .sizes .now) (after-title .title .given .1) (b .if1 .taken)
+          (then2 .if2 .taken),
       omega (arith, c .resumed-fill .ensures .1, length-part (a .n) (a .sizes .now), s .pre .1),
     )
 
@@ -74,8 +77,10 @@ returns-3 : tie.Need-returns-3
 returns-3 c =
     let start : tie.Start = search in
     let after-title : tie.After-title = search in
-    let s = start .args in
-    (title-after (s .title) _ _ (s .capacity) (s .n) (s .indexes .now) (s .sizes .now) (after-title .title .given .1) (c .before .if1 .taken) (c .if2 .left), search needs)
+    let s = start .args in (
+      title-after (s .title) _ _ (s .capacity) (s .n) (s .indexes .now) (s .sizes .now) (after-title .title .given .1) (c .before .if1 .taken) (c .if2 .left),
+      search needs,
+    )
 
 returns-4 : tie.Need-returns-4
 returns-4 c =

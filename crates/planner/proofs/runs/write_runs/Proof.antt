@@ -45,7 +45,13 @@ room c =
     let a = s .args in
     let h = some-marked (a .k) (a .mfirsts .now) (a .mlasts .now) (l .manual) (l .is .now) (l .ss .now) (c .loop-test .taken) (l .inv .0 .even) in
     let w = l .inv .1 in
-    omega (arith, s .pre .1, w .counted, w .so .long, flat-length (firstMarked (l .manual) (runs (a .k) (a .mfirsts .now) (a .mlasts .now) (l .is .now) (l .ss .now))))
+    omega (
+      arith,
+      s .pre .1,
+      w .counted,
+      w .so .long,
+      flat-length (firstMarked (l .manual) (runs (a .k) (a .mfirsts .now) (a .mlasts .now) (l .is .now) (l .ss .now))),
+    )
 
 loop-holds : tie.Need-loop-holds Inv-loop μ-loop
 loop-holds c =

@@ -58,7 +58,8 @@ write-runs-requires c κs =
     let a = s .args in (
       slots-mid (a .a) (a .e) (a .indexes .now) (a .sizes .now) (s .pre .1 .0 .1) (s .pre .0),
       subst
-          (λ (mark : ℕ). Room (firstMarked mark (runs (a .k) (a .mfirsts .now) (a .mlasts .now) (mid (a .a) (a .e) (a .indexes .now)) (mid (a .a) (a .e) (a .sizes .now))))
+          (λ (mark : ℕ). Room
+          (firstMarked mark (runs (a .k) (a .mfirsts .now) (a .mlasts .now) (mid (a .a) (a .e) (a .indexes .now)) (mid (a .a) (a .e) (a .sizes .now))))
           (part (a .at) (a .list .now)))
           (sym (after-mark-of .mark-of .ensures)) (omega (arith, s .pre .1 .1, length-part (a .at) (a .list .now))),
     )

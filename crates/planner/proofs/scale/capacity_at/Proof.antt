@@ -23,8 +23,10 @@ whole u =
     let t : a .titles < 2 ^ 63 = omega (arith, s .pre .1) in
     let h : a .page .headings < 2 ^ 63 = omega (arith, s .pre .0 .headings-low) in
     u .unscaled-capacity .ensures
-    ∙ ap (λ (z : ℤ). unscaledCapacity (a .page .side .0) (a .permille) z (u .before .from-raw2 .result .0)) (after-from-raw .from-raw .ensures ∙ toZ-pos w64 (a .titles) t)
-    ∙ ap (λ (z : ℤ). unscaledCapacity (a .page .side .0) (a .permille) (pos (a .titles)) z) (u .before .from-raw2 .ensures ∙ toZ-pos w64 (a .page .headings) h)
+    ∙ ap (λ (z : ℤ). unscaledCapacity (a .page .side .0) (a .permille) z (u .before .from-raw2 .result .0))
+    (after-from-raw .from-raw .ensures ∙ toZ-pos w64 (a .titles) t)
+    ∙ ap (λ (z : ℤ). unscaledCapacity (a .page .side .0) (a .permille) (pos (a .titles)) z)
+    (u .before .from-raw2 .ensures ∙ toZ-pos w64 (a .page .headings) h)
 
 cast-from-raw : tie.Need-cast-from-raw
 cast-from-raw c = record { sfits = omega (arith, c .before .pre .1) }

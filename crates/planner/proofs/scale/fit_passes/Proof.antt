@@ -25,7 +25,9 @@ returns c =
     let start : tie.Start = search in
     let a = start .args in
     let b = bodyFor (a .fit .stretch) (a .mfirsts .now) (a .mlasts .now) (a .indexes .now) (a .sizes .now) in
-    c .fits-side .ensures ∙ no-runs (spaceOf (a .fit .page)) b (a .fit .target) (a .permille) (none (run (readyFrame (a .fit) (a .permille)) (a .mfirsts .now) (a .mlasts .now)) (a .indexes .now) (a .sizes .now) (omega (arith, c .before .before .if1 .taken)))
+    c .fits-side .ensures ∙ no-runs (spaceOf (a .fit .page)) b (a .fit .target) (a .permille)
+    (none (run (readyFrame (a .fit) (a .permille)) (a .mfirsts .now) (a .mlasts .now)) (a .indexes .now) (a .sizes .now)
+    (omega (arith, c .before .before .if1 .taken)))
 
 frame-at-requires : tie.Need-frame-at-requires
 frame-at-requires c κs = search needs
@@ -39,9 +41,12 @@ returns-2 c =
     let s : tie.Start = search in
     let a = s .args in
     let b = bodyFor (a .fit .stretch) (a .mfirsts .now) (a .mlasts .now) (a .indexes .now) (a .sizes .now) in
-    let passes : Frame → Bool = λ f. let rs = runs f (a .mfirsts .now) (a .mlasts .now) (a .indexes .now) (a .sizes .now) in allFit (spaceOf (a .fit .page)) (titled (f .title)) (a .permille) rs && meets (a .fit .target) (length rs) in
+    let passes : Frame → Bool = λ f. let rs = runs f (a .mfirsts .now) (a .mlasts .now) (a .indexes .now) (a .sizes .now) in allFit (spaceOf (a .fit .page))
+    (titled (f .title)) (a .permille) rs && meets (a .fit .target) (length rs) in
     c .runs-pass .ensures ∙ ap passes (c .before .frame-at .ensures)
-    ∙ some-runs (spaceOf (a .fit .page)) b (a .fit .target) (a .permille) (some (run (readyFrame (a .fit) (a .permille)) (a .mfirsts .now) (a .mlasts .now)) (a .indexes .now) (a .sizes .now) (omega (arith, c .before .before .if1 .left)) (s .pre .slots .even))
+    ∙ some-runs (spaceOf (a .fit .page)) b (a .fit .target) (a .permille)
+    (some (run (readyFrame (a .fit) (a .permille)) (a .mfirsts .now) (a .mlasts .now)) (a .indexes .now) (a .sizes .now)
+    (omega (arith, c .before .before .if1 .left)) (s .pre .slots .even))
 
 pub fit-passes-spec : {M : Type 1} → statement M
 fit-passes-spec =

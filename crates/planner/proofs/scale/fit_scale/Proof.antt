@@ -16,7 +16,8 @@ returns c =
     let start : tie.Start = search in
     let b = c .before in
     let a = start .args in
-    fit-none (λ p. fitPasses (a .rows) (a .rfirsts .now) (a .rlasts .now) (a .rindexes .now) (a .rsizes .now) p && fitPasses (a .columns) (a .cfirsts .now) (a .clasts .now) (a .cindexes .now) (a .csizes .now) p) (sym (b .both-pass .ensures) ∙ not-true (b .both-pass .result) (c .if1 .taken))
+    fit-none (λ p. fitPasses (a .rows) (a .rfirsts .now) (a .rlasts .now) (a .rindexes .now) (a .rsizes .now) p && fitPasses (a .columns) (a .cfirsts .now)
+    (a .clasts .now) (a .cindexes .now) (a .csizes .now) p) (sym (b .both-pass .ensures) ∙ not-true (b .both-pass .result) (c .if1 .taken))
 
 halved-permille-requires : tie.Need-halved-permille-requires
 halved-permille-requires c κs = search needs
@@ -26,7 +27,10 @@ returns-2 c =
     let start : tie.Start = search in
     let b = c .before .before in
     let a = start .args in
-    fit-found (λ p. fitPasses (a .rows) (a .rfirsts .now) (a .rlasts .now) (a .rindexes .now) (a .rsizes .now) p && fitPasses (a .columns) (a .cfirsts .now) (a .clasts .now) (a .cindexes .now) (a .csizes .now) p) (c .halved-permille .result) (sym (b .both-pass .ensures) ∙ not-false (b .both-pass .result) (c .before .if1 .left)) (c .halved-permille .ensures)
+    fit-found
+    (λ p. fitPasses (a .rows) (a .rfirsts .now) (a .rlasts .now) (a .rindexes .now) (a .rsizes .now) p && fitPasses (a .columns) (a .cfirsts .now)
+    (a .clasts .now) (a .cindexes .now) (a .csizes .now) p) (c .halved-permille .result)
+    (sym (b .both-pass .ensures) ∙ not-false (b .both-pass .result) (c .before .if1 .left)) (c .halved-permille .ensures)
 
 pub fit-scale-spec : {M : Type 1} → statement M
 fit-scale-spec = tie.close (tie.spec both-pass-requires returns halved-permille-requires returns-2)

@@ -54,7 +54,8 @@ returns c =
     let Y : SFits w64 y = search needs in
     ap (λ (z : ℤ). leZ z (toZ w64 (ofZ w64 y))) (toZ-ofZ w64 x X ∙ c .before .raw .ensures)
     ∙ ap (λ (z : ℤ). leZ (after-answer .answer .given .0 .0 .0) z) (toZ-ofZ w64 y Y ∙ c .raw2 .ensures)
-    ∙ sym (ap (λ (l : Length). atMost (lengthOutcome l) (a .page .side .0)) (after-answer .answer .given .1)) ∙ ap (λ o. atMost o (a .page .side .0)) (whole f)
+    ∙ sym (ap (λ (l : Length). atMost (lengthOutcome l) (a .page .side .0)) (after-answer .answer .given .1)) ∙ ap (λ o. atMost o (a .page .side .0))
+    (whole f)
 
 returns-2 : tie.Need-returns-2
 unfolding fitsSide

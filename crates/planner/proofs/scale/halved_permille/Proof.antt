@@ -18,7 +18,8 @@ test rows columns rf rl ri rs cf cl ci cs p = fitPasses rows rf rl ri rs p && fi
 
 abbrev Inv-loop : tie.InvT-loop
 Inv-loop rows columns rfirsts rlasts rindexes rsizes cfirsts clasts cindexes csizes low₀ high₀ low high =
-    (100 ≤ low) × (high ≤ 1000) × (low ≤ high) × Halving (test rows columns rfirsts rlasts rindexes rsizes cfirsts clasts cindexes csizes) (halve (test rows columns rfirsts rlasts rindexes rsizes cfirsts clasts cindexes csizes) 10 100 1000) low high
+    (100 ≤ low) × (high ≤ 1000) × (low ≤ high) × Halving (test rows columns rfirsts rlasts rindexes rsizes cfirsts clasts cindexes csizes)
+    (halve (test rows columns rfirsts rlasts rindexes rsizes cfirsts clasts cindexes csizes) 10 100 1000) low high
 
 abbrev μ-loop : tie.MeasureT-loop
 μ-loop rows columns rfirsts rlasts rindexes rsizes cfirsts clasts cindexes csizes low₀ high₀ low high = high - low
@@ -55,7 +56,11 @@ loop-again c =
       omega (arith, taken, m, l .inv .0),
       l .inv .1,
       omega (arith, taken, m),
-      up-at (test (a .rows) (a .columns) (a .rfirsts .now) (a .rlasts .now) (a .rindexes .now) (a .rsizes .now) (a .cfirsts .now) (a .clasts .now) (a .cindexes .now) (a .csizes .now)) (halve (test (a .rows) (a .columns) (a .rfirsts .now) (a .rlasts .now) (a .rindexes .now) (a .rsizes .now) (a .cfirsts .now) (a .clasts .now) (a .cindexes .now) (a .csizes .now)) 10 100 1000) (l .low) (l .high) _ taken e (l .inv .3) (sym (c .before .both-pass .ensures) ∙ c .if1 .taken),
+      up-at (test (a .rows) (a .columns) (a .rfirsts .now) (a .rlasts .now) (a .rindexes .now) (a .rsizes .now) (a .cfirsts .now) (a .clasts .now)
+          (a .cindexes .now) (a .csizes .now))
+          (halve (test (a .rows) (a .columns) (a .rfirsts .now) (a .rlasts .now) (a .rindexes .now) (a .rsizes .now) (a .cfirsts .now) (a .clasts .now)
+          (a .cindexes .now) (a .csizes .now)) 10 100 1000) (l .low) (l .high) _ taken e (l .inv .3)
+          (sym (c .before .both-pass .ensures) ∙ c .if1 .taken),
     )
 
 sub-high : tie.Need-sub-high Inv-loop μ-loop
@@ -90,7 +95,11 @@ loop-again-2 c =
       l .inv .0,
       omega (arith, taken, m, l .inv .1),
       omega (arith, taken, m),
-      down-at (test (a .rows) (a .columns) (a .rfirsts .now) (a .rlasts .now) (a .rindexes .now) (a .rsizes .now) (a .cfirsts .now) (a .clasts .now) (a .cindexes .now) (a .csizes .now)) (halve (test (a .rows) (a .columns) (a .rfirsts .now) (a .rlasts .now) (a .rindexes .now) (a .rsizes .now) (a .cfirsts .now) (a .clasts .now) (a .cindexes .now) (a .csizes .now)) 10 100 1000) (l .low) (l .high) _ taken e (l .inv .3) (sym (c .before .both-pass .ensures) ∙ c .if1 .left),
+      down-at (test (a .rows) (a .columns) (a .rfirsts .now) (a .rlasts .now) (a .rindexes .now) (a .rsizes .now) (a .cfirsts .now) (a .clasts .now)
+          (a .cindexes .now) (a .csizes .now))
+          (halve (test (a .rows) (a .columns) (a .rfirsts .now) (a .rlasts .now) (a .rindexes .now) (a .rsizes .now) (a .cfirsts .now) (a .clasts .now)
+          (a .cindexes .now) (a .csizes .now)) 10 100 1000) (l .low) (l .high) _ taken e (l .inv .3)
+          (sym (c .before .both-pass .ensures) ∙ c .if1 .left),
     )
 
 returns : tie.Need-returns Inv-loop μ-loop
@@ -98,7 +107,11 @@ returns c =
     let start : tie.Start Inv-loop μ-loop = search in
     let l = c .before .loop in
     let a = start .args in
-    halving-stop (test (a .rows) (a .columns) (a .rfirsts .now) (a .rlasts .now) (a .rindexes .now) (a .rsizes .now) (a .cfirsts .now) (a .clasts .now) (a .cindexes .now) (a .csizes .now)) (halve (test (a .rows) (a .columns) (a .rfirsts .now) (a .rlasts .now) (a .rindexes .now) (a .rsizes .now) (a .cfirsts .now) (a .clasts .now) (a .cindexes .now) (a .csizes .now)) 10 100 1000) (l .low) (l .high) (c .loop-test .left) (l .inv .3)
+    halving-stop
+    (test (a .rows) (a .columns) (a .rfirsts .now) (a .rlasts .now) (a .rindexes .now) (a .rsizes .now) (a .cfirsts .now) (a .clasts .now)
+    (a .cindexes .now) (a .csizes .now))
+    (halve (test (a .rows) (a .columns) (a .rfirsts .now) (a .rlasts .now) (a .rindexes .now) (a .rsizes .now) (a .cfirsts .now) (a .clasts .now)
+    (a .cindexes .now) (a .csizes .now)) 10 100 1000) (l .low) (l .high) (c .loop-test .left) (l .inv .3)
 
 pub halved-permille-spec : {M : Type 1} → statement M
 halved-permille-spec =

@@ -15,8 +15,10 @@ add-result-2 c = search needs
 returns : tie.Need-returns
 returns c =
     let s : tie.Start = search in
-    let a = s .args in
-    (printed-empty (spaceOf (a .page)) (a .title) (a .empty) (a .first) (a .size) (c .before .before .if1 .taken), omega (arith, s .pre .0 .titles-low, s .pre .0 .headings-low, s .pre .1))
+    let a = s .args in (
+      printed-empty (spaceOf (a .page)) (a .title) (a .empty) (a .first) (a .size) (c .before .before .if1 .taken),
+      omega (arith, s .pre .0 .titles-low, s .pre .0 .headings-low, s .pre .1),
+    )
 
 enum-known-title : tie.Need-enum-known-title
 enum-known-title c = search needs
@@ -31,8 +33,10 @@ returns-2 : tie.Need-returns-2
 returns-2 c =
     let s : tie.Start = search in
     let else1 : tie.Else1 = search in
-    let a = s .args in
-    (printed-absent (spaceOf (a .page)) (a .title) (a .empty) (a .first) (a .size) (else1 .if1 .left) (c .before .enum-told .given .1), omega (arith, s .pre .0 .headings-low, s .pre .1))
+    let a = s .args in (
+      printed-absent (spaceOf (a .page)) (a .title) (a .empty) (a .first) (a .size) (else1 .if1 .left) (c .before .enum-told .given .1),
+      omega (arith, s .pre .0 .headings-low, s .pre .1),
+    )
 
 wide-requires : tie.Need-wide-requires
 wide-requires c κs = search needs
@@ -49,8 +53,11 @@ returns-3 c =
     let else1 : tie.Else1 = search in
     let after-title : tie.After-title = search in
     let after-wide : tie.After-wide = search in
-    let a = s .args in
-    (printed-past (spaceOf (a .page)) (a .title) (a .empty) (a .first) (a .size) (else1 .if1 .left) _ _ (after-title .title .given .1) (rw (after-wide .wide .ensures) at (c .before .before .if2 .taken)), omega (arith, s .pre .0 .titles-low, s .pre .0 .headings-low, s .pre .1))
+    let a = s .args in (
+      printed-past (spaceOf (a .page)) (a .title) (a .empty) (a .first) (a .size) (else1 .if1 .left) _ _ (after-title .title .given .1)
+          (rw (after-wide .wide .ensures) at (c .before .before .if2 .taken)),
+      omega (arith, s .pre .0 .titles-low, s .pre .0 .headings-low, s .pre .1),
+    )
 
 add-result-6 : tie.Need-add-result-6
 add-result-6 c = search needs
@@ -61,8 +68,11 @@ returns-4 c =
     let else1 : tie.Else1 = search in
     let after-title : tie.After-title = search in
     let after-wide : tie.After-wide = search in
-    let a = s .args in
-    (printed-before (spaceOf (a .page)) (a .title) (a .empty) (a .first) (a .size) (else1 .if1 .left) _ _ (after-title .title .given .1) (rw (after-wide .wide .ensures) at (c .before .if2 .left)), omega (arith, s .pre .0 .headings-low, s .pre .1))
+    let a = s .args in (
+      printed-before (spaceOf (a .page)) (a .title) (a .empty) (a .first) (a .size) (else1 .if1 .left) _ _ (after-title .title .given .1)
+          (rw (after-wide .wide .ensures) at (c .before .if2 .left)),
+      omega (arith, s .pre .0 .headings-low, s .pre .1),
+    )
 
 pub printed-spec : {M : Type 1} → statement M
 printed-spec =

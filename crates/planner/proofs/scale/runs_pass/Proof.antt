@@ -1,4 +1,5 @@
--- `planner::scale::runs_pass` meets its contract. The loop's invariant: the runs so far fit and meet the target, and the answer for those of the slots that are left is the whole answer. Assumes nothing.
+-- `planner::scale::runs_pass` meets its contract. The loop's invariant: the runs so far fit and meet the target, and the answer for those
+-- of the slots that are left is the whole answer. Assumes nothing.
 use mathlib.Core.Path.{_≡_, sym, ap, _∙_}
 use mathlib.Core.Bool.{true, false, _&&_}
 use mathlib.Core.List.{_∷_}
@@ -21,7 +22,8 @@ use Rattle.planner.proofs.scale.runs_pass.Tie as tie
 abbrev Inv-loop : tie.InvT-loop
 Inv-loop page frame target permille mfirsts mlasts indexes sizes title is₀ ss₀ count₀ is ss count =
     Slots is ss
-    × (passFrom (spaceOf page) (titled (frame .title)) target permille count (runs frame mfirsts mlasts is ss) ≡ allFit (spaceOf page) (titled (frame .title)) permille (runs frame mfirsts mlasts indexes sizes) && meets target (length (runs frame mfirsts mlasts indexes sizes)))
+    × (passFrom (spaceOf page) (titled (frame .title)) target permille count (runs frame mfirsts mlasts is ss) ≡ allFit (spaceOf page)
+    (titled (frame .title)) permille (runs frame mfirsts mlasts indexes sizes) && meets target (length (runs frame mfirsts mlasts indexes sizes)))
     × (meets target count ≡ true) × (count + length ss ≤ length sizes)
 
 abbrev μ-loop : tie.MeasureT-loop
@@ -32,7 +34,8 @@ turned : (e : tie.After-run-end Inv-loop μ-loop) →
     let start : tie.Start Inv-loop μ-loop = search in
     let at-loop : tie.At-loop Inv-loop μ-loop = search in
     let l = at-loop .loop in let a = start .args in let n = e .run-end .result .slots in
-    runs (a .frame) (a .mfirsts .now) (a .mlasts .now) (l .is .now) (l .ss .now) ≡ run (a .frame) (a .mfirsts .now) (a .mlasts .now) (l .is .now) (l .ss .now) ∷ runs (a .frame) (a .mfirsts .now) (a .mlasts .now) (part n (l .is .now)) (part n (l .ss .now))
+    runs (a .frame) (a .mfirsts .now) (a .mlasts .now) (l .is .now) (l .ss .now) ≡ run (a .frame) (a .mfirsts .now) (a .mlasts .now) (l .is .now)
+    (l .ss .now) ∷ runs (a .frame) (a .mfirsts .now) (a .mlasts .now) (part n (l .is .now)) (part n (l .ss .now))
 unfolding runs run
 turned e =
     let start : tie.Start Inv-loop μ-loop = search in
@@ -40,7 +43,8 @@ turned e =
     let in-loop : tie.In-loop Inv-loop μ-loop = search in
     let l = at-loop .loop in
     let a = start .args in
-    turn (run (a .frame) (a .mfirsts .now) (a .mlasts .now)) (e .run-end .result .slots) (l .is .now) (l .ss .now) (l .inv .0) (in-loop .loop-test .taken) (ap (λ (r : RunEnd). r .slots) (e .run-end .ensures .0)) (e .run-end .ensures .1 .0)
+    turn (run (a .frame) (a .mfirsts .now) (a .mlasts .now)) (e .run-end .result .slots) (l .is .now) (l .ss .now) (l .inv .0) (in-loop .loop-test .taken)
+    (ap (λ (r : RunEnd). r .slots) (e .run-end .ensures .0)) (e .run-end .ensures .1 .0)
 
 -- the way back to where its end was found
 abbrev ended : tie.After-fits-side Inv-loop μ-loop → tie.After-run-end Inv-loop μ-loop
@@ -52,7 +56,8 @@ fits-here : (f : tie.After-fits-side Inv-loop μ-loop) →
     let at-loop : tie.At-loop Inv-loop μ-loop = search in
     let l = at-loop .loop in
     let a = start .args in
-    f .fits-side .result ≡ fitsSide (spaceOf (a .page)) (a .permille) (rendered (spaceOf (a .page)) (titled (a .frame .title)) (run (a .frame) (a .mfirsts .now) (a .mlasts .now) (l .is .now) (l .ss .now)))
+    f .fits-side .result ≡ fitsSide (spaceOf (a .page)) (a .permille)
+    (rendered (spaceOf (a .page)) (titled (a .frame .title)) (run (a .frame) (a .mfirsts .now) (a .mlasts .now) (l .is .now) (l .ss .now)))
 unfolding run
 fits-here f =
     let start : tie.Start Inv-loop μ-loop = search in
@@ -63,7 +68,9 @@ fits-here f =
     let l = at-loop .loop in
     let a = start .args in
     let size-is = after-total .total .ensures ∙ ap (λ (r : RunEnd). sum (take (r .slots) (l .ss .now))) (e .run-end .ensures .0) in
-    f .fits-side .ensures ∙ ap (fitsSide (spaceOf (a .page)) (a .permille)) (rw (after-wide .wide .ensures) at (f .before .printed .ensures .0) ∙ ap (printed (spaceOf (a .page)) (a .frame .title) false (getD (l .is .now) 0 0)) size-is)
+    f .fits-side .ensures ∙ ap (fitsSide (spaceOf (a .page)) (a .permille))
+    (rw (after-wide .wide .ensures) at (f .before .printed .ensures .0)
+    ∙ ap (printed (spaceOf (a .page)) (a .frame .title) false (getD (l .is .now) 0 0)) size-is)
 
 loop-holds : tie.Need-loop-holds Inv-loop μ-loop
 loop-holds c =
@@ -84,7 +91,9 @@ returns c =
     let t = c .before .before in
     let l = t .before .loop in
     let a = start .args in
-    too-many (spaceOf (a .page)) (titled (a .frame .title)) (a .target) (a .permille) (l .count) _ (some (run (a .frame) (a .mfirsts .now) (a .mlasts .now)) (l .is .now) (l .ss .now) (t .loop-test .taken) (l .inv .0 .even)) (sym (c .before .meets-target .ensures) ∙ not-true _ (c .if1 .taken)) ∙ l .inv .1
+    too-many (spaceOf (a .page)) (titled (a .frame .title)) (a .target) (a .permille) (l .count) _
+    (some (run (a .frame) (a .mfirsts .now) (a .mlasts .now)) (l .is .now) (l .ss .now) (t .loop-test .taken) (l .inv .0 .even))
+    (sym (c .before .meets-target .ensures) ∙ not-true _ (c .if1 .taken)) ∙ l .inv .1
 
 run-end-requires : tie.Need-run-end-requires Inv-loop μ-loop
 run-end-requires c κs = search needs
@@ -110,8 +119,14 @@ printed-requires c κs =
     let e : tie.After-run-end Inv-loop μ-loop = search in
     let n = e .run-end .result .slots in
     let l = at-loop .loop in
-    let after-total : tie.After-total Inv-loop μ-loop = search in
-    (start .pre .0, omega (arith, after-total .total .ensures, small-sum (take n (l .ss .now)) (small-take n (l .ss .now) (e .run-end .ensures .1 .1) (l .inv .0 .small))))
+    let after-total : tie.After-total Inv-loop μ-loop = search in (
+      start .pre .0,
+      omega (
+        arith,
+        after-total .total .ensures,
+        small-sum (take n (l .ss .now)) (small-take n (l .ss .now) (e .run-end .ensures .1 .1) (l .inv .0 .small)),
+      ),
+    )
 
 fits-side-requires : tie.Need-fits-side-requires Inv-loop μ-loop
 fits-side-requires c κs = c .printed .ensures .1
@@ -163,7 +178,8 @@ loop-again c =
     let l = at-loop .loop in
     let a = start .args in (
       slots-part n (l .is .now) (l .ss .now) (l .inv .0),
-      one-in (spaceOf (a .page)) (titled (a .frame .title)) (a .target) (a .permille) (l .count) _ _ (sym (fits-here f) ∙ not-false _ (c .before .before .if2 .left))
+      one-in (spaceOf (a .page)) (titled (a .frame .title)) (a .target) (a .permille) (l .count) _ _
+          (sym (fits-here f) ∙ not-false _ (c .before .before .if2 .left))
           ∙ ap (passFrom (spaceOf (a .page)) (titled (a .frame .title)) (a .target) (a .permille) (l .count)) (sym (turned e)) ∙ l .inv .1,
       sym (e .before .before .meets-target .ensures) ∙ not-false _ (e .before .if1 .left),
       omega (arith, length-part n (l .ss .now), e .run-end .ensures .1 .0, e .run-end .ensures .1 .1, l .inv .3),
@@ -176,7 +192,8 @@ returns-3 c =
     let l = c .before .loop in
     let a = start .args in
     all-in (spaceOf (a .page)) (titled (a .frame .title)) (a .target) (a .permille) (l .count) (l .inv .2)
-    ∙ ap (passFrom (spaceOf (a .page)) (titled (a .frame .title)) (a .target) (a .permille) (l .count)) (sym (none (run (a .frame) (a .mfirsts .now) (a .mlasts .now)) (l .is .now) (l .ss .now) (c .loop-test .left))) ∙ l .inv .1
+    ∙ ap (passFrom (spaceOf (a .page)) (titled (a .frame .title)) (a .target) (a .permille) (l .count))
+    (sym (none (run (a .frame) (a .mfirsts .now) (a .mlasts .now)) (l .is .now) (l .ss .now) (c .loop-test .left))) ∙ l .inv .1
 
 pub runs-pass-spec : {M : Type 1} → statement M
 runs-pass-spec =

@@ -61,7 +61,8 @@ total-requires : tie.Need-total-requires
 total-requires c κs =
     let s : tie.Start = search in
     let after-place-of : tie.After-place-of = search in
-    slots-mid (after-place-of .place-of .result) (c .before .before .place-of2 .result) (s .args .indexes .now) (s .args .sizes .now) (search needs) (s .pre) .small
+    slots-mid (after-place-of .place-of .result) (c .before .before .place-of2 .result) (s .args .indexes .now) (s .args .sizes .now) (search needs)
+    (s .pre) .small
 
 returns-3 : tie.Need-returns-3
 returns-3 c =

@@ -71,8 +71,10 @@ part d =
     let start : tie.Start Inv-loop μ-loop = search in
     let a = start .args in
     let l = d .before .before .loop in
-    ap (holdingOnto (a .lo) (a .hi) (a .b) (mid (d .part-before .result) (l .i) (a .firsts .now)) (mid (d .part-before .result) (l .i) (a .lasts .now))) (l .inv .2)
-    ∙ holding-part (a .lo) (a .hi) (a .b) (d .part-before .result) (l .i) (a .firsts .now) (a .lasts .now) (omega (arith, d .part-before .ensures)) (l .inv .0) (l .inv .1)
+    ap (holdingOnto (a .lo) (a .hi) (a .b) (mid (d .part-before .result) (l .i) (a .firsts .now)) (mid (d .part-before .result) (l .i) (a .lasts .now)))
+    (l .inv .2)
+    ∙ holding-part (a .lo) (a .hi) (a .b) (d .part-before .result) (l .i) (a .firsts .now) (a .lasts .now) (omega (arith, d .part-before .ensures))
+    (l .inv .0) (l .inv .1)
 
 earliest-of-requires : tie.Need-earliest-of-requires Inv-loop μ-loop
 earliest-of-requires c κs = search needs
