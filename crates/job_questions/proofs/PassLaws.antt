@@ -20,8 +20,9 @@ use Rattle.job_questions.specs.declared.State.{State}
 use Rattle.job_questions.specs.declared.Survey.{Survey}
 use Rattle.job_questions.specs.declared.Survey.the-variants.{Stopped, Whole}
 use Rattle.job_records.specs.Records.{RW, CL, MR, BR, BC, step, rank, isEnd, goesOn, ended, records, rest, marked, values}
-use Rattle.job_questions.specs.Verdict.{asked, every, follows, ordered, isArea, hasArea, flagOk, notReversed, inGrid, sized, rising, lastRow}
-use Rattle.job_questions.specs.Verdict.{lastColumn, question1, question2, question3, question4, question5, question6, question7, question8, question9}
+use Rattle.units.specs.Grid.{lastRow, lastColumn}
+use Rattle.job_questions.specs.Verdict.{asked, every, follows, ordered, isArea, hasArea, flagOk, notReversed, inGrid, sized, rising}
+use Rattle.job_questions.specs.Verdict.{question1, question2, question3, question4, question5, question6, question7, question8, question9}
 use Rattle.job_questions.specs.Verdict.{inOrder, itemsOf}
 use Rattle.job_questions.specs.Pass.{beyond, placed, rowsAfter, columnsAfter, oneMore, counted, Few, start, advanced, after, surveyed, firstNo, answer}
 use Rattle.job_records.proofs.RecordLaws.{records-more, rest-more, records-stop, rest-stop, step-used, part}

@@ -4,7 +4,8 @@ use mathlib.Core.Bool.{Bool, true, false, cond, _&&_, _||_}
 use mathlib.Core.List.{List, [], _∷_}
 use lib.Dec.{leb, ltb, eqb}
 use Rattle.job_records.specs.Records.{AR, RW, CL, MR, BR, BC, rank, records}
-use Rattle.job_questions.specs.Verdict.{asked, follows, flagOk, notReversed, inGrid, sized, lastRow, lastColumn, question1, question2, question3}
+use Rattle.units.specs.Grid.{lastRow, lastColumn}
+use Rattle.job_questions.specs.Verdict.{asked, follows, flagOk, notReversed, inGrid, sized, question1, question2, question3}
 use Rattle.job_records.specs.declared.records.Record.{Record}
 use Rattle.job_questions.specs.declared.Asked.{Asked}
 use Rattle.job_questions.specs.declared.Asked.the-variants.{Flag, Cells, InRows, InColumns, Other}

@@ -7,6 +7,7 @@ use lib.ListN.{length}
 use lib.Dec.{leb, ltb, eqb}
 use lib.IntN.{ℤ, pos}
 use lib.Signed.{leZ}
+use Rattle.units.specs.Grid.{lastRow, lastColumn, largestSize}
 use Rattle.units.specs.Outcome.{Outcome, given, refused}
 use Rattle.job_records.specs.Records.{AR, RW, CL, MR, BR, BC, rank, step, ended, records, rest, marked, values}
 use Rattle.job_records.specs.declared.records.Range.{Range}
@@ -88,14 +89,6 @@ notReversed (InRows s) = true
 notReversed (InColumns s) = true
 notReversed Other = true
 
--- "beyond 1,048,575 (rows) or 16,383 (columns)": the last indexes of the grid
-abbrev pub lastRow : ℕ
-lastRow = 1048575
-
--- the last column of the grid
-abbrev pub lastColumn : ℕ
-lastColumn = 16383
-
 -- "AR and every MR inside the grid"
 abbrev pub gridOk : Range → Bool
 gridOk a =
@@ -111,7 +104,7 @@ inGrid Other = true
 
 -- "Sizes 0 to 1,073,741,823"
 abbrev pub sizeOk : ℤ → Bool
-sizeOk z = leZ (pos 0) z && leZ z (pos 1073741823)
+sizeOk z = leZ (pos 0) z && leZ z (pos largestSize)
 
 -- 9, of one record
 abbrev pub sized : Asked → Bool
@@ -128,9 +121,13 @@ rising top k (i ∷ is) = leb k i && (leb i top && rising top (i + 1) is)
 
 -- ---- the questions
 
+-- the most bytes of a job
+abbrev pub mostBytes : ℕ
+mostBytes = 60000
+
 -- "1. At most 60,000 bytes?"
 abbrev pub question1 : List ℕ → Bool
-question1 s = leb (length s) 60000
+question1 s = leb (length s) mostBytes
 
 -- "2. Whole known records up to an EN? (empty input: 2)"
 abbrev pub question2 : List ℕ → Bool

@@ -5,36 +5,28 @@ use job_records::Record;
 use job_records::RowSlot;
 use job_records::Step;
 use job_records::rank_of;
+use job_records::ranks::COLUMN_BREAKS;
+use job_records::ranks::COLUMNS;
+use job_records::ranks::END;
+use job_records::ranks::MERGES;
+use job_records::ranks::RANGE;
+use job_records::ranks::ROW_BREAKS;
+use job_records::ranks::ROWS;
 use job_records::read_record;
+use units::LARGEST_SIZE;
+use units::MAX_WORKSHEET_COLUMN;
+use units::MAX_WORKSHEET_ROW;
 ghost use mathlib.Core.Path.{_≡_};
 ghost use Prim.Native.Nat.{_+_, _<_, _^_};
 ghost use Rattle.job_records.specs.Records.{rank};
 ghost use Rattle.job_questions.specs.Verdict.{asked, follows, firstsOk, gridOk, sizeOk, verdictLent, verdict, checkedOutcome};
 ghost use Rattle.job_questions.specs.Pass.{fine, bothFine, placed, rowsAfter, columnsAfter, oneMore, counted, Few, start, advanced, surveyed, answer};
 
-const LAST_ROW: u32 = 1_048_575;
-
-const LAST_COLUMN: u16 = 16_383;
+// The most bytes of a job.
+pub const MOST_BYTES: usize = 60_000;
 
 // Above every index: what no slot may follow.
 const BEYOND: u64 = 0x1_0000_0000;
-
-const LARGEST_SIZE: i64 = 1_073_741_823;
-
-// The ranks of the records that repeat, and of the AR and the EN.
-const AREA: u8 = 11;
-
-const ROWS: u8 = 14;
-
-const COLUMNS: u8 = 15;
-
-const MERGES: u8 = 16;
-
-const ROW_BREAKS: u8 = 17;
-
-const COLUMN_BREAKS: u8 = 18;
-
-const END: u8 = 19;
 
 // How many records repeat of each kind.
 pub struct Items {
@@ -117,8 +109,9 @@ fn firsts_ok(a: Range) -> bool
 fn grid_ok(a: Range) -> bool
     ensures { λ r. ⌜ r ≡ gridOk a ⌝ }
 {
-    let rows = (a.first_row <= LAST_ROW) & (a.last_row <= LAST_ROW);
-    let columns = (a.first_column <= LAST_COLUMN) & (a.last_column <= LAST_COLUMN);
+    let rows = (a.first_row <= MAX_WORKSHEET_ROW) & (a.last_row <= MAX_WORKSHEET_ROW);
+    let columns = (a.first_column <= MAX_WORKSHEET_COLUMN)
+        & (a.last_column <= MAX_WORKSHEET_COLUMN);
     rows & columns
 }
 
@@ -126,7 +119,7 @@ fn grid_ok(a: Range) -> bool
 fn size_ok(size: i64) -> bool
     ensures { λ r. ⌜ r ≡ sizeOk size ⌝ }
 {
-    (0 <= size) & (size <= LARGEST_SIZE)
+    (0 <= size) & (size <= LARGEST_SIZE as i64)
 }
 
 fn fine_of(what: Asked) -> Fine
@@ -176,7 +169,7 @@ fn rows_after(next: u64, what: Asked) -> u64
     ensures { λ r. ⌜ r ≡ rowsAfter next what ⌝ }
 {
     match what {
-        Asked::InRows(s) => place(LAST_ROW, next, s.index),
+        Asked::InRows(s) => place(MAX_WORKSHEET_ROW, next, s.index),
         _ => next,
     }
 }
@@ -185,7 +178,7 @@ fn columns_after(next: u64, what: Asked) -> u64
     ensures { λ r. ⌜ r ≡ columnsAfter next what ⌝ }
 {
     match what {
-        Asked::InColumns(s) => place(16_383, next, s.index as u32),
+        Asked::InColumns(s) => place(MAX_WORKSHEET_COLUMN as u32, next, s.index as u32),
         _ => next,
     }
 }
@@ -234,7 +227,7 @@ fn advance(t: State, found: Record) -> State
     State {
         rank,
         ordered: t.ordered & follows_on(t.rank, rank),
-        area: t.area | (rank == AREA),
+        area: t.area | (rank == RANGE),
         fine: both(earlier, fine_of(what)),
         rows: rows_after(t.rows, what),
         columns: columns_after(t.columns, what),
@@ -296,7 +289,7 @@ fn first_no(equally_long: bool, t: State) -> u8
 fn survey_job(bytes: &[u8]) -> Survey
     ensures { λ r. ⌜ r ≡ surveyed (now (bytes .entry)) ⌝ }
 {
-    if bytes.len() > 60000 {
+    if bytes.len() > MOST_BYTES {
         return Survey::Stopped(1);
     }
     let mut s = bytes;

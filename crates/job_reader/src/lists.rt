@@ -10,6 +10,11 @@ use job_records::Range;
 use job_records::Record;
 use job_records::RowSlot;
 use job_records::rank_of;
+use job_records::ranks::COLUMN_BREAKS;
+use job_records::ranks::COLUMNS;
+use job_records::ranks::MERGES;
+use job_records::ranks::ROW_BREAKS;
+use job_records::ranks::ROWS;
 use job_settings::JobSettings;
 use units::Fixed;
 ghost use mathlib.Core.Path.{_≡_};
@@ -18,21 +23,11 @@ ghost use mathlib.Core.List.{[]};
 ghost use Prim.Native.Nat.{_+_, _≤_};
 ghost use lib.ListN.{length};
 ghost use Rattle.planner_rules.specs.Slots.{written};
-ghost use Rattle.job_records.specs.Records.{rank, step, records, marked, values, field, MR};
+ghost use Rattle.job_records.specs.Records.{RW, MR, BR, rank, step, records, marked, values, field};
 ghost use Rattle.job_questions.specs.Verdict.{checkedOutcome};
 ghost use Rattle.job_reader.specs.Walk.{before, ofKind, Sorted, Past, isSlot, isBreak, measured};
 ghost use Rattle.job_reader.specs.Walk as walk;
 ghost use Rattle.job_reader.specs.Reading.{lists, evenLists, fitIn, admitted, admittedTo, Room, AllWritten, JobRead};
-
-const ROWS: u8 = 14;
-
-const COLUMNS: u8 = 15;
-
-const MERGES: u8 = 16;
-
-const ROW_BREAKS: u8 = 17;
-
-const COLUMN_BREAKS: u8 = 18;
 
 // What a job holds besides its lists.
 pub struct Job {
@@ -95,7 +90,7 @@ fn break_of(found: Record) -> u32
 }
 
 fn cells_of(found: Record) -> Range
-    requires { ⌜ rank found ≡ 16 ⌝ }
+    requires { ⌜ rank found ≡ MR ⌝ }
     ensures { λ r. ⌜ r ≡ walk.cells found ⌝ }
 {
     let Record::Merged(merge) = found else {
@@ -126,7 +121,7 @@ fn next_of(s: &[u8], wanted: u8) -> Next
 // How many bytes stand before the first record that may repeat.
 fn settings_end(bytes: &[u8]) -> usize
     requires { ⌜ Sorted 0 (records (now bytes)) ⌝ }
-    ensures { λ r. ⌜ Past 14 (now (bytes .entry)) r ⌝ }
+    ensures { λ r. ⌜ Past RW (now (bytes .entry)) r ⌝ }
 {
     let mut s = bytes;
     loop {
@@ -172,12 +167,12 @@ fn write_merges(
     last_rows: &mut [u32],
     last_columns: &mut [u32],
 ) -> usize
-    requires { ⌜ Sorted 16 (records (now bytes)) ⌝ }
+    requires { ⌜ Sorted MR (records (now bytes)) ⌝ }
     requires { ⌜ length (marked MR (records (now bytes))) ≤ length (now «first_rows») ⌝ }
     requires { ⌜ length (now «first_rows») ≡ length (now «first_columns») ⌝ }
     requires { ⌜ length (now «first_rows») ≡ length (now «last_rows») ⌝ }
     requires { ⌜ length (now «first_rows») ≡ length (now «last_columns») ⌝ }
-    ensures { λ r. ⌜ Past 17 (now (bytes .entry)) r ⌝ }
+    ensures { λ r. ⌜ Past BR (now (bytes .entry)) r ⌝ }
     ensures { λ _. ⌜ now («first_rows» .exit) ≡ written (values MR 0 (records (now (bytes .entry)))) (now («first_rows» .entry)) ⌝ }
     ensures { λ _. ⌜ now («first_columns» .exit) ≡ written (values MR 1 (records (now (bytes .entry)))) (now («first_columns» .entry)) ⌝ }
     ensures { λ _. ⌜ now («last_rows» .exit) ≡ written (values MR 2 (records (now (bytes .entry)))) (now («last_rows» .entry)) ⌝ }

@@ -4,6 +4,20 @@ use job_records::Range;
 use job_records::Record;
 use job_records::Step;
 use job_records::rank_of;
+use job_records::ranks::COLUMN_TITLE;
+use job_records::ranks::END;
+use job_records::ranks::FIT;
+use job_records::ranks::FIT_HEIGHT;
+use job_records::ranks::FIT_WIDTH;
+use job_records::ranks::HEADINGS;
+use job_records::ranks::LANDSCAPE;
+use job_records::ranks::MARGINS;
+use job_records::ranks::ORDER;
+use job_records::ranks::PAGE_LIMIT;
+use job_records::ranks::PAPER;
+use job_records::ranks::PERCENT;
+use job_records::ranks::RANGE;
+use job_records::ranks::ROW_TITLE;
 use job_records::read_record;
 use job_settings::FlagSetting;
 use job_settings::JobSettings;
@@ -27,35 +41,6 @@ pub(crate) enum Lookup {
     Found(Record),
     Missing,
 }
-
-// The ranks of the settings.
-const PAPER: u8 = 1;
-
-const LANDSCAPE: u8 = 2;
-
-const MARGINS: u8 = 3;
-
-const PERCENT: u8 = 4;
-
-const FIT_WIDTH: u8 = 5;
-
-const FIT_HEIGHT: u8 = 6;
-
-const FIT: u8 = 7;
-
-const ORDER: u8 = 8;
-
-const HEADINGS: u8 = 9;
-
-const PAGE_LIMIT: u8 = 10;
-
-const RANGE: u8 = 11;
-
-const ROW_TITLE: u8 = 12;
-
-const COLUMN_TITLE: u8 = 13;
-
-const END: u8 = 19;
 
 pub(crate) fn next_record(s: &[u8]) -> Next
     ensures { λ r. ⌜ r ≡ before (step (now (s .entry))) ⌝ }

@@ -3,6 +3,25 @@ use crate::little_endian::signed;
 use crate::little_endian::u16_at;
 use crate::little_endian::u32_at;
 use crate::little_endian::u64_at;
+use crate::ranks::COLUMN_BREAKS;
+use crate::ranks::COLUMN_TITLE;
+use crate::ranks::COLUMNS;
+use crate::ranks::END;
+use crate::ranks::FIT;
+use crate::ranks::FIT_HEIGHT;
+use crate::ranks::FIT_WIDTH;
+use crate::ranks::HEADINGS;
+use crate::ranks::LANDSCAPE;
+use crate::ranks::MARGINS;
+use crate::ranks::MERGES;
+use crate::ranks::ORDER;
+use crate::ranks::PAGE_LIMIT;
+use crate::ranks::PAPER;
+use crate::ranks::PERCENT;
+use crate::ranks::RANGE;
+use crate::ranks::ROW_BREAKS;
+use crate::ranks::ROW_TITLE;
+use crate::ranks::ROWS;
 ghost use mathlib.Core.Path.{_≡_};
 ghost use Prim.Native.Nat.{_≤_};
 ghost use lib.ListN.{length};
@@ -231,24 +250,24 @@ pub fn rank_of(found: Record) -> u8
     ensures { λ r. ⌜ r ≡ rank found ⌝ }
 {
     match found {
-        Record::Paper(_) => 1,
-        Record::Landscape => 2,
-        Record::Margin(_) => 3,
-        Record::Scale(_) => 4,
-        Record::Wide(_) => 5,
-        Record::High(_) => 6,
-        Record::Fit(_) => 7,
-        Record::Order(_) => 8,
-        Record::Headings => 9,
-        Record::Limit(_) => 10,
-        Record::Area(_) => 11,
-        Record::TitleRows(_, _) => 12,
-        Record::TitleColumns(_, _) => 13,
-        Record::Row(_) => 14,
-        Record::Column(_) => 15,
-        Record::Merged(_) => 16,
-        Record::RowBreak(_) => 17,
-        Record::ColumnBreak(_) => 18,
-        Record::End => 19,
+        Record::Paper(_) => PAPER,
+        Record::Landscape => LANDSCAPE,
+        Record::Margin(_) => MARGINS,
+        Record::Scale(_) => PERCENT,
+        Record::Wide(_) => FIT_WIDTH,
+        Record::High(_) => FIT_HEIGHT,
+        Record::Fit(_) => FIT,
+        Record::Order(_) => ORDER,
+        Record::Headings => HEADINGS,
+        Record::Limit(_) => PAGE_LIMIT,
+        Record::Area(_) => RANGE,
+        Record::TitleRows(_, _) => ROW_TITLE,
+        Record::TitleColumns(_, _) => COLUMN_TITLE,
+        Record::Row(_) => ROWS,
+        Record::Column(_) => COLUMNS,
+        Record::Merged(_) => MERGES,
+        Record::RowBreak(_) => ROW_BREAKS,
+        Record::ColumnBreak(_) => COLUMN_BREAKS,
+        Record::End => END,
     }
 }

@@ -74,12 +74,15 @@ pub fn over_then_down(order: FlagSetting) -> bool
     }
 }
 
+// The most pages that a plan may have, where a job does not say.
+const DEFAULT_PAGE_LIMIT: u64 = 10_000;
+
 // The most pages that a plan may have.
 pub fn page_limit(limit: LimitSetting) -> u64
     ensures { λ r. ⌜ r ≡ section.limitOf limit ⌝ }
 {
     match limit {
-        LimitSetting::Absent => 10_000,
+        LimitSetting::Absent => DEFAULT_PAGE_LIMIT,
         LimitSetting::Given(x) => x,
     }
 }

@@ -1,4 +1,4 @@
-// The lesser and the greater of two numbers, and an index among wider numbers.
+// The lesser and the greater of two numbers, an index among wider numbers, and a wider number as an index.
 ghost use mathlib.Core.Path.{_≡_};
 ghost use Prim.Native.Nat.{min, max};
 
@@ -33,4 +33,15 @@ pub fn wide(x: u32) -> u64
     ensures { λ r. ⌜ r ≡ x ⌝ }
 {
     x as u64
+}
+
+// A wider number as an index: the largest that a u32 holds stands for any above it.
+pub fn index_of(n: u64) -> u32
+    ensures { λ r. ⌜ r ≡ min n 4294967295 ⌝ }
+{
+    if n < u32::MAX as u64 {
+        n as u32
+    } else {
+        u32::MAX
+    }
 }

@@ -1,4 +1,5 @@
 // Pages of a plan: document 01, section "Pages".
+use planner_compare::index_of;
 use planner_questions::room_in;
 use planner_rules::Listing;
 use planner_rules::Page;
@@ -29,17 +30,6 @@ fn place_of(order: PageOrder, row_runs: usize, column_runs: usize, before: usize
             vertical: before / column_runs,
             horizontal: before % column_runs,
         },
-    }
-}
-
-// A number of a list as an index: the largest that a u32 holds stands for any above it.
-fn index_of(n: u64) -> u32
-    ensures { λ r. ⌜ r ≡ section.indexOf n ⌝ }
-{
-    if n < 4_294_967_295 {
-        n as u32
-    } else {
-        4_294_967_295
     }
 }
 

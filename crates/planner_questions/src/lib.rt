@@ -3,6 +3,7 @@ use planner_compare::shorter;
 use planner_rules::AxisRange;
 use planner_rules::AxisSetup;
 use planner_rules::RUN_NUMBERS;
+use units::LARGEST_SIZE;
 ghost use mathlib.Core.Path.{_≡_};
 ghost use Prim.Native.Nat.{_/_};
 ghost use Rattle.planner_rules.specs.Questions.{noOr, allOrdered, wellFormed, allWithin, rising, risingWithin, allSmall};
@@ -11,8 +12,6 @@ ghost use mathlib.Core.List.{[]};
 ghost use lib.Dec.{leb};
 ghost use Rattle.planner_rules.specs.Plan as call;
 ghost use Rattle.planner_rules.specs.Partition as partition;
-
-const LARGEST_SIZE: u64 = 1_073_741_823;
 
 // How many runs a list of so many numbers has room for.
 pub fn room_in(numbers: usize) -> usize

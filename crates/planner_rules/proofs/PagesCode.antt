@@ -1,4 +1,4 @@
--- Laws of `specs/Pages.antt`'s definitions, for the functions of crate `pages`. Assumes nothing.
+-- Laws of `specs/Pages.antt`'s definitions, for the functions of crate `planner_pages`. Assumes nothing.
 use mathlib.Core.Path.{_≡_, refl, sym, ap, _∙_}
 use mathlib.Core.Bool.{Bool, true, false, cond, _&&_}
 use mathlib.Core.List.{List}

@@ -7,6 +7,7 @@ use Prim.Native.Nat.{ℕ, _+_, _*_, _^_, _≤_, _<_, max}
 use lib.Dec.{leb, eqb}
 use lib.IntN.{ℤ}
 use lib.ListN.{length}
+use Rattle.units.specs.Grid.{lastRow}
 use Rattle.units.specs.Outcome.{Outcome, given, refused, andThen}
 use Rattle.geometry.specs.Paper.{PaperFound, Placed, paperGeometry, contentGeometry}
 use Rattle.planner_rules.specs.declared.titles.Axis.the-variants.{Rows, Columns}
@@ -32,7 +33,7 @@ use Rattle.planner_rules.specs.Titles.{limitOf, widened, bodyStart, titl
 use Rattle.planner_rules.specs.Runs.{Run, axisRuns, shifts, expansions}
 use Rattle.planner_rules.specs.Lent.{roomIn, flat}
 use Rattle.planner_rules.specs.Partition.{lent}
-use Rattle.planner_rules.specs.Scale.{Scale, Space, Body, orElse, frameFor, fixedScale, axisPasses, fitScale, spaceOf, bodyFor, Low}
+use Rattle.planner_rules.specs.Scale.{Scale, Space, Body, orElse, defaultTarget, frameFor, fixedScale, axisPasses, fitScale, spaceOf, bodyFor, Low}
 use Rattle.planner_rules.specs.Pages.{none, orEmpty, overflowing}
 
 -- ---- an axis, as it is handed over
@@ -69,7 +70,7 @@ rowsOf s g title is ss fs ls bs = record {
   merge-lasts = ls;
   breaks = lookedAt (s .fit) bs;
   headings = cond (s .headings) 17408 0;
-  target = orElse (s .«fit_height») 1;
+  target = orElse (s .«fit_height») defaultTarget;
 }
 
 -- the columns of a job
@@ -85,7 +86,7 @@ columnsOf s g title is ss fs ls bs = record {
   merge-lasts = ls;
   breaks = lookedAt (s .fit) bs;
   headings = cond (s .headings) 38912 0;
-  target = orElse (s .«fit_width») 1;
+  target = orElse (s .«fit_width») defaultTarget;
 }
 
 -- ---- titles and body
@@ -303,7 +304,7 @@ pub record Addable (a b : Ready) (c d : FinalCut) (m n : ℕ) : Type 0 where
 pub record Fine (r : AxisRange) (is ss fs ls : List ℕ) : Type 0 where
   pub slots : Slots is ss
   pub merges-inside : allWithin (r .limit) ls ≡ true
-  pub limit-small : r .limit ≤ 1048575
+  pub limit-small : r .limit ≤ lastRow
   pub last-inside : r .last ≤ r .limit
   pub first-inside : r .first ≤ r .last
   pub headings-low : r .headings ≤ 2 ^ 50

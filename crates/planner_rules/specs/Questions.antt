@@ -4,6 +4,7 @@ use mathlib.Core.List.{List, [], _∷_}
 use Prim.Native.Nat.{ℕ}
 use lib.Dec.{leb, ltb, eqb}
 use lib.ListN.{length}
+use Rattle.units.specs.Grid.{largestSize}
 use Rattle.units.specs.Outcome.{Outcome, refused}
 
 -- "A "no" returns the number": a question by its number and its answer, before what comes after it
@@ -48,4 +49,4 @@ risingWithin limit is = rising is && allWithin limit is
 
 -- 9: "Sizes 0 to 1,073,741,823"
 unfoldable pub allSmall : List ℕ → Bool
-allSmall ss = allWithin 1073741823 ss
+allSmall ss = allWithin largestSize ss

@@ -31,6 +31,14 @@ abbrev pub orElse : Setting → ℕ → ℕ
 orElse Absent n = n
 orElse (Given m) n = m
 
+-- "percent (absent 100)"
+abbrev pub defaultPercent : ℕ
+defaultPercent = 100
+
+-- "targets absent mean 1"
+abbrev pub defaultTarget : ℕ
+defaultTarget = 1
+
 -- ---- fit off
 
 -- "clamped to 10..400"
@@ -40,7 +48,7 @@ clamped percent = max 10 (min percent 400)
 -- "percent (absent 100) clamped to 10..400, with a note if moved, times ten"
 unfoldable pub fixedScale : Setting → Scale
 fixedScale percent =
-    let p = orElse percent 100 in
+    let p = orElse percent defaultPercent in
     record { permille = clamped p * 10; clamp = cond (eqb p (clamped p)) 0 1; unreachable = 0 }
 
 -- ---- fit on: whether an axis passes at a permille

@@ -4,6 +4,7 @@ use mathlib.Core.List.{List, [], _∷_}
 use Prim.Native.Nat.{ℕ, zero, suc, _+_, min, max}
 use lib.Dec.{leb, ltb, eqb}
 use lib.ListN.{length}
+use Rattle.units.specs.Grid.{lastRow, lastColumn}
 use Rattle.units.specs.Outcome.{Outcome, given, refused}
 use Rattle.planner_rules.specs.declared.titles.Axis.{Axis}
 use Rattle.planner_rules.specs.declared.titles.Axis.the-variants.{Rows, Columns}
@@ -46,8 +47,8 @@ titleTotal (Pair f l) is ss = sum (mid (below f is) (below (l + 1) is) ss)
 
 -- the last index of the grid: "1,048,575 (rows) or 16,383 (columns)"
 unfoldable pub limitOf : Axis → ℕ
-limitOf Rows = 1048575
-limitOf Columns = 16383
+limitOf Rows = lastRow
+limitOf Columns = lastColumn
 
 -- "First above last, or last beyond [the limit]: ignored with a note."
 unfoldable pub normalized : ℕ → Title → Normalized

@@ -1,10 +1,8 @@
 // Titles: document 01, section "Titles".
+use units::MAX_WORKSHEET_COLUMN;
+use units::MAX_WORKSHEET_ROW;
 ghost use mathlib.Core.Path.{_≡_};
 ghost use Rattle.planner_rules.specs.Titles.{limitOf};
-
-const MAX_WORKSHEET_ROW: u32 = 1_048_575;
-
-const MAX_WORKSHEET_COLUMN: u32 = 16_383;
 
 pub enum Axis {
     Rows,
@@ -18,7 +16,7 @@ impl Axis {
     {
         match self {
             Axis::Rows => MAX_WORKSHEET_ROW,
-            Axis::Columns => MAX_WORKSHEET_COLUMN,
+            Axis::Columns => MAX_WORKSHEET_COLUMN as u32,
         }
     }
 }

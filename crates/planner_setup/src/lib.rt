@@ -14,6 +14,11 @@ ghost use mathlib.Core.Bool.{cond};
 ghost use Rattle.planner_rules.specs.Scale.{orElse, fixedScale, meets, middle, scaleOf};
 ghost use Rattle.planner_rules.specs.Plan as call;
 
+// What an absent percent and an absent target mean.
+const DEFAULT_PERCENT: u16 = 100;
+
+const DEFAULT_TARGET: u16 = 1;
+
 // A setting, or what its absence means.
 fn or_else(setting: Setting, absent: u16) -> u16
     ensures { λ r. ⌜ r ≡ orElse setting absent ⌝ }
@@ -28,7 +33,7 @@ fn or_else(setting: Setting, absent: u16) -> u16
 pub fn fixed_scale(percent: Setting) -> ChosenScale
     ensures { λ r. ⌜ scaleOf r ≡ fixedScale percent ⌝ }
 {
-    let asked = or_else(percent, 100);
+    let asked = or_else(percent, DEFAULT_PERCENT);
     if asked < 10 {
         return ChosenScale {
             permille: 100,
@@ -68,7 +73,7 @@ pub fn row_range(settings: Settings, range: PrintRange, title: Title) -> AxisRan
         last: range.last_row,
         title,
         headings: headings_of(settings.headings, 17_408),
-        target: or_else(target, 1),
+        target: or_else(target, DEFAULT_TARGET),
     }
 }
 
@@ -83,7 +88,7 @@ pub fn column_range(settings: Settings, range: PrintRange, title: Title) -> Axis
         last: range.last_column,
         title,
         headings: headings_of(settings.headings, 38_912),
-        target: or_else(target, 1),
+        target: or_else(target, DEFAULT_TARGET),
     }
 }
 

@@ -1,4 +1,9 @@
-// Units of 1/1,024 pixel: document 01, section "Units".
+// Units of 1/1,024 pixel: document 01, section "Units"; and the grid that they measure.
+mod grid;
+
+pub use grid::LARGEST_SIZE;
+pub use grid::MAX_WORKSHEET_COLUMN;
+pub use grid::MAX_WORKSHEET_ROW;
 ghost use mathlib.Core.Path.{_≡_};
 ghost use Prim.Native.Nat.{_+_, _*_, _/_, _^_, _<_, min};
 ghost use lib.IntN.{pos, natAbs, negℤ, _-ℤ_};

@@ -11,6 +11,7 @@ use Rattle.planner_rules.specs.declared.titles.Title.{Title}
 use Rattle.planner_rules.specs.declared.titles.Title.the-variants as title
 use Rattle.planner_rules.specs.declared.planning.Settings.{Settings}
 use Rattle.planner_rules.specs.declared.planning.PrintRange.{PrintRange}
+use Rattle.planner_rules.specs.Pages.{indexOf}
 use Rattle.planner_rules.specs.Plan.{AxisInput, rowsOf, columnsOf}
 use Rattle.job_records.specs.declared.records.MarginBits.{MarginBits}
 use Rattle.job_settings.specs.Meaning.{inchesOf}
@@ -21,13 +22,9 @@ use Rattle.yuzhbani_answers.specs.Numbers.{isSet, orderFrom}
 abbrev pub settingFrom : List ℕ → ℕ → Setting
 settingFrom ns at = cond (isSet (getD ns at 0)) (setting.Given (min (getD ns (at + 1) 0) 65535)) setting.Absent
 
--- the largest index that a u32 holds stands for any above it; it lies outside the grid
-abbrev pub indexFrom : ℕ → ℕ
-indexFrom n = min n 4294967295
-
 -- a mark at a place, and behind it the first and the last
 abbrev pub titleFrom : List ℕ → ℕ → Title
-titleFrom ns at = cond (isSet (getD ns at 0)) (title.Pair (indexFrom (getD ns (at + 1) 0)) (indexFrom (getD ns (at + 2) 0))) title.Absent
+titleFrom ns at = cond (isSet (getD ns at 0)) (title.Pair (indexOf (getD ns (at + 1) 0)) (indexOf (getD ns (at + 2) 0))) title.Absent
 
 -- 3 is the mark, 4 to 9 are the bits of left, right, top, bottom, header and footer, in inches
 unfoldable pub marginsFrom : List ℕ → MarginSetting
@@ -60,10 +57,10 @@ settingsFrom ns = record {
 -- 20 to 23: first row, first column, last row, last column
 unfoldable pub rangeFrom : List ℕ → PrintRange
 rangeFrom ns = record {
-  «first_row» = indexFrom (getD ns 20 0);
-  «first_column» = indexFrom (getD ns 21 0);
-  «last_row» = indexFrom (getD ns 22 0);
-  «last_column» = indexFrom (getD ns 23 0);
+  «first_row» = indexOf (getD ns 20 0);
+  «first_column» = indexOf (getD ns 21 0);
+  «last_row» = indexOf (getD ns 22 0);
+  «last_column» = indexOf (getD ns 23 0);
 }
 
 -- 24 to 26: the mark, the first and the last row
@@ -74,11 +71,11 @@ rowTitleFrom ns = titleFrom ns 24
 abbrev pub columnTitleFrom : List ℕ → Title
 columnTitleFrom ns = titleFrom ns 27
 
--- an axis, by what is request and the lists beside it
+-- an axis, by what is asked and the lists beside it
 abbrev pub rowsRequested : List ℕ → List ℕ → List ℕ → List ℕ → List ℕ → List ℕ → AxisInput
 rowsRequested ns is ss fs ls bs = rowsOf (settingsFrom ns) (rangeFrom ns) (rowTitleFrom ns) is ss fs ls bs
 
--- the columns that are request for
+-- the columns that are asked for
 abbrev pub columnsRequested : List ℕ → List ℕ → List ℕ → List ℕ → List ℕ → List ℕ → AxisInput
 columnsRequested ns is ss fs ls bs = columnsOf (settingsFrom ns) (rangeFrom ns) (columnTitleFrom ns) is ss fs ls bs
 

@@ -1,9 +1,10 @@
-// What is request of a plan beside its lists, as thirty numbers.
+// What is asked of a plan beside its lists, as thirty numbers.
 use geometry::MarginSetting;
 use geometry::Setting;
 use job_records::MarginBits;
 use job_settings::MarginsRead;
 use job_settings::margin_setting;
+use planner_compare::index_of;
 use planner_rules::PrintRange;
 use planner_rules::Settings;
 use planner_rules::Title;
@@ -19,16 +20,6 @@ pub struct Request {
     pub range: PrintRange,
     pub row_title: Title,
     pub column_title: Title,
-}
-
-fn u32_from(n: u64) -> u32
-    ensures { λ r. ⌜ r ≡ section.indexFrom n ⌝ }
-{
-    if n < 4_294_967_295 {
-        n as u32
-    } else {
-        4_294_967_295
-    }
 }
 
 fn setting_from(request: &[u64; 30], at: usize) -> Setting
@@ -47,7 +38,7 @@ fn title_from(request: &[u64; 30], at: usize) -> Title
     ensures { λ r. ⌜ r ≡ section.titleFrom (now (request .entry)) at ⌝ }
 {
     if request[at] > 0 {
-        Title::Pair(u32_from(request[at + 1]), u32_from(request[at + 2]))
+        Title::Pair(index_of(request[at + 1]), index_of(request[at + 2]))
     } else {
         Title::Absent
     }
@@ -91,10 +82,10 @@ fn range_from(request: &[u64; 30]) -> PrintRange
     ensures { λ r. ⌜ r ≡ section.rangeFrom (now (request .entry)) ⌝ }
 {
     PrintRange {
-        first_row: u32_from(request[20]),
-        first_column: u32_from(request[21]),
-        last_row: u32_from(request[22]),
-        last_column: u32_from(request[23]),
+        first_row: index_of(request[20]),
+        first_column: index_of(request[21]),
+        last_row: index_of(request[22]),
+        last_column: index_of(request[23]),
     }
 }
 

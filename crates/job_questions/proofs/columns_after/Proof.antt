@@ -12,6 +12,9 @@ enum-known-what c = c .match .keys1
 cast-place : tie.Need-cast-place
 cast-place c = search needs
 
+cast-place-2 : tie.Need-cast-place-2
+cast-place-2 c = search needs
+
 place-requires : tie.Need-place-requires
 place-requires c κs = search needs
 
@@ -25,4 +28,4 @@ returns-2 : tie.Need-returns-2
 returns-2 c = no-column (c .before .args .next) (c .before .args .what) (c .match .keys2)
 
 pub columns-after-spec : {M : Type 1} → statement M
-columns-after-spec = tie.close (tie.spec enum-known-what cast-place place-requires returns returns-2)
+columns-after-spec = tie.close (tie.spec enum-known-what cast-place cast-place-2 place-requires returns returns-2)

@@ -13,36 +13,36 @@ mul-if1 c = search needs
 element-copy-out-if1 : tie.Need-element-copy-out-if1
 element-copy-out-if1 c = search needs
 
-add-u32-from : tie.Need-add-u32-from
-add-u32-from c = search needs
+add-index-of : tie.Need-add-index-of
+add-index-of c = search needs
 
-mul-u32-from : tie.Need-mul-u32-from
-mul-u32-from c = search needs
+mul-index-of : tie.Need-mul-index-of
+mul-index-of c = search needs
 
-element-copy-out-u32-from : tie.Need-element-copy-out-u32-from
-element-copy-out-u32-from c = search needs
+element-copy-out-index-of : tie.Need-element-copy-out-index-of
+element-copy-out-index-of c = search needs
 
-u32-from-requires : tie.Need-u32-from-requires
-u32-from-requires c κs = search needs
+index-of-requires : tie.Need-index-of-requires
+index-of-requires c κs = search needs
 
-add-u32-from-2 : tie.Need-add-u32-from-2
-add-u32-from-2 c = search needs
+add-index-of-2 : tie.Need-add-index-of-2
+add-index-of-2 c = search needs
 
-mul-u32-from-2 : tie.Need-mul-u32-from-2
-mul-u32-from-2 c = search needs
+mul-index-of-2 : tie.Need-mul-index-of-2
+mul-index-of-2 c = search needs
 
-element-copy-out-u32-from-2 : tie.Need-element-copy-out-u32-from-2
-element-copy-out-u32-from-2 c = search needs
+element-copy-out-index-of-2 : tie.Need-element-copy-out-index-of-2
+element-copy-out-index-of-2 c = search needs
 
-u32-from-requires-2 : tie.Need-u32-from-requires-2
-u32-from-requires-2 c κs = search needs
+index-of-requires-2 : tie.Need-index-of-requires-2
+index-of-requires-2 c κs = search needs
 
 returns : tie.Need-returns
 returns c =
     let start : tie.Start = search in
     let then1 : tie.Then1 = search in
     let a = start .args in
-    ap₂ Pair (c .before .before .u32-from .ensures) (c .u32-from2 .ensures) ∙ when-set (getD (a .request .now) (a .at) 0) _ _ (then1 .if1 .taken)
+    ap₂ Pair (c .before .before .index-of .ensures) (c .index-of2 .ensures) ∙ when-set (getD (a .request .now) (a .at) 0) _ _ (then1 .if1 .taken)
 
 returns-2 : tie.Need-returns-2
 returns-2 c =
@@ -55,13 +55,13 @@ title-from-spec =
     (tie.spec
     mul-if1
     element-copy-out-if1
-    add-u32-from
-    mul-u32-from
-    element-copy-out-u32-from
-    u32-from-requires
-    add-u32-from-2
-    mul-u32-from-2
-    element-copy-out-u32-from-2
-    u32-from-requires-2
+    add-index-of
+    mul-index-of
+    element-copy-out-index-of
+    index-of-requires
+    add-index-of-2
+    mul-index-of-2
+    element-copy-out-index-of-2
+    index-of-requires-2
     returns
     returns-2)
