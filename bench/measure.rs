@@ -5,7 +5,7 @@
 use super::*;
 use std::hint::black_box;
 use std::time::{Duration, Instant};
-use yuzhbani::{plan_into, plan_lists_into, Asked, AskedNumbers, Lists, Numbers, RunLists};
+use yuzhbani::{plan_into, plan_lists_into, run_list, Lists, Numbers, Request, RequestNumbers};
 
 /// Times taken of each job on each side; the median counts.
 const ROUNDS: usize = 21;
@@ -13,7 +13,7 @@ const ROUNDS: usize = 21;
 /// A time is taken over as many calls as make this up.
 const AT_LEAST: Duration = Duration::from_millis(2);
 
-/// The entries of a lent run list: no plan here has more runs.
+/// The runs that a lent list has room for: no plan here has more.
 const ROOM: usize = 50_000;
 
 // ---- jobs
@@ -189,8 +189,8 @@ fn families() -> Vec<(&'static str, Vec<Case>)> {
 /// What our side plans with: lent once, and used for each call.
 struct Ours {
     numbers: Numbers,
-    rows: RunLists,
-    columns: RunLists,
+    rows: Vec<u64>,
+    columns: Vec<u64>,
 }
 
 impl Ours {
@@ -198,14 +198,14 @@ impl Ours {
         plan_into(bytes, &mut self.numbers, &mut self.rows, &mut self.columns).expect("a plan");
     }
 
-    fn plan_lists(&mut self, asked: &AskedNumbers, lists: &Lists) {
-        plan_lists_into(asked, lists, &mut self.numbers, &mut self.rows, &mut self.columns).expect("a plan");
+    fn plan_lists(&mut self, request: &RequestNumbers, lists: &Lists) {
+        plan_lists_into(request, lists, &mut self.numbers, &mut self.rows, &mut self.columns).expect("a plan");
     }
 }
 
-fn asked_of(job: &Job) -> AskedNumbers {
+fn request_of(job: &Job) -> RequestNumbers {
     let (setup, behavior) = (&job.setup, &job.behavior);
-    let asked = Asked {
+    let request = Request {
         paper: setup.paper_size,
         landscape: setup.landscape,
         margins: setup.margins.map(|(left, right, top, bottom, header, footer)| [left, right, top, bottom, header, footer]),
@@ -223,7 +223,7 @@ fn asked_of(job: &Job) -> AskedNumbers {
         row_title: setup.repeat_rows,
         column_title: setup.repeat_cols.map(|(first, last)| (first.into(), last.into())),
     };
-    asked.numbers()
+    request.numbers()
 }
 
 fn lists_of(job: &Job) -> Lists {
@@ -252,13 +252,10 @@ fn planned_by_rust(job: &Job) -> (Area, PrintWarnings) {
 
 /// Both sides have the same permille, pages, notes and runs.
 fn agree(ours: &Ours, (area, warnings): (Area, PrintWarnings)) {
-    let runs = |segments: Vec<AxisSegment<u32>>, lists: &RunLists, count: u64| {
-        assert_eq!(segments.len() as u64, count);
-        for (at, run) in segments.iter().enumerate() {
-            let mark = u8::from(run.manual_break_before);
-            let ours = (lists.firsts[at], lists.lasts[at], lists.sizes[at], lists.marks[at]);
-            assert_eq!(ours, (run.first, run.last, run.size.raw() as u64, mark));
-        }
+    let runs = |segments: Vec<AxisSegment<u32>>, list: &[u64], count: u64| {
+        let mut theirs = Lent::zeros(segments.len());
+        theirs.write(&segments);
+        assert_eq!((segments.len() as u64, &list[..theirs.0.len()]), (count, &theirs.0[..]));
     };
     assert_eq!((ours.numbers[0], ours.numbers[5]), (u64::from(area.scale_permille), area.logical_pages));
     assert_eq!(ours.numbers[7..], nine_notes(warnings));
@@ -307,12 +304,12 @@ struct Times {
 
 /// The medians of rounds that take each time in turn. The Rust's chain ends with a list of pages, whose time is taken off.
 fn times(case: &Case, ours: &mut Ours) -> Times {
-    let (job, asked, lists) = (&case.job, asked_of(&case.job), lists_of(&case.job));
+    let (job, request, lists) = (&case.job, request_of(&case.job), lists_of(&case.job));
     let bytes = case.bytes.as_deref();
     let area = planned_by_rust(job).0;
     let list = || page_slots(job.behavior.page_order, &area.row_segments, &area.column_segments);
     let calls = [
-        calls_for(|| ours.plan_lists(&asked, &lists)),
+        calls_for(|| ours.plan_lists(&request, &lists)),
         calls_for(|| drop(planned_by_rust(job))),
         calls_for(|| drop(list())),
         bytes.map_or(0, |bytes| calls_for(|| ours.plan(bytes))),
@@ -320,7 +317,7 @@ fn times(case: &Case, ours: &mut Ours) -> Times {
     ];
     let mut taken = [const { Vec::new() }; 5];
     for _ in 0..ROUNDS {
-        taken[0].push(timed(calls[0], || ours.plan_lists(black_box(&asked), black_box(&lists))));
+        taken[0].push(timed(calls[0], || ours.plan_lists(black_box(&request), black_box(&lists))));
         taken[1].push(timed(calls[1], || drop(black_box(planned_by_rust(black_box(job))))));
         taken[2].push(timed(calls[2], || drop(black_box(list()))));
         if let Some(bytes) = bytes {
@@ -336,7 +333,7 @@ fn times(case: &Case, ours: &mut Ours) -> Times {
 
 /// Our answers are the Rust's.
 fn compare(case: &Case, ours: &mut Ours) {
-    ours.plan_lists(&asked_of(&case.job), &lists_of(&case.job));
+    ours.plan_lists(&request_of(&case.job), &lists_of(&case.job));
     agree(ours, planned_by_rust(&case.job));
     if let Some(bytes) = &case.bytes {
         ours.plan(bytes);
@@ -345,8 +342,7 @@ fn compare(case: &Case, ours: &mut Ours) {
 }
 
 pub fn main() {
-    let lists = || RunLists::with_room(ROOM);
-    let mut ours = Ours { numbers: [0; 16], rows: lists(), columns: lists() };
+    let mut ours = Ours { numbers: [0; 16], rows: run_list(ROOM), columns: run_list(ROOM) };
     println!("                                                       bytes to runs                lists to runs        lists, on the size before");
     println!("family                        size   bytes   pages       ours       Rust  ratio       ours       Rust  ratio     ours    Rust");
     for (family, cases) in families() {

@@ -2,7 +2,7 @@
 
 use std::path::PathBuf;
 use std::process::Command;
-use yuzhbani::{block_of, head_of, page_of, plan_into, plan_lists_into, Asked, Lists, Page, Plan, Refusal, Run, RunLists};
+use yuzhbani::{block_of, head_of, page_of, plan_into, plan_lists_into, Lists, Page, Plan, Refusal, Request, Run};
 use yuzhbani::{MOST_BYTES, MOST_RUNS};
 
 // ---- jobs, written after document 01, section "Jobs"
@@ -187,9 +187,17 @@ fn refusals_of_jobs_write_nothing() {
     }
 }
 
-/// Lists of so many entries that are not zeros.
-fn marked(length: usize) -> RunLists {
-    RunLists { firsts: vec![11; length], lasts: vec![22; length], sizes: vec![33; length], marks: vec![44; length] }
+/// The numbers of a run that no plan has written.
+const UNWRITTEN: [u64; 4] = [11, 22, 33, 44];
+
+/// A list with room for so many runs, none of which is written.
+fn marked(runs: usize) -> Vec<u64> {
+    UNWRITTEN.repeat(runs)
+}
+
+/// The same by its numbers, of which the last may make up no run.
+fn marked_numbers(numbers: usize) -> Vec<u64> {
+    UNWRITTEN.into_iter().cycle().take(numbers).collect()
 }
 
 #[test]
@@ -209,50 +217,36 @@ fn sixty_thousand_bytes_are_read() {
 
 // ---- lists of the caller's own
 
-fn planned_into(rows: &mut RunLists, columns: &mut RunLists) -> (Result<(), Refusal>, [u64; 16]) {
+fn planned_into(rows: &mut [u64], columns: &mut [u64]) -> (Result<(), Refusal>, [u64; 16]) {
     let mut numbers = [77; 16];
     let answer = plan_into(&first(), &mut numbers, rows, columns);
     (answer, numbers)
 }
 
+/// The plan has two runs of rows and two of columns.
 #[test]
 fn lists_too_short_are_refused() {
-    for (rows, columns) in [(1, 2), (2, 1), (0, 2), (2, 0), (0, 0)] {
-        let (mut a, mut b) = (marked(rows), marked(columns));
-        assert_eq!(planned_into(&mut a, &mut b), (Err(Refusal(11)), [77; 16]));
-        assert_eq!((a, b), (marked(rows), marked(columns)));
+    for (rows, columns) in [(7, 8), (8, 7), (5, 8), (8, 4), (0, 8), (8, 0), (0, 0), (3, 99), (7, 7)] {
+        let (mut a, mut b) = (marked_numbers(rows), marked_numbers(columns));
+        assert_eq!(planned_into(&mut a, &mut b), (Err(Refusal(11)), [77; 16]), "{rows} and {columns} numbers");
+        assert_eq!((a, b), (marked_numbers(rows), marked_numbers(columns)));
     }
 }
 
-#[test]
-fn lists_not_equally_long_are_refused() {
-    for at in 0..8 {
-        let mut lists = [marked(9), marked(9)];
-        let axis = &mut lists[at / 4];
-        match at % 4 {
-            0 => axis.firsts.truncate(8),
-            1 => axis.lasts.truncate(8),
-            2 => axis.sizes.truncate(8),
-            _ => axis.marks.truncate(8),
-        }
-        let [mut rows, mut columns] = lists.clone();
-        assert_eq!(planned_into(&mut rows, &mut columns), (Err(Refusal(6)), [77; 16]));
-        assert_eq!([rows, columns], lists);
-    }
-}
+/// What the lists hold of the plan's two runs of rows and two of columns.
+const ROW_RUNS: [u64; 8] = [0, 1, 800_000, 0, 2, 2, 400_000, 0];
+const COLUMN_RUNS: [u64; 8] = [0, 0, 400_000, 0, 1, 1, 400_000, 0];
 
 #[test]
 fn what_stands_behind_the_runs_stays() {
-    let (mut rows, mut columns) = (marked(4), marked(3));
-    let (answer, numbers) = planned_into(&mut rows, &mut columns);
-    assert_eq!(answer, Ok(()));
-    assert_eq!(numbers, [1000, 2, 2, 0, 0, 4, 0, 0, 0, 0, 0, 0, 0, 0, 0, 0]);
-    assert_eq!(rows.firsts, [0, 2, 11, 11]);
-    assert_eq!(rows.lasts, [1, 2, 22, 22]);
-    assert_eq!(rows.sizes, [800_000, 400_000, 33, 33]);
-    assert_eq!(rows.marks, [0, 0, 44, 44]);
-    assert_eq!(columns.firsts, [0, 1, 11]);
-    assert_eq!(columns.sizes, [400_000, 400_000, 33]);
+    for (rows, columns) in [(8, 8), (9, 8), (10, 11), (11, 10), (12, 15), (99, 97)] {
+        let (mut a, mut b) = (marked_numbers(rows), marked_numbers(columns));
+        let (answer, numbers) = planned_into(&mut a, &mut b);
+        assert_eq!(answer, Ok(()), "{rows} and {columns} numbers");
+        assert_eq!(numbers, [1000, 2, 2, 0, 0, 4, 0, 0, 0, 0, 0, 0, 0, 0, 0, 0]);
+        assert_eq!((&a[..8], &b[..8]), (&ROW_RUNS[..], &COLUMN_RUNS[..]));
+        assert_eq!((&a[8..], &b[8..]), (&marked_numbers(rows)[8..], &marked_numbers(columns)[8..]));
+    }
 }
 
 #[test]
@@ -293,11 +287,39 @@ fn pages_by_number() {
     // a run that the plan did not write
     let third = page(changed(1, 3), 3).expect("a page");
     assert_eq!(third.rows, Run { first: 11, last: 22, size: 33, empty_body: false, manual_break: true });
-    // lists that are not equally long
-    let mut uneven = rows.clone();
-    uneven.marks.push(0);
-    assert_eq!(page_of(&numbers, 1, &uneven, &columns), Err(Refusal(6)));
-    assert_eq!(page_of(&numbers, 1, &columns, &uneven), Err(Refusal(6)));
+    // a list that lacks a number of its last run, and lists with numbers left
+    assert_eq!(page_of(&numbers, 1, &rows[..7], &columns), Err(Refusal(11)));
+    assert_eq!(page_of(&numbers, 1, &rows, &columns[..7]), Err(Refusal(11)));
+    assert_eq!(page_of(&numbers, 4, &rows[..9], &columns[..11]), plan.page(4));
+}
+
+/// Indexes that no `u32` holds are the largest that it holds; a mark is any number above 0.
+#[test]
+fn pages_of_lists_that_were_changed() {
+    let (mut rows, mut columns) = (marked(2), marked(2));
+    let (_, numbers) = planned_into(&mut rows, &mut columns);
+    let runs = |rows: &[u64], columns: &[u64]| {
+        let page = page_of(&numbers, 4, rows, columns).expect("a page");
+        (page.rows, page.columns)
+    };
+    let run = |first, last, size, manual_break| Run { first, last, size, empty_body: false, manual_break };
+    let most = u32::MAX;
+    let column = run(1, 1, 400_000, false);
+    for (changed, expected) in [
+        ([u64::from(most) - 1, u64::from(most), 7, 1], run(most - 1, most, 7, true)),
+        ([1 << 32, 1 << 40, 1 << 63, 256], run(most, most, 1 << 63, true)),
+        ([u64::MAX; 4], run(most, most, u64::MAX, true)),
+        ([5, 4, 0, 1 << 32], run(5, 4, 0, true)),
+        ([0; 4], run(0, 0, 0, false)),
+    ] {
+        rows[4..].copy_from_slice(&changed);
+        assert_eq!(runs(&rows, &columns), (expected, column), "{changed:?}");
+        assert_eq!(runs(&columns, &rows), (column, expected), "{changed:?}");
+    }
+    rows[4..].copy_from_slice(&[1 << 32, u64::MAX, 33, 0]);
+    let mut next = 4;
+    let text = block_of(&numbers, &mut next, &rows, &columns);
+    assert_eq!(String::from_utf8_lossy(&text), "page 4 1 1 4294967295 4294967295 1 1 33 400000\n");
 }
 
 #[test]
@@ -349,8 +371,8 @@ fn number(bytes: &[u8]) -> u64 {
 }
 
 /// What a job asks and its lists. The job passes questions 1 to 5.
-fn as_lists(mut bytes: &[u8]) -> (Asked, Lists) {
-    let (mut asked, mut lists, mut fit) = (Asked::default(), Lists::default(), None);
+fn as_lists(mut bytes: &[u8]) -> (Request, Lists) {
+    let (mut request, mut lists, mut fit) = (Request::default(), Lists::default(), None);
     while !bytes.is_empty() {
         let (mark, rest) = bytes.split_at(2);
         let &(mark, length) = KINDS.iter().find(|kind| kind.0.as_bytes() == mark).expect("a known mark");
@@ -359,22 +381,22 @@ fn as_lists(mut bytes: &[u8]) -> (Asked, Lists) {
         let short = |at: usize| number(&body[at..at + 2]) as u16;
         let index = |at: usize| number(&body[at..at + 4]) as u32;
         match mark {
-            "PC" => asked.paper = Some(short(0)),
-            "LA" => asked.landscape = true,
-            "MG" => asked.margins = Some(std::array::from_fn(|at| f64::from_bits(number(&body[8 * at..8 * at + 8])))),
-            "SC" => asked.percent = Some(short(0)),
-            "FW" => asked.fit_width = Some(short(0)),
-            "FH" => asked.fit_height = Some(short(0)),
+            "PC" => request.paper = Some(short(0)),
+            "LA" => request.landscape = true,
+            "MG" => request.margins = Some(std::array::from_fn(|at| f64::from_bits(number(&body[8 * at..8 * at + 8])))),
+            "SC" => request.percent = Some(short(0)),
+            "FW" => request.fit_width = Some(short(0)),
+            "FH" => request.fit_height = Some(short(0)),
             "FT" => fit = Some(body[0] == 1),
-            "OD" => asked.over_then_down = body[0] == 1,
-            "HD" => asked.headings = true,
-            "LP" => asked.page_limit = number(body),
+            "OD" => request.over_then_down = body[0] == 1,
+            "HD" => request.headings = true,
+            "LP" => request.page_limit = number(body),
             "AR" => {
-                (asked.first_row, asked.first_column) = (index(0), short(4).into());
-                (asked.last_row, asked.last_column) = (index(6), short(10).into());
+                (request.first_row, request.first_column) = (index(0), short(4).into());
+                (request.last_row, request.last_column) = (index(6), short(10).into());
             }
-            "TR" => asked.row_title = Some((index(0), index(4))),
-            "TC" => asked.column_title = Some((short(0).into(), short(2).into())),
+            "TR" => request.row_title = Some((index(0), index(4))),
+            "TC" => request.column_title = Some((short(0).into(), short(2).into())),
             "RW" => {
                 lists.row_indexes.push(index(0));
                 lists.row_sizes.push(number(&body[4..]));
@@ -394,21 +416,21 @@ fn as_lists(mut bytes: &[u8]) -> (Asked, Lists) {
             _ => {}
         }
     }
-    asked.fit = fit.unwrap_or(asked.fit_width.is_some() || asked.fit_height.is_some());
-    (asked, lists)
+    request.fit = fit.unwrap_or(request.fit_width.is_some() || request.fit_height.is_some());
+    (request, lists)
 }
 
 /// The answer of both plan calls, with what they leave in the numbers and the lists, is the same.
 fn same_by_lists(bytes: &[u8]) {
-    let (asked, lists) = as_lists(bytes);
+    let (request, lists) = as_lists(bytes);
     let (mut numbers, mut rows, mut columns) = ([77; 16], marked(MOST_RUNS), marked(MOST_RUNS));
     let by_bytes = plan_into(bytes, &mut numbers, &mut rows, &mut columns);
     let (mut others, mut other_rows, mut other_columns) = ([77; 16], marked(MOST_RUNS), marked(MOST_RUNS));
-    let by_lists = plan_lists_into(&asked.numbers(), &lists, &mut others, &mut other_rows, &mut other_columns);
-    assert_eq!((by_lists, others), (by_bytes, numbers), "{asked:?}");
-    assert_eq!((other_rows, other_columns), (rows, columns), "{asked:?}");
-    let text = Plan::of_lists(&asked, &lists).map_or_else(Refusal::text, |plan| printed(&plan));
-    assert_eq!(text, told(bytes), "{asked:?}");
+    let by_lists = plan_lists_into(&request.numbers(), &lists, &mut others, &mut other_rows, &mut other_columns);
+    assert_eq!((by_lists, others), (by_bytes, numbers), "{request:?}");
+    assert_eq!((other_rows, other_columns), (rows, columns), "{request:?}");
+    let text = Plan::of_lists(&request, &lists).map_or_else(Refusal::text, |plan| printed(&plan));
+    assert_eq!(text, told(bytes), "{request:?}");
 }
 
 /// Each setting by itself, and some together.
@@ -456,54 +478,55 @@ fn the_same_by_bytes_and_by_lists() {
 }
 
 /// The lists of the job of document 01.
-fn first_lists() -> (Asked, Lists) {
+fn first_lists() -> (Request, Lists) {
     as_lists(&first())
 }
 
 #[test]
 fn refusals_of_lists_write_nothing() {
-    let refused = |number: u8, change: fn(&mut Asked, &mut Lists)| {
-        let (mut asked, mut lists) = first_lists();
-        change(&mut asked, &mut lists);
+    let refused = |number: u8, change: fn(&mut Request, &mut Lists)| {
+        let (mut request, mut lists) = first_lists();
+        change(&mut request, &mut lists);
         let (mut numbers, mut rows, mut columns) = ([77; 16], marked(2), marked(2));
-        let answer = plan_lists_into(&asked.numbers(), &lists, &mut numbers, &mut rows, &mut columns);
-        assert_eq!(answer, Err(Refusal(number)), "{asked:?} {lists:?}");
+        let answer = plan_lists_into(&request.numbers(), &lists, &mut numbers, &mut rows, &mut columns);
+        assert_eq!(answer, Err(Refusal(number)), "{request:?} {lists:?}");
         assert_eq!((numbers, rows, columns), ([77; 16], marked(2), marked(2)), "refused with {number}");
     };
     refused(6, |_, lists| lists.row_sizes.push(1));
     refused(6, |_, lists| lists.column_indexes.push(9));
     refused(6, |_, lists| lists.merge_first_rows.push(0));
     refused(6, |_, lists| lists.merge_last_columns.push(0));
-    refused(6, |asked, _| asked.first_row = 3);
-    refused(6, |asked, _| asked.first_column = 2);
-    refused(7, |asked, _| asked.last_row = 1_048_576);
-    refused(7, |asked, _| asked.last_column = 16_384);
-    refused(7, |asked, _| asked.last_row = u32::MAX);
+    refused(6, |request, _| request.first_row = 3);
+    refused(6, |request, _| request.first_column = 2);
+    refused(7, |request, _| request.last_row = 1_048_576);
+    refused(7, |request, _| request.last_column = 16_384);
+    refused(7, |request, _| request.last_row = u32::MAX);
     refused(8, |_, lists| lists.row_indexes.swap(0, 1));
     refused(8, |_, lists| lists.column_indexes[1] = 16_384);
     refused(9, |_, lists| lists.row_sizes[2] = 1_073_741_824);
     refused(9, |_, lists| lists.column_sizes[0] = u64::MAX);
     refused(11, |_, lists| lists.row_sizes.fill(900_000));
-    refused(12, |asked, _| asked.page_limit = 3);
+    refused(12, |request, _| request.page_limit = 3);
 }
 
 #[test]
-fn run_lists_too_short_or_not_equally_long_for_lists() {
-    let (asked, lists) = first_lists();
-    let planned = |rows: &mut RunLists, columns: &mut RunLists| plan_lists_into(&asked.numbers(), &lists, &mut [0; 16], rows, columns);
-    assert_eq!(planned(&mut marked(1), &mut marked(2)), Err(Refusal(11)));
-    assert_eq!(planned(&mut marked(2), &mut marked(1)), Err(Refusal(11)));
-    let mut uneven = marked(2);
-    uneven.lasts.push(0);
-    assert_eq!(planned(&mut uneven.clone(), &mut marked(2)), Err(Refusal(6)));
-    assert_eq!(planned(&mut marked(2), &mut uneven), Err(Refusal(6)));
-    assert_eq!(planned(&mut marked(2), &mut marked(2)), Ok(()));
+fn run_lists_too_short_for_lists() {
+    let (request, lists) = first_lists();
+    let planned = |rows: usize, columns: usize| {
+        let (mut rows, mut columns) = (marked_numbers(rows), marked_numbers(columns));
+        plan_lists_into(&request.numbers(), &lists, &mut [0; 16], &mut rows, &mut columns)
+    };
+    assert_eq!(planned(7, 8), Err(Refusal(11)));
+    assert_eq!(planned(8, 7), Err(Refusal(11)));
+    assert_eq!(planned(0, 0), Err(Refusal(11)));
+    assert_eq!(planned(8, 8), Ok(()));
+    assert_eq!(planned(11, 9), Ok(()));
 }
 
-/// What thirty numbers stand for that no `Asked` has: any mark above 0 is set, a number too large is the largest of its kind.
+/// What thirty numbers stand for that no `Request` has: any mark above 0 is set, a number too large is the largest of its kind.
 #[test]
-fn asked_by_any_numbers() {
-    let (asked, lists) = first_lists();
+fn request_by_any_numbers() {
+    let (request, lists) = first_lists();
     let planned = |numbers: [u64; 30]| {
         let (mut out, mut rows, mut columns) = ([77; 16], marked(5), marked(5));
         let answer = plan_lists_into(&numbers, &lists, &mut out, &mut rows, &mut columns);
@@ -514,7 +537,7 @@ fn asked_by_any_numbers() {
         changes.iter().for_each(|&(at, to)| numbers[at] = to);
         numbers
     };
-    let whole = Asked {
+    let whole = Request {
         landscape: true,
         margins: Some([0.5; 6]),
         percent: Some(u16::MAX),
@@ -524,7 +547,7 @@ fn asked_by_any_numbers() {
         headings: true,
         row_title: Some((0, 0)),
         column_title: Some((1, u32::MAX)),
-        ..asked.clone()
+        ..request.clone()
     };
     let numbers = whole.numbers();
     let most = u64::MAX;
@@ -538,7 +561,7 @@ fn asked_by_any_numbers() {
     }
     // numbers behind a mark that is not set are not looked at
     let unset = [(1, 9), (4, most), (9, 1), (11, 7), (14, 3), (16, 3), (25, 1), (26, 0), (28, 1), (29, 0)];
-    let numbers = changed(asked.numbers(), &[(0, 0)]);
+    let numbers = changed(request.numbers(), &[(0, 0)]);
     assert_eq!(planned(changed(numbers, &unset)), planned(numbers));
     // a range past every u32 is outside the grid, not cut off to its low bits
     assert_eq!(planned(changed(numbers, &[(22, 4_294_967_298)])).0, Err(Refusal(7)));
@@ -552,7 +575,7 @@ fn asked_by_any_numbers() {
 #[test]
 fn a_million_rows() {
     let rows = 1_000_000;
-    let asked = Asked { page_limit: u64::MAX, last_row: rows - 1, ..Asked::default() };
+    let request = Request { page_limit: u64::MAX, last_row: rows - 1, ..Request::default() };
     let lists = Lists {
         row_indexes: (0..rows).collect(),
         row_sizes: vec![20_480; rows as usize],
@@ -561,7 +584,7 @@ fn a_million_rows() {
         row_breaks: vec![500_001],
         ..Lists::default()
     };
-    let plan = Plan::of_lists(&asked, &lists).expect("a plan");
+    let plan = Plan::of_lists(&request, &lists).expect("a plan");
     let runs = plan.row_runs();
     assert_eq!(plan.pages(), runs.len() as u64);
     assert_eq!((runs[0].first, runs[0].last, runs[0].size), (0, 44, 45 * 20_480));
@@ -569,7 +592,7 @@ fn a_million_rows() {
     assert_eq!(runs.iter().map(|run| run.size).sum::<u64>(), 20_480 * u64::from(rows));
     let broken: Vec<u32> = runs.iter().filter(|run| run.manual_break).map(|run| run.first).collect();
     assert_eq!(broken, [500_001]);
-    let fitted = Plan::of_lists(&Asked { fit: true, fit_height: Some(3_000), ..asked }, &lists).expect("a plan");
+    let fitted = Plan::of_lists(&Request { fit: true, fit_height: Some(3_000), ..request }, &lists).expect("a plan");
     assert!(fitted.pages() <= 3_000, "{} pages", fitted.pages());
     assert_eq!(fitted.notes(), [0; 9]);
 }

@@ -9,14 +9,17 @@ use std::io::{self, Write};
 /// The most bytes of a job. More are refused with 1.
 pub const MOST_BYTES: usize = 60_000;
 
-/// Run lists of so many entries have room for the runs of every job: none is refused with 11.
+/// Lists with room for so many runs have room for those of every job: none is refused with 11.
 pub const MOST_RUNS: usize = 5_000;
+
+/// How many numbers a run has in a list of runs: first, last, size, and above 0 where a manual break stands before it.
+pub const RUN_NUMBERS: usize = 4;
 
 /// The numbers of a plan: permille, row runs, column runs, rows empty, columns empty, pages, order, nine notes.
 pub type Numbers = [u64; 16];
 
-/// What is asked of a plan of lists, as numbers; [`Asked::numbers`] has their order. Any numbers have an answer.
-pub type AskedNumbers = [u64; 30];
+/// What is asked of a plan of lists, as numbers; [`Request::numbers`] has their order. Any numbers have an answer.
+pub type RequestNumbers = [u64; 30];
 
 /// The bytes that a block of page lines has room for.
 const BLOCK: usize = 65_536;
@@ -28,26 +31,14 @@ mod raw {
             bytes: *const u8,
             bytes_len: usize,
             numbers: *mut [u64; 16],
-            row_run_firsts: *mut u32,
-            row_run_firsts_len: usize,
-            row_run_lasts: *mut u32,
-            row_run_lasts_len: usize,
-            row_run_sizes: *mut u64,
-            row_run_sizes_len: usize,
-            row_run_marks: *mut u8,
-            row_run_marks_len: usize,
-            column_run_firsts: *mut u32,
-            column_run_firsts_len: usize,
-            column_run_lasts: *mut u32,
-            column_run_lasts_len: usize,
-            column_run_sizes: *mut u64,
-            column_run_sizes_len: usize,
-            column_run_marks: *mut u8,
-            column_run_marks_len: usize,
+            row_runs: *mut u64,
+            row_runs_len: usize,
+            column_runs: *mut u64,
+            column_runs_len: usize,
         ) -> u8;
 
         pub fn yuzhbani_plan_lists(
-            asked: *const [u64; 30],
+            request: *const [u64; 30],
             row_indexes: *const u32,
             row_indexes_len: usize,
             row_sizes: *const u64,
@@ -69,43 +60,19 @@ mod raw {
             column_breaks: *const u32,
             column_breaks_len: usize,
             numbers: *mut [u64; 16],
-            row_run_firsts: *mut u32,
-            row_run_firsts_len: usize,
-            row_run_lasts: *mut u32,
-            row_run_lasts_len: usize,
-            row_run_sizes: *mut u64,
-            row_run_sizes_len: usize,
-            row_run_marks: *mut u8,
-            row_run_marks_len: usize,
-            column_run_firsts: *mut u32,
-            column_run_firsts_len: usize,
-            column_run_lasts: *mut u32,
-            column_run_lasts_len: usize,
-            column_run_sizes: *mut u64,
-            column_run_sizes_len: usize,
-            column_run_marks: *mut u8,
-            column_run_marks_len: usize,
+            row_runs: *mut u64,
+            row_runs_len: usize,
+            column_runs: *mut u64,
+            column_runs_len: usize,
         ) -> u8;
 
         pub fn yuzhbani_page(
             numbers: *const [u64; 16],
             number: u64,
-            row_firsts: *const u32,
-            row_firsts_len: usize,
-            row_lasts: *const u32,
-            row_lasts_len: usize,
-            row_sizes: *const u64,
-            row_sizes_len: usize,
-            row_marks: *const u8,
-            row_marks_len: usize,
-            column_firsts: *const u32,
-            column_firsts_len: usize,
-            column_lasts: *const u32,
-            column_lasts_len: usize,
-            column_sizes: *const u64,
-            column_sizes_len: usize,
-            column_marks: *const u8,
-            column_marks_len: usize,
+            row_runs: *const u64,
+            row_runs_len: usize,
+            column_runs: *const u64,
+            column_runs_len: usize,
             page: *mut [u64; 12],
         ) -> u8;
 
@@ -114,22 +81,10 @@ mod raw {
         pub fn yuzhbani_block(
             numbers: *const [u64; 16],
             next: *mut u64,
-            row_firsts: *const u32,
-            row_firsts_len: usize,
-            row_lasts: *const u32,
-            row_lasts_len: usize,
-            row_sizes: *const u64,
-            row_sizes_len: usize,
-            row_marks: *const u8,
-            row_marks_len: usize,
-            column_firsts: *const u32,
-            column_firsts_len: usize,
-            column_lasts: *const u32,
-            column_lasts_len: usize,
-            column_sizes: *const u64,
-            column_sizes_len: usize,
-            column_marks: *const u8,
-            column_marks_len: usize,
+            row_runs: *const u64,
+            row_runs_len: usize,
+            column_runs: *const u64,
+            column_runs_len: usize,
             out: *mut [u8; 65_536],
         ) -> usize;
     }
@@ -180,33 +135,28 @@ pub struct Page {
     pub columns: Run,
 }
 
-/// The runs of an axis in four lists, which are lent to a plan. Four that are not equally long are refused with 6.
-#[derive(Debug, Clone, PartialEq, Eq)]
-pub struct RunLists {
-    pub firsts: Vec<u32>,
-    pub lasts: Vec<u32>,
-    pub sizes: Vec<u64>,
-    pub marks: Vec<u8>,
+/// A list with room for so many runs, to be lent to a plan.
+pub fn run_list(runs: usize) -> Vec<u64> {
+    vec![0; RUN_NUMBERS * runs]
 }
 
-impl RunLists {
-    /// Lists with room for so many runs.
-    pub fn with_room(runs: usize) -> Self {
-        Self { firsts: vec![0; runs], lasts: vec![0; runs], sizes: vec![0; runs], marks: vec![0; runs] }
-    }
-
-    /// The first `count` runs, as far as the lists have them.
-    fn runs(&self, count: u64, empty_body: bool) -> Vec<Run> {
-        let count = usize::try_from(count).unwrap_or(usize::MAX);
-        let lists = self.firsts.iter().zip(&self.lasts).zip(&self.sizes).zip(&self.marks);
-        let run = |(((&first, &last), &size), &mark)| Run { first, last, size, empty_body, manual_break: mark > 0 };
-        lists.map(run).take(count).collect()
-    }
+/// The first `count` runs of a list, as far as it has them. An index above all that a `u32` holds is the largest, as on a page.
+fn runs_in(list: &[u64], count: u64, empty_body: bool) -> Vec<Run> {
+    let index = |number: u64| u32::try_from(number).unwrap_or(u32::MAX);
+    let run = |run: &[u64]| Run {
+        first: index(run[0]),
+        last: index(run[1]),
+        size: run[2],
+        empty_body,
+        manual_break: run[3] > 0,
+    };
+    let count = usize::try_from(count).unwrap_or(usize::MAX);
+    list.chunks_exact(RUN_NUMBERS).take(count).map(run).collect()
 }
 
 /// What is asked of a plan of lists, beside the lists: settings, range and titles. `Default` is a range of one cell, and nothing else.
 #[derive(Debug, Clone, PartialEq)]
-pub struct Asked {
+pub struct Request {
     pub paper: Option<u16>,
     pub landscape: bool,
     /// Left, right, top, bottom, header and footer, in inches.
@@ -228,7 +178,7 @@ pub struct Asked {
     pub column_title: Option<(u32, u32)>,
 }
 
-impl Default for Asked {
+impl Default for Request {
     fn default() -> Self {
         Self {
             paper: None,
@@ -251,10 +201,10 @@ impl Default for Asked {
     }
 }
 
-impl Asked {
+impl Request {
     /// Paper given, paper; landscape; margins given, six margins' bits; percent given, percent; fit; width's target given, target; height's
     /// target given, target; order; headings; page limit; range; row title given, first, last; column title given, first, last.
-    pub fn numbers(&self) -> AskedNumbers {
+    pub fn numbers(&self) -> RequestNumbers {
         let setting = |set: Option<u16>| [u64::from(set.is_some()), u64::from(set.unwrap_or(0))];
         let title = |set: Option<(u32, u32)>| {
             let (first, last) = set.unwrap_or((0, 0));
@@ -293,7 +243,7 @@ pub struct Lists {
 }
 
 /// Plans a job: the plan's numbers go to `numbers`, its runs to the fronts of the lists. A refusal writes nothing.
-pub fn plan_into(bytes: &[u8], numbers: &mut Numbers, rows: &mut RunLists, columns: &mut RunLists) -> Result<(), Refusal> {
+pub fn plan_into(bytes: &[u8], numbers: &mut Numbers, row_runs: &mut [u64], column_runs: &mut [u64]) -> Result<(), Refusal> {
     // Safe: each pointer and length are those of a slice or an array that is borrowed over the call, and what is lent as
     // `&mut` is lent once.
     answered(unsafe {
@@ -301,38 +251,26 @@ pub fn plan_into(bytes: &[u8], numbers: &mut Numbers, rows: &mut RunLists, colum
             bytes.as_ptr(),
             bytes.len(),
             numbers,
-            rows.firsts.as_mut_ptr(),
-            rows.firsts.len(),
-            rows.lasts.as_mut_ptr(),
-            rows.lasts.len(),
-            rows.sizes.as_mut_ptr(),
-            rows.sizes.len(),
-            rows.marks.as_mut_ptr(),
-            rows.marks.len(),
-            columns.firsts.as_mut_ptr(),
-            columns.firsts.len(),
-            columns.lasts.as_mut_ptr(),
-            columns.lasts.len(),
-            columns.sizes.as_mut_ptr(),
-            columns.sizes.len(),
-            columns.marks.as_mut_ptr(),
-            columns.marks.len(),
+            row_runs.as_mut_ptr(),
+            row_runs.len(),
+            column_runs.as_mut_ptr(),
+            column_runs.len(),
         )
     })
 }
 
 /// Plans lists: as [`plan_into`], with what is asked as numbers and without a bound but the grid's on the lists.
 pub fn plan_lists_into(
-    asked: &AskedNumbers,
+    request: &RequestNumbers,
     lists: &Lists,
     numbers: &mut Numbers,
-    rows: &mut RunLists,
-    columns: &mut RunLists,
+    row_runs: &mut [u64],
+    column_runs: &mut [u64],
 ) -> Result<(), Refusal> {
     // Safe: as in `plan_into`.
     answered(unsafe {
         raw::yuzhbani_plan_lists(
-            asked,
+            request,
             lists.row_indexes.as_ptr(),
             lists.row_indexes.len(),
             lists.row_sizes.as_ptr(),
@@ -354,51 +292,27 @@ pub fn plan_lists_into(
             lists.column_breaks.as_ptr(),
             lists.column_breaks.len(),
             numbers,
-            rows.firsts.as_mut_ptr(),
-            rows.firsts.len(),
-            rows.lasts.as_mut_ptr(),
-            rows.lasts.len(),
-            rows.sizes.as_mut_ptr(),
-            rows.sizes.len(),
-            rows.marks.as_mut_ptr(),
-            rows.marks.len(),
-            columns.firsts.as_mut_ptr(),
-            columns.firsts.len(),
-            columns.lasts.as_mut_ptr(),
-            columns.lasts.len(),
-            columns.sizes.as_mut_ptr(),
-            columns.sizes.len(),
-            columns.marks.as_mut_ptr(),
-            columns.marks.len(),
+            row_runs.as_mut_ptr(),
+            row_runs.len(),
+            column_runs.as_mut_ptr(),
+            column_runs.len(),
         )
     })
 }
 
 /// The page with a number, from 1 to the count, of a plan's numbers and the lists that were lent to it. Numbers and lists that
-/// were changed have an answer too: 6, 11, 14, or the page that they hold at that place.
-pub fn page_of(numbers: &Numbers, number: u64, rows: &RunLists, columns: &RunLists) -> Result<Page, Refusal> {
+/// were changed have an answer too: 11, 14, or the page that they hold at that place.
+pub fn page_of(numbers: &Numbers, number: u64, row_runs: &[u64], column_runs: &[u64]) -> Result<Page, Refusal> {
     let mut page = [0; 12];
     // Safe: as in `plan_into`.
     answered(unsafe {
         raw::yuzhbani_page(
             numbers,
             number,
-            rows.firsts.as_ptr(),
-            rows.firsts.len(),
-            rows.lasts.as_ptr(),
-            rows.lasts.len(),
-            rows.sizes.as_ptr(),
-            rows.sizes.len(),
-            rows.marks.as_ptr(),
-            rows.marks.len(),
-            columns.firsts.as_ptr(),
-            columns.firsts.len(),
-            columns.lasts.as_ptr(),
-            columns.lasts.len(),
-            columns.sizes.as_ptr(),
-            columns.sizes.len(),
-            columns.marks.as_ptr(),
-            columns.marks.len(),
+            row_runs.as_ptr(),
+            row_runs.len(),
+            column_runs.as_ptr(),
+            column_runs.len(),
             &mut page,
         )
     })?;
@@ -422,29 +336,17 @@ pub fn head_of(answer: u8, numbers: &Numbers) -> String {
 
 /// Lines of pages from the number `next` on, as many as a block of bytes has room for, and moves `next` past them. No lines: there
 /// is no page with that number.
-pub fn block_of(numbers: &Numbers, next: &mut u64, rows: &RunLists, columns: &RunLists) -> Vec<u8> {
+pub fn block_of(numbers: &Numbers, next: &mut u64, row_runs: &[u64], column_runs: &[u64]) -> Vec<u8> {
     let mut out = Box::new([0; BLOCK]);
     // Safe: as in `plan_into`.
     let end = unsafe {
         raw::yuzhbani_block(
             numbers,
             next,
-            rows.firsts.as_ptr(),
-            rows.firsts.len(),
-            rows.lasts.as_ptr(),
-            rows.lasts.len(),
-            rows.sizes.as_ptr(),
-            rows.sizes.len(),
-            rows.marks.as_ptr(),
-            rows.marks.len(),
-            columns.firsts.as_ptr(),
-            columns.firsts.len(),
-            columns.lasts.as_ptr(),
-            columns.lasts.len(),
-            columns.sizes.as_ptr(),
-            columns.sizes.len(),
-            columns.marks.as_ptr(),
-            columns.marks.len(),
+            row_runs.as_ptr(),
+            row_runs.len(),
+            column_runs.as_ptr(),
+            column_runs.len(),
             &mut *out,
         )
     };
@@ -455,25 +357,24 @@ pub fn block_of(numbers: &Numbers, next: &mut u64, rows: &RunLists, columns: &Ru
 #[derive(Debug, Clone, PartialEq, Eq)]
 pub struct Plan {
     numbers: Numbers,
-    rows: RunLists,
-    columns: RunLists,
+    rows: Vec<u64>,
+    columns: Vec<u64>,
 }
 
 impl Plan {
-    /// Plans a job, with run lists that have room for the runs of every job.
+    /// Plans a job, with lists that have room for the runs of every job.
     pub fn of(bytes: &[u8]) -> Result<Self, Refusal> {
-        let lists = || RunLists::with_room(MOST_RUNS);
-        let mut plan = Self { numbers: [0; 16], rows: lists(), columns: lists() };
+        let mut plan = Self { numbers: [0; 16], rows: run_list(MOST_RUNS), columns: run_list(MOST_RUNS) };
         plan_into(bytes, &mut plan.numbers, &mut plan.rows, &mut plan.columns)?;
         Ok(plan)
     }
 
-    /// Plans lists, with run lists that have room for a run of each slot.
-    pub fn of_lists(asked: &Asked, lists: &Lists) -> Result<Self, Refusal> {
-        let room = |slots: &[u32]| RunLists::with_room(slots.len().max(1));
+    /// Plans lists, with lists of runs that have room for a run of each slot.
+    pub fn of_lists(request: &Request, lists: &Lists) -> Result<Self, Refusal> {
+        let room = |slots: &[u32]| run_list(slots.len().max(1));
         let (rows, columns) = (room(&lists.row_indexes), room(&lists.column_indexes));
         let mut plan = Self { numbers: [0; 16], rows, columns };
-        plan_lists_into(&asked.numbers(), lists, &mut plan.numbers, &mut plan.rows, &mut plan.columns)?;
+        plan_lists_into(&request.numbers(), lists, &mut plan.numbers, &mut plan.rows, &mut plan.columns)?;
         Ok(plan)
     }
 
@@ -483,11 +384,11 @@ impl Plan {
     }
 
     pub fn row_runs(&self) -> Vec<Run> {
-        self.rows.runs(self.numbers[1], self.numbers[3] > 0)
+        runs_in(&self.rows, self.numbers[1], self.numbers[3] > 0)
     }
 
     pub fn column_runs(&self) -> Vec<Run> {
-        self.columns.runs(self.numbers[2], self.numbers[4] > 0)
+        runs_in(&self.columns, self.numbers[2], self.numbers[4] > 0)
     }
 
     pub fn pages(&self) -> u64 {

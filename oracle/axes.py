@@ -10,7 +10,8 @@ ROWS, COLUMNS = 0, 1
 LIMITS = (1048575, 16383)
 LARGEST = 1073741823  # of a slot's size
 U32, U64 = 2**32 - 1, 2**64 - 1
-MOST = 24  # of a list
+MOST = 24  # of a list that is read
+NUMBERS = 4 * MOST + 3  # of a list of runs
 
 
 # ---- a line
@@ -27,17 +28,32 @@ class Axis:
     firsts: list = field(default_factory=list)  # of the merges
     lasts: list = field(default_factory=list)
     breaks: list = field(default_factory=list)
-    lent: tuple = (0, 0, 0, 0)
+    lent: tuple = (0, 0, 0, 0)  # how many firsts, lasts, sizes and marks of runs
+
+
+def numbers(lent):
+    """How many numbers a lent list of runs has: four a run, and one for each of the four of which there is more."""
+    return 4 * min(lent) + sum(count > min(lent) for count in lent)
+
+
+def parts(count):
+    """How many firsts, lasts, sizes and marks a list of so many numbers has."""
+    return tuple((count + 3 - place) // 4 for place in range(4))
 
 
 def lengths(a):
-    return (*map(len, (a.indexes, a.sizes, a.firsts, a.lasts, a.breaks)), *a.lent)
+    return tuple(map(len, (a.indexes, a.sizes, a.firsts, a.lasts, a.breaks)))
+
+
+def fits(a):
+    """Whether a line can have the axis's lists."""
+    return max(lengths(a)) <= MOST and numbers(a.lent) <= NUMBERS
 
 
 def line(letter, a):
-    assert max(lengths(a)) <= MOST, lengths(a)
+    assert fits(a), (lengths(a), a.lent)
     title = a.title or (0, 0)
-    head = (a.columns, a.title is not None, *lengths(a), *a.range, *title, *a.capacities)
+    shorts = (a.columns, a.title is not None, *lengths(a), numbers(a.lent))
     tail = "".join(
         (
             " %08x" * len(a.indexes) % tuple(a.indexes),
@@ -47,7 +63,8 @@ def line(letter, a):
             " %08x" * len(a.breaks) % tuple(a.breaks),
         )
     )
-    return letter + " %02x" * 11 % head[:11] + " %08x" * 4 % head[11:15] + " %016x" * 2 % head[15:] + tail + "\n"
+    head = " %02x" * 8 % shorts + " %08x" * 4 % (*a.range, *title) + " %016x" * 2 % a.capacities
+    return letter + head + tail + "\n"
 
 
 # ---- drawing
@@ -204,7 +221,7 @@ def breaks_drawn(r, indexes, places):
 
 
 def room_drawn(r, count):
-    """Places in the lent lists: enough, or any number up to that."""
+    """Room for runs in the lent list: enough, or any number up to that."""
     room = count + below(r, 3) if chance(r, 0.6) else below(r, count + 1)
     return (min(room, MOST),) * 4
 
@@ -235,7 +252,7 @@ def axis_drawn(r):
     )
 
 
-# ---- faults: each makes the answer a refusal, where the axis has what it spoils
+# ---- faults: each but lent_by_one makes the answer a refusal, where the axis has what it spoils
 
 
 def shorter(r, a, names):
@@ -247,7 +264,8 @@ def shorter(r, a, names):
     return replace(a, **{name: values + [pick(r, (0, 7))]})
 
 
-def lent_uneven(r, a):
+def lent_by_one(r, a):
+    """The lent list with a number more or less."""
     lent = list(a.lent)
     at = below(r, 4)
     lent[at] = lent[at] - 1 if lent[at] == MOST or lent[at] and chance(r, 0.5) else lent[at] + 1
@@ -322,7 +340,7 @@ TITLE_FAULTS = (
 
 AXIS_FAULTS = (
     lambda r, a: shorter(r, a, ("indexes", "sizes")),
-    lent_uneven,
+    lent_by_one,
     range_reversed,
     range_outside,
     index_falls,
@@ -337,7 +355,7 @@ def spoilt(r, a, faults):
     """At times a fault, at times several. One that makes a list longer than a line can have is left out."""
     while chance(r, 0.12):
         worse = pick(r, faults)(r, a)
-        if max(lengths(worse)) <= MOST:
+        if fits(worse):
             a = worse
     return a
 
@@ -484,12 +502,12 @@ def capacities_in_five():
 
 
 def rooms():
-    """As many places as runs, fewer, more; each list by itself shorter or longer."""
+    """Room for as many runs as there are, fewer, more; and numbers that make up no run."""
     for room in range(7):
         yield replace(FIVE, lent=(room,) * 4)
         yield replace(FIVE, lent=(room,) * 4, title=(0, 4))
-    for at, by in itertools.product(range(4), (-1, 1)):
-        yield replace(FIVE, lent=tuple(6 + by * (k == at) for k in range(4)))
+    for count in (1, 2, 3, 9, 10, 11, 13, 14, 15, NUMBERS - 2, NUMBERS - 1, NUMBERS):
+        yield replace(FIVE, lent=parts(count))
 
 
 def grid_ends(columns):
@@ -510,7 +528,7 @@ def single_faults(columns):
     faults = {
         "range": ("range", (5, 4)),
         "merge": ("firsts", [3]),
-        "lent": ("lent", (6, 6, 5, 6)),
+        "a number short": ("lent", parts(11)),
         "slots": ("sizes", [10] * 4 + [LARGEST + 1] * 2),
         "outside": ("range", (0, limit + 1)),
         "merge outside": ("lasts", [limit + 1]),

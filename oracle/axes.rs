@@ -4,8 +4,8 @@
 // The fields of a line, each a space and so many hexadecimal digits:
 //
 //     2   axis, 0 rows or 1 columns; title, 0 absent or 1 given
-//     2   nine lengths: indexes, sizes, merges' firsts, merges' lasts, breaks, and the lent lists of
-//         runs' firsts, lasts, sizes and marks
+//     2   six lengths: indexes, sizes, merges' firsts, merges' lasts, breaks, and the numbers of the
+//         lent list of runs
 //     8   the range's first and last, the title's first and last
 //     16  capacity untitled, capacity titled
 //     8   the indexes
@@ -15,10 +15,11 @@
 //     t   titles: normalize_repeat and expand_repeat_for_merges, of title and merges alone
 //     r   runs: the body as prepare_print_area makes it, and partition_axis_with_breaks
 //
-// A lent list starts with numbers of its own, each place another. The answer to t is `title`, first
+// A lent list of runs has four numbers a run: first, last, size, and 1 where a manual break stands
+// before it. It starts with numbers of its own, each place another. The answer to t is `title`, first
 // and last, or `absent`, and then the notes of titles ignored and expanded. The answer to r is `runs`,
-// the counts of runs, expansions and shifts, and then the four lent lists, whole, each after a `;`.
-// A refusal is `no` and its number; of r the lent lists follow here too.
+// the counts of runs, expansions and shifts, and then the lent list, whole, after a `;`. A refusal is
+// `no` and its number; of r the lent list follows here too.
 //
 // The Rust has no counterpart of the questions: they are asked here. Its columns are u16 and its
 // capacities i64. A title or a break beyond u16, or a capacity beyond i64, is handed over as the
@@ -119,53 +120,49 @@ struct Input {
     lent: Lent,
 }
 
-struct Lent {
-    firsts: Vec<u32>,
-    lasts: Vec<u32>,
-    sizes: Vec<u64>,
-    marks: Vec<u8>,
-}
+/// How many numbers a run has in a list.
+const RUN_NUMBERS: usize = 4;
 
 /// The numbers that lent lists start with.
-type Starts = (u32, u32, u64, u8);
+const ROWS_START: u64 = 2_000_000;
+const COLUMNS_START: u64 = 2_500_000;
 
-const ROW_STARTS: Starts = (2_000_000, 3_000_000, 4_000_000, 200);
+/// A lent list of runs.
+struct Lent(Vec<u64>);
 
 impl Lent {
-    fn new(lengths: &[usize], starts: Starts) -> Self {
-        Self {
-            firsts: (starts.0..).take(lengths[0]).collect(),
-            lasts: (starts.1..).take(lengths[1]).collect(),
-            sizes: (starts.2..).take(lengths[2]).collect(),
-            marks: (starts.3..).take(lengths[3]).collect(),
-        }
+    /// So many numbers, from one on.
+    fn new(length: usize, start: u64) -> Self {
+        Self((start..).take(length).collect())
     }
 
-    /// Lists of so many zeros.
-    fn zeros(length: usize) -> Self {
-        Self {
-            firsts: vec![0; length],
-            lasts: vec![0; length],
-            sizes: vec![0; length],
-            marks: vec![0; length],
-        }
+    /// Zeros, with room for so many runs.
+    fn zeros(runs: usize) -> Self {
+        Self(vec![0; RUN_NUMBERS * runs])
     }
 
-    /// The lists with marks that rise from 0 to the highest, and start again.
-    fn marked_to(mut self, highest: u64) -> Self {
-        for (at, mark) in self.marks.iter_mut().enumerate() {
-            *mark = (at as u64 % (highest + 1)) as u8;
+    /// The list with a mark of 0 on the first run, and after so many others again.
+    fn marked(mut self, others: usize) -> Self {
+        for run in self.0.chunks_exact_mut(RUN_NUMBERS).step_by(others + 1) {
+            run[3] = 0;
         }
         self
     }
 
-    fn even(&self) -> bool {
-        [self.lasts.len(), self.sizes.len(), self.marks.len()] == [self.firsts.len(); 3]
+    /// How many runs the list has room for.
+    fn room(&self) -> usize {
+        self.0.len() / RUN_NUMBERS
+    }
+
+    fn write(&mut self, runs: &[AxisSegment<u32>]) {
+        for (numbers, run) in self.0.chunks_exact_mut(RUN_NUMBERS).zip(runs) {
+            let mark = u64::from(run.manual_break_before);
+            numbers.copy_from_slice(&[run.first.into(), run.last.into(), run.size.raw() as u64, mark]);
+        }
     }
 
     fn text(&self) -> String {
-        let (firsts, lasts) = (spelt(&self.firsts), spelt(&self.lasts));
-        format!(";{firsts};{lasts};{};{}", spelt(&self.sizes), spelt(&self.marks))
+        format!(";{}", spelt(&self.0))
     }
 }
 
@@ -209,7 +206,7 @@ fn input(line: &str) -> Input {
     let mut fields = Fields(&line[1..]);
     let columns = fields.flag();
     let given = fields.flag();
-    let lengths: Vec<usize> = (0..9).map(|_| fields.next(2) as usize).collect();
+    let lengths: Vec<usize> = (0..6).map(|_| fields.next(2) as usize).collect();
     let (first, last) = (fields.number(), fields.number());
     let title = (fields.number(), fields.number());
     let input = Input {
@@ -224,7 +221,7 @@ fn input(line: &str) -> Input {
         merge_firsts: fields.numbers(lengths[2]),
         merge_lasts: fields.numbers(lengths[3]),
         breaks: fields.numbers(lengths[4]),
-        lent: Lent::new(&lengths[5..], ROW_STARTS),
+        lent: Lent::new(lengths[5], ROWS_START),
     };
     assert_eq!(fields.0, "", "more than the fields in {line:?}");
     input
@@ -250,10 +247,6 @@ impl Input {
         self.merge_lasts.iter().all(|&last| last <= self.limit())
     }
 
-    fn lists_even(&self) -> bool {
-        self.indexes.len() == self.sizes.len() && self.lent.even()
-    }
-
     fn indexes_rise_inside(&self) -> bool {
         self.indexes.windows(2).all(|pair| pair[0] < pair[1])
             && self.indexes.iter().all(|&index| index <= self.limit())
@@ -268,7 +261,7 @@ impl Input {
     /// The first question that an axis does not pass, but for 11.
     fn runs_refused(&self) -> Option<u8> {
         let passed = [
-            (6, self.lists_even() && self.first <= self.last && self.merges_pair_up()),
+            (6, self.indexes.len() == self.sizes.len() && self.first <= self.last && self.merges_pair_up()),
             (7, self.last <= self.limit() && self.merges_inside()),
             (8, self.indexes_rise_inside()),
             (9, self.sizes.iter().all(|&size| size <= LARGEST_SIZE)),
@@ -363,15 +356,6 @@ fn plain<I: Index>(segments: Vec<AxisSegment<I>>) -> Vec<AxisSegment<u32>> {
     runs.collect()
 }
 
-fn write(runs: &[AxisSegment<u32>], lent: &mut Lent) {
-    for (at, run) in runs.iter().enumerate() {
-        lent.firsts[at] = run.first;
-        lent.lasts[at] = run.last;
-        lent.sizes[at] = run.size.raw() as u64;
-        lent.marks[at] = u8::from(run.manual_break_before);
-    }
-}
-
 fn runs(mut input: Input) -> String {
     if let Some(number) = input.runs_refused() {
         return format!("no {number}{}", input.lent.text());
@@ -381,9 +365,9 @@ fn runs(mut input: Input) -> String {
     } else {
         cut::<u32>(&input)
     };
-    if runs.len() > input.lent.firsts.len() {
+    if runs.len() > input.lent.room() {
         return format!("no 11{}", input.lent.text());
     }
-    write(&runs, &mut input.lent);
+    input.lent.write(&runs);
     format!("runs {} {expansions} {shifts}{}", runs.len(), input.lent.text())
 }

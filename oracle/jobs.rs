@@ -15,7 +15,7 @@ include!("plans.rs");
 /// 1: the most bytes of a job.
 const MOST_BYTES: usize = 60_000;
 
-/// The entries of a run list.
+/// The runs that a list has room for.
 const RUN_ENTRIES: usize = 5_000;
 
 /// The page limit where none is given.

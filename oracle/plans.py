@@ -7,7 +7,8 @@ import itertools
 from dataclasses import dataclass, field, replace
 
 import axes
-from axes import COLUMNS, LARGEST, LIMITS, MOST, ROWS, U32, U64, Axis, below, chance, clamped, pick
+from axes import COLUMNS, LARGEST, LIMITS, MOST, NUMBERS, ROWS, U32, U64, Axis
+from axes import below, chance, clamped, numbers, parts, pick
 from margins import INFINITY, NAN, PAPER_SIZES, UNITS, bits, margins_drawn, stepped
 
 DEFAULTS = (0.7, 0.7, 0.75, 0.75, 0.3, 0.3)
@@ -43,8 +44,8 @@ class Plan:
     columns: Axis = field(default_factory=columns_axis)
 
 
-def spelt(form, numbers):
-    return form * len(numbers) % tuple(numbers)
+def spelt(form, values):
+    return form * len(values) % tuple(values)
 
 
 def line(p):
@@ -57,15 +58,15 @@ def line(p):
         + (rows.firsts, columns.firsts, rows.lasts, columns.lasts)
         + (rows.breaks, columns.breaks)
     )
-    lengths = (*map(len, lists), *rows.lent, *columns.lent)
-    assert max(lengths) <= MOST, lengths
+    assert axes.fits(rows) and axes.fits(columns), (rows, columns)
+    shorts = (*flags, *map(len, lists), numbers(rows.lent), numbers(columns.lent))
     (top, bottom), (left, right) = rows.range, columns.range
-    numbers = (p.paper or 0, p.percent or 0, p.width or 0, p.height or 0, top, left, bottom, right)
+    asked = (p.paper or 0, p.percent or 0, p.width or 0, p.height or 0, top, left, bottom, right)
     titles = (*(rows.title or (0, 0)), *(columns.title or (0, 0)))
-    parts = [spelt(" %02x", flags + lengths), spelt(" %08x", numbers + titles), f" {p.limit:016x}"]
-    parts.append(spelt(" %016x", [bits(margin) for margin in p.margins or ()]))
-    parts += [spelt(" %016x" if at in (1, 3) else " %08x", numbers) for at, numbers in enumerate(lists)]
-    return "p" + "".join(parts) + "\n"
+    fields = [spelt(" %02x", shorts), spelt(" %08x", asked + titles), f" {p.limit:016x}"]
+    fields.append(spelt(" %016x", [bits(margin) for margin in p.margins or ()]))
+    fields += [spelt(" %016x" if at in (1, 3) else " %08x", values) for at, values in enumerate(lists)]
+    return "p" + "".join(fields) + "\n"
 
 
 # ---- the content's sides, near enough to draw sizes by
@@ -212,7 +213,7 @@ def plan_title(r, indexes, ends, places, limit):
 
 
 def lent_drawn(r, count):
-    """Places in the lent lists: enough, or any number up to that."""
+    """Room for runs in a lent list: enough, or any number up to that."""
     most = min(max(count, 1) + below(r, 3), MOST)
     return (below(r, most + 1) if chance(r, 0.12) else most,) * 4
 
@@ -261,11 +262,11 @@ def axis_drawn(r, p, columns):
 def merges_paired(p):
     """The plan with as many merges on one axis as on the other: those that lack get a single row or column."""
     count = max(len(p.rows.firsts), len(p.columns.firsts))
-    parts = []
+    paired = []
     for a in (p.rows, p.columns):
         more = [a.range[0]] * (count - len(a.firsts))
-        parts.append(replace(a, firsts=a.firsts + more, lasts=a.lasts + more))
-    return replace(p, rows=parts[0], columns=parts[1])
+        paired.append(replace(a, firsts=a.firsts + more, lasts=a.lasts + more))
+    return replace(p, rows=paired[0], columns=paired[1])
 
 
 def plan_drawn(r):
@@ -337,7 +338,7 @@ def merge_outside(r, p):
 FAULTS = (
     axis_fault(lambda r, a: axes.shorter(r, a, ("indexes", "sizes"))),
     axis_fault(lambda r, a: axes.shorter(r, a, ("firsts", "lasts"))),
-    axis_fault(axes.lent_uneven),
+    axis_fault(axes.lent_by_one),
     axis_fault(axes.range_reversed),
     axis_fault(axes.range_outside),
     axis_fault(axes.index_falls),
@@ -368,7 +369,7 @@ SMALL = (4.25, 417592 / UNITS, 5.5, 540472 / UNITS, 0.3, 0.3)
 
 
 def slots(columns, sizes, first=0):
-    """An axis of slots that follow each other, with its range, and places enough."""
+    """An axis of slots that follow each other, with its range, and room enough."""
     last = first + len(sizes) - 1
     indexes = list(range(first, last + 1))
     lent = (len(sizes) + 1,) * 4
@@ -467,15 +468,14 @@ def empty_bodies():
 
 
 def rooms():
-    """Limits about the count of 3 by 2 pages, lent lists about the runs, and each list alone shorter or longer."""
+    """Limits about the count of 3 by 2 pages, lent lists about the runs, and with numbers that make up no run."""
     for limit in (*range(8), U32, 2**63, U64):
         yield replace(FIVE, limit=limit)
     for high, wide in itertools.product(range(5), range(4)):
         yield replace(FIVE, rows=replace(FIVE.rows, lent=(high,) * 4), columns=replace(FIVE.columns, lent=(wide,) * 4))
-    for at, by in itertools.product(range(4), (-1, 1)):
-        lent = tuple(5 + by * (k == at) for k in range(4))
-        yield replace(FIVE, rows=replace(FIVE.rows, lent=lent))
-        yield replace(FIVE, columns=replace(FIVE.columns, lent=lent))
+    for count in (1, 7, 9, 10, 11, 13, 14, 15, NUMBERS - 2, NUMBERS - 1, NUMBERS):
+        yield replace(FIVE, rows=replace(FIVE.rows, lent=parts(count)))
+        yield replace(FIVE, columns=replace(FIVE.columns, lent=parts(count)))
 
 
 def many_pages():
@@ -504,11 +504,11 @@ def single_faults():
     """Each question's faults alone, and every two together."""
     base = merged(FIVE, [(1, 0, 2, 1)])
     faults = []
-    for name, a in (("rows", base.rows), ("columns", base.columns)):
+    for name, a, runs in (("rows", base.rows, 3), ("columns", base.columns, 2)):
         limit, count = LIMITS[a.columns], len(a.sizes)
         for change in (
             {"range": (5, 4)},
-            {"lent": (6, 6, 5, 6)},
+            {"lent": parts(4 * runs - 1)},
             {"sizes": a.sizes + [LARGEST + 1]},
             {"firsts": [3]},
             {"firsts": []},
@@ -560,17 +560,18 @@ def plan_limits():
 class Numbered:
     order: int = 0
     empty: tuple = (0, 0)
-    highest: tuple = (1, 2)  # of the marks
-    rows: tuple = (3, 3, 3, 3)  # lengths of lists
+    others: tuple = (1, 2)  # runs between two whose mark is 0
+    rows: tuple = (3, 3, 3, 3)  # the list of runs, as `lent` of an axis
     columns: tuple = (4, 4, 4, 4)
+    starts: tuple = (2000000, 2500000)  # of the lists' numbers
     runs: tuple = (2, 3)
     pages: int = 6
     number: int = 1
 
 
 def page_line(n):
-    shorts = (n.order, *n.empty, *n.highest, *n.rows, *n.columns)
-    return "n" + spelt(" %02x", shorts) + spelt(" %016x", (*n.runs, n.pages, n.number)) + "\n"
+    shorts = (n.order, *n.empty, *n.others, numbers(n.rows), numbers(n.columns))
+    return "n" + spelt(" %02x", shorts) + spelt(" %016x", (*n.starts, *n.runs, n.pages, n.number)) + "\n"
 
 
 def about(count):
@@ -583,17 +584,20 @@ def page_limits():
         for pages, number in itertools.product(about(count)[::2] + [count], about(count)):
             yield page_line(Numbered(order=order, runs=runs, pages=pages, number=number))
     for number in range(8):
-        yield page_line(Numbered(empty=(number % 2, number // 2 % 2), highest=(0, 0), number=number))
+        yield page_line(Numbered(empty=(number % 2, number // 2 % 2), others=(0, 0), number=number))
     for runs in ((3, 4), (4, 4), (3, 5), (4, 5), (U64, 1), (1, U64), (2**32, 2**32), (U64, U64)):
         yield page_line(Numbered(runs=runs, pages=U64, number=12))
-    for at, by in itertools.product(range(8), (-1, 1)):
-        lengths = tuple((3, 4)[k // 4] + by * (k == at) for k in range(8))
-        yield page_line(Numbered(rows=lengths[:4], columns=lengths[4:]))
-        yield page_line(Numbered(rows=lengths[:4], columns=lengths[4:], runs=(9, 9), number=0))
+    # lists about the runs, with numbers that make up no run
+    for rows, columns in itertools.product((0, *range(6, 12), NUMBERS), (0, *range(10, 16), NUMBERS)):
+        yield page_line(Numbered(rows=parts(rows), columns=parts(columns)))
+        yield page_line(Numbered(rows=parts(rows), columns=parts(columns), number=0))
+    # firsts, lasts and marks about the largest number of 32 bits
+    for start, number in itertools.product(range(U32 - 7, U32 + 2), range(1, 7)):
+        yield page_line(Numbered(starts=(start, start), number=number))
 
 
 def lengths_drawn(r, runs):
-    """Four lengths: enough for the runs, one short, or uneven."""
+    """A list of runs: with room enough, with room for one less, or with a number more or less."""
     lengths = [clamped(runs + pick(r, (0, 0, 0, 1, 2)), MOST)] * 4
     if chance(r, 0.08):
         lengths = [clamped(runs - 1, MOST)] * 4
@@ -612,8 +616,21 @@ def runs_drawn(r):
     return 1 + below(r, pick(r, (3, 6, 24)))
 
 
+# One after another, and not drawn: of rows and of columns, below 2^32, about it and beyond it.
+STARTS = (
+    (2000000, 2500000),
+    (2000000, U32 - 9),
+    (2000000, 2500000),
+    (U32 - 30, 2500000),
+    (2000000, 2500000),
+    (U32 - 50, U32 - 20),
+    (2000000, 2500000),
+    (2**63, U64 - NUMBERS),
+)
+
+
 def pages_drawn(r):
-    while True:
+    for starts in itertools.cycle(STARTS):
         runs = (runs_drawn(r), runs_drawn(r))
         count = runs[0] * runs[1] % 2**64
         pages = count if chance(r, 0.6) else pick(r, (below(r, count + 2), below(r, count + 2), count + 1, 0, U64))
@@ -623,9 +640,10 @@ def pages_drawn(r):
         n = Numbered(
             order=below(r, 2),
             empty=(below(r, 2), below(r, 2)),
-            highest=(below(r, 4), below(r, 4)),
+            others=(below(r, 4), below(r, 4)),
             rows=lengths_drawn(r, runs[0]),
             columns=lengths_drawn(r, runs[1]),
+            starts=starts,
             runs=runs,
             pages=pages % 2**64,
             number=number % 2**64,

@@ -6,9 +6,9 @@
 //     2   eleven flags, 0 or 1: paper given, landscape, percent given, fit, width's target given,
 //         height's target given, over then down, headings, row title given, column title given,
 //         margins given
-//     2   eighteen lengths: row indexes and sizes, column indexes and sizes, the merges' first rows,
-//         first columns, last rows and last columns, row breaks, column breaks, and the lent lists
-//         of row runs' firsts, lasts, sizes and marks, and of column runs'
+//     2   twelve lengths: row indexes and sizes, column indexes and sizes, the merges' first rows,
+//         first columns, last rows and last columns, row breaks, column breaks, and the numbers of
+//         the lent lists of row runs and of column runs
 //     8   paper, percent, width's target, height's target; the range's first row, first column, last
 //         row and last column; the row title's first and last, the column title's first and last
 //     16  the page limit
@@ -21,13 +21,16 @@
 //
 //     n   pages by their number, of plans that are not as they were answered
 //     2   three flags, 0 or 1: over then down, rows empty, columns empty
-//     2   the highest marks of row runs and of column runs: marks rise from 0 to it, and start again
-//     2   eight lengths: row runs' firsts, lasts, sizes and marks, and column runs'
+//     2   how many runs stand between two whose mark is 0, of rows and of columns; the first run has
+//         the mark 0
+//     2   how many numbers the lists of row runs and of column runs have
+//     16  the numbers that the two lists start with, from which each place has one more, but for the
+//         marks of 0
 //     16  row runs, column runs, pages, and the number of the page
 //
 // The answer to p is `plan`, the permille, the counts of row runs and column runs, whether rows and
 // columns are empty, the count of pages, the order (1 over then down), and the nine notes; then the
-// eight lent lists, whole, each after a `;`; then pages, each after a `;`: the number, and an answer
+// two lent lists, whole, each after a `;`; then pages, each after a `;`: the number, and an answer
 // as to n. Of twelve pages or fewer all are answered, with the numbers 0 and one above the count; of
 // more those that `asked` has. The answer to n is `page`, the vertical and the horizontal number, and
 // the two runs, each with first, last, size, empty mark and manual mark. A refusal is `no` and its
@@ -35,8 +38,6 @@
 //
 // After the questions, which the Rust does not ask, the chain is that of prepare_print_document and
 // prepare_print_area, line by line, over the slots that are given.
-
-const COLUMN_STARTS: Starts = (2_500_000, 3_500_000, 1_500_000, 100);
 
 /// What a line says of a plan.
 struct Job {
@@ -79,7 +80,7 @@ fn page_order(over_then_down: bool) -> PrintPageOrder {
 fn job(line: &str) -> Job {
     let mut fields = Fields(&line[1..]);
     let flags: Vec<bool> = (0..11).map(|_| fields.flag()).collect();
-    let lengths: Vec<usize> = (0..18).map(|_| fields.next(2) as usize).collect();
+    let lengths: Vec<usize> = (0..12).map(|_| fields.next(2) as usize).collect();
     let mut small = || u16::try_from(fields.number()).expect("a number of 16 bits");
     let (paper, percent, width, height) = (small(), small(), small(), small());
     let range = fields.numbers(4);
@@ -120,8 +121,8 @@ fn job(line: &str) -> Job {
         merge_last_columns: fields.numbers(lengths[7]),
         row_breaks: fields.numbers(lengths[8]),
         column_breaks: fields.numbers(lengths[9]),
-        lent_rows: Lent::new(&lengths[10..14], ROW_STARTS),
-        lent_columns: Lent::new(&lengths[14..], COLUMN_STARTS),
+        lent_rows: Lent::new(lengths[10], ROWS_START),
+        lent_columns: Lent::new(lengths[11], COLUMNS_START),
     };
     assert_eq!(fields.0, "", "more than the fields in {line:?}");
     job
@@ -141,8 +142,6 @@ impl Job {
         self.row_indexes.len() == self.row_sizes.len()
             && self.column_indexes.len() == self.column_sizes.len()
             && others == [merges; 3]
-            && self.lent_rows.even()
-            && self.lent_columns.even()
     }
 
     /// 6: firsts are not above lasts.
@@ -379,7 +378,7 @@ fn prepared_area(
         PrintWarningCode::PageContentOverflow,
         row_overflows.saturating_add(column_overflows),
     );
-    if row_segments.len() > job.lent_rows.firsts.len() || column_segments.len() > job.lent_columns.firsts.len() {
+    if row_segments.len() > job.lent_rows.room() || column_segments.len() > job.lent_columns.room() {
         return Err(Refused(11));
     }
     let logical_pages = (row_segments.len() as u64)
@@ -503,17 +502,23 @@ fn plan(mut job: Job) -> String {
     let tail = format!(" {} {order}{}", area.logical_pages, spelt(&nine_notes(warnings)));
     let pages = asked(area.logical_pages).into_iter().map(|n| format!("; {n} {}", numbered(&area.slots, n)));
     let pages: String = pages.collect();
-    write(&plain(area.row_segments), &mut job.lent_rows);
-    write(&plain(area.column_segments), &mut job.lent_columns);
+    job.lent_rows.write(&plain(area.row_segments));
+    job.lent_columns.write(&plain(area.column_segments));
     format!("{head}{tail}{}{}{pages}", job.lent_rows.text(), job.lent_columns.text())
 }
 
 // ---- pages by their number
 
-/// A run of lists as it stands at a place.
-fn run_in(lists: &Lent, at: usize, empty: bool) -> String {
-    let manual = u8::from(lists.marks[at] > 0);
-    format!(" {} {} {} {} {manual}", lists.firsts[at], lists.lasts[at], lists.sizes[at], u8::from(empty))
+/// A number of a list as an index: the largest that a u32 holds stands for any above it.
+fn index_in(number: u64) -> u32 {
+    u32::try_from(number).unwrap_or(u32::MAX)
+}
+
+/// The run of a list at a place.
+fn run_in(list: &Lent, at: usize, empty: bool) -> String {
+    let run = &list.0[RUN_NUMBERS * at..];
+    let (first, last) = (index_in(run[0]), index_in(run[1]));
+    format!(" {first} {last} {} {} {}", run[2], u8::from(empty), u8::from(run[3] > 0))
 }
 
 /// The pages of run lists, in order.
@@ -535,24 +540,20 @@ fn pages_in(over_then_down: bool, runs: [usize; 2], empties: [bool; 2], lists: [
     places.into_iter().map(text).collect()
 }
 
-/// 6, then 11, then the page with the number out of the first `pages` pages, or 14.
+/// 11, then the page with the number out of the first `pages` pages, or 14.
 fn page(line: &str) -> String {
     let mut fields = Fields(&line[1..]);
     let [over_then_down, rows_empty, columns_empty] = [fields.flag(), fields.flag(), fields.flag()];
-    let highest = [fields.next(2), fields.next(2)];
-    let lengths: Vec<usize> = (0..8).map(|_| fields.next(2) as usize).collect();
-    let (row_runs, column_runs) = (fields.next(16) as usize, fields.next(16) as usize);
+    let others = [fields.next(2) as usize, fields.next(2) as usize];
+    let lengths = [fields.next(2) as usize, fields.next(2) as usize];
+    let starts = [fields.next(16), fields.next(16)];
+    let runs = [fields.next(16) as usize, fields.next(16) as usize];
     let (pages, number) = (fields.next(16), fields.next(16));
     assert_eq!(fields.0, "", "more than the fields in {line:?}");
-    let rows = Lent::new(&lengths[..4], ROW_STARTS).marked_to(highest[0]);
-    let columns = Lent::new(&lengths[4..], COLUMN_STARTS).marked_to(highest[1]);
-    if !(rows.even() && columns.even()) {
-        return "no 6".to_string();
-    }
-    if row_runs > rows.firsts.len() || column_runs > columns.firsts.len() {
+    let [rows, columns] = [0, 1].map(|axis| Lent::new(lengths[axis], starts[axis]).marked(others[axis]));
+    if runs[0] > rows.room() || runs[1] > columns.room() {
         return "no 11".to_string();
     }
-    let runs = [row_runs, column_runs];
     let all = pages_in(over_then_down, runs, [rows_empty, columns_empty], [&rows, &columns]);
     let kept = all.len().min(usize::try_from(pages).expect("64 bits"));
     match (1..=kept as u64).position(|n| n == number) {

@@ -9,9 +9,12 @@ use planner_pages::page_numbered;
 use planner_rules::PageAnswer;
 use planner_rules::Plan;
 use planner_rules::Planning;
+use planner_rules::RUN_NUMBERS;
 
-// The entries of a run list.
+// The runs that a list has room for, and its numbers.
 const RUNS: usize = 5000;
+
+const NUMBERS: usize = RUN_NUMBERS * RUNS;
 
 // The first lines of an answer, and the place after them.
 fn put_head(block: &mut [u8; BLOCK], planning: Planning) -> usize {
@@ -36,31 +39,14 @@ fn put_pages(
     block: &mut [u8; BLOCK],
     at: usize,
     plan: Plan,
-    row_firsts: &[u32; RUNS],
-    row_lasts: &[u32; RUNS],
-    row_sizes: &[u64; RUNS],
-    row_marks: &[u8; RUNS],
-    column_firsts: &[u32; RUNS],
-    column_lasts: &[u32; RUNS],
-    column_sizes: &[u64; RUNS],
-    column_marks: &[u8; RUNS],
+    row_runs: &[u64; NUMBERS],
+    column_runs: &[u64; NUMBERS],
 ) -> usize {
     let mut next = at;
     let mut before = 0;
     while before < plan.pages {
         let number = before + 1;
-        let answer = page_numbered(
-            plan,
-            number,
-            row_firsts,
-            row_lasts,
-            row_sizes,
-            row_marks,
-            column_firsts,
-            column_lasts,
-            column_sizes,
-            column_marks,
-        );
+        let answer = page_numbered(plan, number, row_runs, column_runs);
         next = put_page(block, next, number, answer);
         before = number;
     }
@@ -71,68 +57,23 @@ fn put_pages(
 fn put_answer(
     block: &mut [u8; BLOCK],
     planning: Planning,
-    row_firsts: &[u32; RUNS],
-    row_lasts: &[u32; RUNS],
-    row_sizes: &[u64; RUNS],
-    row_marks: &[u8; RUNS],
-    column_firsts: &[u32; RUNS],
-    column_lasts: &[u32; RUNS],
-    column_sizes: &[u64; RUNS],
-    column_marks: &[u8; RUNS],
+    row_runs: &[u64; NUMBERS],
+    column_runs: &[u64; NUMBERS],
 ) -> usize {
     let head = put_head(block, planning);
     let Planning::Value(plan) = planning else {
         return head;
     };
-    put_pages(
-        block,
-        head,
-        plan,
-        row_firsts,
-        row_lasts,
-        row_sizes,
-        row_marks,
-        column_firsts,
-        column_lasts,
-        column_sizes,
-        column_marks,
-    )
+    put_pages(block, head, plan, row_runs, column_runs)
 }
 
 // Prints what `plan` prints for a job's bytes, and an empty line.
 pub fn print_plan(bytes: &[u8]) {
-    let mut row_firsts = [0u32; RUNS];
-    let mut row_lasts = [0u32; RUNS];
-    let mut row_sizes = [0u64; RUNS];
-    let mut row_marks = [0u8; RUNS];
-    let mut column_firsts = [0u32; RUNS];
-    let mut column_lasts = [0u32; RUNS];
-    let mut column_sizes = [0u64; RUNS];
-    let mut column_marks = [0u8; RUNS];
-    let planning = plan_job(
-        bytes,
-        &mut row_firsts,
-        &mut row_lasts,
-        &mut row_sizes,
-        &mut row_marks,
-        &mut column_firsts,
-        &mut column_lasts,
-        &mut column_sizes,
-        &mut column_marks,
-    );
+    let mut row_runs = [0u64; NUMBERS];
+    let mut column_runs = [0u64; NUMBERS];
+    let planning = plan_job(bytes, &mut row_runs, &mut column_runs);
     let mut lines = [0u8; BLOCK];
-    let end = put_answer(
-        &mut lines,
-        planning,
-        &row_firsts,
-        &row_lasts,
-        &row_sizes,
-        &row_marks,
-        &column_firsts,
-        &column_lasts,
-        &column_sizes,
-        &column_marks,
-    );
+    let end = put_answer(&mut lines, planning, &row_runs, &column_runs);
     let after = block::text(&mut lines, end, b"\n");
     block::write(&lines, after);
 }

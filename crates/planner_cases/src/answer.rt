@@ -78,63 +78,21 @@ fn partition(out: &mut [u8; LINE], answer: Partition) -> usize {
     }
 }
 
-// Lists, each after a `;`.
-fn numbers(out: &mut [u8; LINE], at: usize, list: &[u32]) -> usize {
+// The numbers of a list, after a `;`.
+pub fn list(out: &mut [u8; LINE], at: usize, numbers: &[u64]) -> usize {
     let mut next = byte(out, at, b';');
     let mut i = 0;
-    while i < list.len() {
-        next = number(out, next, wide(list[i]));
+    while i < numbers.len() {
+        next = number(out, next, numbers[i]);
         i += 1;
     }
     next
 }
 
-fn sizes(out: &mut [u8; LINE], at: usize, list: &[u64]) -> usize {
-    let mut next = byte(out, at, b';');
-    let mut i = 0;
-    while i < list.len() {
-        next = number(out, next, list[i]);
-        i += 1;
-    }
-    next
-}
-
-fn marks(out: &mut [u8; LINE], at: usize, list: &[u8]) -> usize {
-    let mut next = byte(out, at, b';');
-    let mut i = 0;
-    while i < list.len() {
-        next = number(out, next, wider(list[i]));
-        i += 1;
-    }
-    next
-}
-
-// The runs' firsts, lasts, sizes and marks.
-pub fn run_lists(
-    out: &mut [u8; LINE],
-    at: usize,
-    firsts: &[u32],
-    lasts: &[u32],
-    totals: &[u64],
-    mark: &[u8],
-) -> usize {
-    let a = numbers(out, at, firsts);
-    let b = numbers(out, a, lasts);
-    let c = sizes(out, b, totals);
-    marks(out, c, mark)
-}
-
-// The answer to a cut: the counts, and the runs.
-pub fn axis(
-    out: &mut [u8; LINE],
-    answer: Partition,
-    firsts: &[u32],
-    lasts: &[u32],
-    totals: &[u64],
-    mark: &[u8],
-) -> usize {
+// The answer to a cut: the counts, and the list of runs.
+pub fn axis(out: &mut [u8; LINE], answer: Partition, runs: &[u64]) -> usize {
     let at = partition(out, answer);
-    run_lists(out, at, firsts, lasts, totals, mark)
+    list(out, at, runs)
 }
 
 // Writes the text that ends at a place.

@@ -2,71 +2,38 @@
 // breaks (8).
 use crate::answer;
 use crate::answer::LINE;
-use crate::head;
-use crate::head::HEAD;
-use crate::head::length;
-use crate::lists::MOST;
-use crate::lists::marks_from;
+use crate::axis_head as head;
+use crate::axis_head::HEAD;
+use crate::axis_head::length;
+use crate::fields;
+use crate::fields::TEXT;
+use crate::fields::capped;
+use crate::lists::NUMBERS;
+use crate::lists::ROWS;
+use crate::lists::numbers;
 use crate::lists::numbers_from;
 use crate::lists::read_numbers;
 use crate::lists::read_sizes;
-use crate::lists::sizes_from;
-use libc::STDIN_FILENO;
-use planner_rules::Partition;
-
-fn title(
-    line: &[u8; HEAD],
-    firsts: &[u32; MOST],
-    lasts: &[u32; MOST],
-    out: &mut [u8; LINE],
-) -> usize {
-    let n = length(line, 2);
-    let m = length(line, 3);
-    let f = &firsts[..];
-    let l = &lasts[..];
-    let axis = head::axis(line);
-    let given = head::title(line);
-    answer::widening(
-        out,
-        planner_titles::widen_title(axis, given, &f[0..n], &l[0..m]),
-    )
-}
+use crate::lists::runs;
+use crate::lists::sizes;
 
 // Reads a title and its merges, and answers it.
 pub fn read_title(out: &mut [u8; LINE]) -> usize {
-    let mut line = [b'0'; HEAD];
-    io::read_full(STDIN_FILENO, &mut line);
-    let mut firsts = [0u32; MOST];
-    let mut lasts = [0u32; MOST];
-    read_numbers(length(&line, 2), &mut firsts);
-    read_numbers(length(&line, 3), &mut lasts);
-    title(&line, &firsts, &lasts, out)
+    let line = fields::read(HEAD);
+    let firsts = read_numbers(length(&line, 2));
+    let lasts = read_numbers(length(&line, 3));
+    let widening = planner_titles::widen_title(
+        head::axis(&line),
+        head::title(&line),
+        numbers(&firsts, length(&line, 2)),
+        numbers(&lasts, length(&line, 3)),
+    );
+    answer::widening(out, widening)
 }
 
-// Answers what the lent lists hold.
-fn held(
-    line: &[u8; HEAD],
-    partition: Partition,
-    firsts: &[u32; MOST],
-    lasts: &[u32; MOST],
-    totals: &[u64; MOST],
-    marks: &[u8; MOST],
-    out: &mut [u8; LINE],
-) -> usize {
-    let f = &firsts[..];
-    let l = &lasts[..];
-    let t = &totals[..];
-    let m = &marks[..];
-    let i = length(line, 5);
-    let j = length(line, 6);
-    let k = length(line, 7);
-    let n = length(line, 8);
-    answer::axis(out, partition, &f[0..i], &l[0..j], &t[0..k], &m[0..n])
-}
-
-// Cuts an axis into lent lists.
+// Lends a list for the runs, cuts, and answers what the list holds then.
 fn cut(
-    line: &[u8; HEAD],
+    line: &[u8; TEXT],
     indexes: &[u32],
     sizes: &[u64],
     merge_firsts: &[u32],
@@ -74,14 +41,8 @@ fn cut(
     breaks: &[u32],
     out: &mut [u8; LINE],
 ) -> usize {
-    let mut firsts = numbers_from(2000000);
-    let mut lasts = numbers_from(3000000);
-    let mut totals = sizes_from(4000000);
-    let mut marks = marks_from(200);
-    let i = length(line, 5);
-    let j = length(line, 6);
-    let k = length(line, 7);
-    let n = length(line, 8);
+    let room = capped(length(line, 5), NUMBERS);
+    let mut list = numbers_from(ROWS);
     let partition = planner::partition_axis_with_breaks(
         head::axis(line),
         head::setup(line),
@@ -90,57 +51,26 @@ fn cut(
         merge_firsts,
         merge_lasts,
         breaks,
-        &mut firsts[0..i],
-        &mut lasts[0..j],
-        &mut totals[0..k],
-        &mut marks[0..n],
+        &mut list[0..room],
     );
-    held(line, partition, &firsts, &lasts, &totals, &marks, out)
-}
-
-fn runs(
-    line: &[u8; HEAD],
-    indexes: &[u32; MOST],
-    sizes: &[u64; MOST],
-    merge_firsts: &[u32; MOST],
-    merge_lasts: &[u32; MOST],
-    breaks: &[u32; MOST],
-    out: &mut [u8; LINE],
-) -> usize {
-    let i = &indexes[..];
-    let s = &sizes[..];
-    let f = &merge_firsts[..];
-    let l = &merge_lasts[..];
-    let b = &breaks[..];
-    let slots = length(line, 0);
-    let measured = length(line, 1);
-    let n = length(line, 2);
-    let m = length(line, 3);
-    let k = length(line, 4);
-    cut(
-        line,
-        &i[0..slots],
-        &s[0..measured],
-        &f[0..n],
-        &l[0..m],
-        &b[0..k],
-        out,
-    )
+    answer::axis(out, partition, runs(&list, room))
 }
 
 // Reads an axis and its lists, and answers it.
 pub fn read_runs(out: &mut [u8; LINE]) -> usize {
-    let mut line = [b'0'; HEAD];
-    io::read_full(STDIN_FILENO, &mut line);
-    let mut indexes = [0u32; MOST];
-    let mut sizes = [0u64; MOST];
-    let mut firsts = [0u32; MOST];
-    let mut lasts = [0u32; MOST];
-    let mut breaks = [0u32; MOST];
-    read_numbers(length(&line, 0), &mut indexes);
-    read_sizes(length(&line, 1), &mut sizes);
-    read_numbers(length(&line, 2), &mut firsts);
-    read_numbers(length(&line, 3), &mut lasts);
-    read_numbers(length(&line, 4), &mut breaks);
-    runs(&line, &indexes, &sizes, &firsts, &lasts, &breaks, out)
+    let line = fields::read(HEAD);
+    let indexes = read_numbers(length(&line, 0));
+    let measured = read_sizes(length(&line, 1));
+    let firsts = read_numbers(length(&line, 2));
+    let lasts = read_numbers(length(&line, 3));
+    let breaks = read_numbers(length(&line, 4));
+    cut(
+        &line,
+        numbers(&indexes, length(&line, 0)),
+        sizes(&measured, length(&line, 1)),
+        numbers(&firsts, length(&line, 2)),
+        numbers(&lasts, length(&line, 3)),
+        numbers(&breaks, length(&line, 4)),
+        out,
+    )
 }

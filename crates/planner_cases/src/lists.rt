@@ -1,116 +1,85 @@
 // Lists of a line: read from standard input, or lent with numbers of their own.
+use crate::fields;
+use crate::fields::capped;
+use crate::fields::field;
 use crate::widths::low;
-use hexadecimal::bits;
-use libc::STDIN_FILENO;
-ghost use Prim.Native.Nat.{_≤_, _<_};
+use planner_rules::RUN_NUMBERS;
 
-// The most that a list holds.
+// The most numbers of a list that is read.
 pub const MOST: usize = 24;
 
-// The bytes of a full list of short fields, and of long ones.
-const SHORT: usize = 9 * MOST;
+// The most numbers of a list of runs: so many runs, and three numbers that make up none.
+pub const NUMBERS: usize = RUN_NUMBERS * MOST + 3;
 
-const LONG: usize = 17 * MOST;
+// The numbers that the lent lists of runs start with.
+pub const ROWS: u64 = 2_000_000;
 
-// The field of a space and eight digits with the number i.
-fn short(text: &[u8; SHORT], i: usize) -> u32
-    requires { ⌜ i < 24 ⌝ }
-{
-    let t = &text[..];
-    let start = 9 * i + 1;
-    let end = start + 8;
-    low(bits(&t[start..end]))
-}
+pub const COLUMNS: u64 = 2_500_000;
 
-// The field of a space and sixteen digits with the number i.
-fn long(text: &[u8; LONG], i: usize) -> u64
-    requires { ⌜ i < 24 ⌝ }
-{
-    let t = &text[..];
-    let start = 17 * i + 1;
-    let end = start + 16;
-    bits(&t[start..end])
-}
-
-// Reads so many short fields.
-pub fn read_numbers(n: usize, out: &mut [u32; MOST])
-    requires { ⌜ n ≤ 24 ⌝ }
-{
-    let mut text = [b'0'; SHORT];
-    let bytes = 9 * n;
-    io::read_full(STDIN_FILENO, &mut text[0..bytes]);
+// Reads so many fields of eight digits, as far as a list has room for them.
+pub fn read_numbers(n: usize) -> [u32; MOST] {
+    let count = capped(n, MOST);
+    let text = fields::read(9 * count);
+    let mut out = [0u32; MOST];
     let mut i = 0;
-    while i < n {
-        out[i] = short(&text, i);
-        i += 1;
-    }
-}
-
-// Reads so many long fields.
-pub fn read_sizes(n: usize, out: &mut [u64; MOST])
-    requires { ⌜ n ≤ 24 ⌝ }
-{
-    let mut text = [b'0'; LONG];
-    let bytes = 17 * n;
-    io::read_full(STDIN_FILENO, &mut text[0..bytes]);
-    let mut i = 0;
-    while i < n {
-        out[i] = long(&text, i);
-        i += 1;
-    }
-}
-
-// A lent list: from a number on, each place one more.
-pub fn numbers_from(first: u32) -> [u32; MOST]
-    requires { ⌜ first ≤ 4000000 ⌝ }
-{
-    let mut out = [first; MOST];
-    let mut i = 0;
-    while i < MOST {
-        out[i] = first + i as u32;
+    while i < count {
+        out[i] = low(field(&text, 0, 8, i));
         i += 1;
     }
     out
 }
 
-pub fn sizes_from(first: u64) -> [u64; MOST]
-    requires { ⌜ first ≤ 4000000 ⌝ }
-{
-    let mut out = [first; MOST];
+// The same of sixteen digits.
+pub fn read_sizes(n: usize) -> [u64; MOST] {
+    let count = capped(n, MOST);
+    let text = fields::read(17 * count);
+    let mut out = [0u64; MOST];
     let mut i = 0;
-    while i < MOST {
-        out[i] = first + i as u64;
+    while i < count {
+        out[i] = field(&text, 0, 16, i);
         i += 1;
     }
     out
 }
 
-pub fn marks_from(first: u8) -> [u8; MOST]
-    requires { ⌜ first ≤ 200 ⌝ }
-{
-    let mut out = [first; MOST];
-    let mut i = 0;
-    while i < MOST {
-        out[i] = first + i as u8;
+// The first n of a list that was read, or of a list of runs; all where there are no more.
+pub fn numbers(list: &[u32; MOST], n: usize) -> &[u32] {
+    let end = capped(n, MOST);
+    let whole = &list[..];
+    &whole[0..end]
+}
+
+pub fn sizes(list: &[u64; MOST], n: usize) -> &[u64] {
+    let end = capped(n, MOST);
+    let whole = &list[..];
+    &whole[0..end]
+}
+
+pub fn runs(list: &[u64; NUMBERS], n: usize) -> &[u64] {
+    let end = capped(n, NUMBERS);
+    let whole = &list[..];
+    &whole[0..end]
+}
+
+// A list of runs before a call: from a number on, each place one more.
+pub fn numbers_from(first: u64) -> [u64; NUMBERS] {
+    let mut out = [first; NUMBERS];
+    let mut i = 1;
+    while i < NUMBERS {
+        out[i] = std::num::wrapping_add_u64(first, i as u64);
         i += 1;
     }
     out
 }
 
-// The mark after another, of marks that rise from 0 to the highest and start again.
-fn next_mark(mark: u8, highest: u8) -> u8 {
-    if mark < highest { mark + 1 } else { 0 }
-}
-
-// Marks that rise from 0 to the highest, and start again.
-pub fn marks_to(highest: u8) -> [u8; MOST] {
-    let mut out = [0u8; MOST];
-    let mut mark = 0;
-    let mut i = 0;
-    while i < MOST {
-        out[i] = mark;
-        mark = next_mark(mark, highest);
-        i += 1;
+// The same, but that the first run has the mark 0, and after so many others another has it again.
+pub fn marked_from(first: u64, others: usize) -> [u64; NUMBERS] {
+    let step = RUN_NUMBERS * (capped(others, MOST) + 1);
+    let mut out = numbers_from(first);
+    let mut i = RUN_NUMBERS - 1;
+    while i < NUMBERS {
+        out[i] = 0;
+        i += step;
     }
     out
 }

@@ -2,7 +2,8 @@
 // document 01's worked cases of titles, runs and percents stand among the limits of each call.
 mod answer;
 mod axes;
-mod head;
+mod axis_head;
+mod fields;
 mod lists;
 mod numbered;
 mod page_head;

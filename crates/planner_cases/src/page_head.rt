@@ -1,60 +1,56 @@
 // The head of a page by its number: fields, each a space and so many hexadecimal digits. The lists are made, not read.
 //
 //     2   three flags, 0 or 1: over then down, rows empty, columns empty
-//     2   the highest marks of row runs and of column runs
-//     2   eight lengths: row runs' firsts, lasts, sizes and marks, and column runs'
+//     2   how many runs stand between two whose mark is 0, of rows and of columns; the first run has the mark 0
+//     2   how many numbers the lists of row runs and of column runs have
+//     16  the numbers that the two lists start with, from which each place has one more, but for the marks of 0
 //     16  row runs, column runs, pages, and the number of the page
-use crate::lists::MOST;
-use hexadecimal::bits;
+use crate::fields::TEXT;
+use crate::fields::field;
+use crate::lists::NUMBERS;
+use crate::lists::marked_from;
 use planner_rules::Notes;
 use planner_rules::PageOrder;
 use planner_rules::Plan;
-ghost use Prim.Native.Nat.{_≤_, _<_};
+ghost use Prim.Native.Nat.{_<_};
 
 // The bytes of a head.
-pub const HEAD: usize = 107;
+pub const HEAD: usize = 123;
 
-// The field of two digits with the number k.
-fn short(head: &[u8; HEAD], k: usize) -> u64
-    requires { ⌜ k < 13 ⌝ }
+// Where the fields of sixteen digits start.
+const LONG: usize = 21;
+
+fn short(head: &[u8; TEXT], k: usize) -> u64
+    requires { ⌜ k < 7 ⌝ }
 {
-    let text = &head[..];
-    let start = 1 + 3 * k;
-    let end = start + 2;
-    bits(&text[start..end])
+    field(head, 0, 2, k)
 }
 
-// The field of sixteen digits with the number k.
-fn long(head: &[u8; HEAD], k: usize) -> u64
-    requires { ⌜ k < 4 ⌝ }
+fn long(head: &[u8; TEXT], k: usize) -> u64
+    requires { ⌜ k < 6 ⌝ }
 {
-    let text = &head[..];
-    let start = 40 + 17 * k;
-    let end = start + 16;
-    bits(&text[start..end])
+    field(head, LONG, 16, k)
 }
 
-// The highest mark of an axis, 0 rows or 1 columns.
-pub fn highest(head: &[u8; HEAD], k: usize) -> u8
-    requires { ⌜ k < 2 ⌝ }
+// The list of an axis, 0 rows or 1 columns, with as many numbers as a list can have.
+pub fn list(head: &[u8; TEXT], axis: usize) -> [u64; NUMBERS]
+    requires { ⌜ axis < 2 ⌝ }
 {
-    (short(head, k + 3) % 256) as u8
+    marked_from(long(head, axis), short(head, axis + 3) as usize)
 }
 
-// The length of the list with the number k, never more than a list can hold.
-pub fn length(head: &[u8; HEAD], k: usize) -> usize
-    requires { ⌜ k < 8 ⌝ }
-    ensures { λ r. ⌜ r ≤ 24 ⌝ }
+// How many of these the list has.
+pub fn length(head: &[u8; TEXT], axis: usize) -> usize
+    requires { ⌜ axis < 2 ⌝ }
 {
-    let n = short(head, k + 5) as usize;
-    if n < MOST { n } else { MOST }
+    short(head, axis + 5) as usize
 }
 
-pub fn number(head: &[u8; HEAD]) -> u64 {
-    long(head, 3)
+pub fn number(head: &[u8; TEXT]) -> u64 {
+    long(head, 5)
 }
 
-fn order(head: &[u8; HEAD]) -> PageOrder {
+fn order(head: &[u8; TEXT]) -> PageOrder {
     if short(head, 0) > 0 {
         PageOrder::OverThenDown
     } else {
@@ -76,14 +72,14 @@ fn nothing_noted() -> Notes {
     }
 }
 
-pub fn plan(head: &[u8; HEAD]) -> Plan {
+pub fn plan(head: &[u8; TEXT]) -> Plan {
     Plan {
         permille: 1000,
-        row_runs: long(head, 0) as usize,
-        column_runs: long(head, 1) as usize,
+        row_runs: long(head, 2) as usize,
+        column_runs: long(head, 3) as usize,
         rows_empty: short(head, 1) > 0,
         columns_empty: short(head, 2) > 0,
-        pages: long(head, 2),
+        pages: long(head, 4),
         order: order(head),
         notes: nothing_noted(),
     }

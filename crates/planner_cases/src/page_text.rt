@@ -1,11 +1,11 @@
 // The answers of plans and pages as text. A plan is `plan`, the permille, the runs of rows and of columns, whether the rows and the columns
-// are empty, the pages, the order and the nine notes; then eight lent lists, each after a `;`; then pages, each after a `;`: the number,
+// are empty, the pages, the order and the nine notes; then the two lent lists, each after a `;`; then pages, each after a `;`: the number,
 // and `page`, the vertical and the horizontal number, and both runs, with first, last, size, empty mark and manual mark.
 use crate::answer::LINE;
 use crate::answer::byte;
+use crate::answer::list;
 use crate::answer::number;
 use crate::answer::refusal;
-use crate::answer::run_lists;
 use crate::answer::text;
 use crate::widths::wide;
 use planner_rules::Notes;
@@ -114,36 +114,20 @@ fn after(pages: u64) -> u64 {
     if pages < u64::MAX { pages + 1 } else { 0 }
 }
 
+// The pages that are asked for.
 fn each_page(
     out: &mut [u8; LINE],
     at: usize,
     p: Plan,
-    row_firsts: &[u32],
-    row_lasts: &[u32],
-    row_sizes: &[u64],
-    row_marks: &[u8],
-    column_firsts: &[u32],
-    column_lasts: &[u32],
-    column_sizes: &[u64],
-    column_marks: &[u8],
+    row_runs: &[u64],
+    column_runs: &[u64],
 ) -> usize {
     let count = asked(p.pages);
     let mut next = at;
     let mut k = 0;
     while k < count {
         let n = asked_at(p.pages, k);
-        let answer = planner_pages::page_numbered(
-            p,
-            n,
-            row_firsts,
-            row_lasts,
-            row_sizes,
-            row_marks,
-            column_firsts,
-            column_lasts,
-            column_sizes,
-            column_marks,
-        );
+        let answer = planner_pages::page_numbered(p, n, row_runs, column_runs);
         next = numbered(out, next, n, answer);
         k += 1;
     }
@@ -158,42 +142,18 @@ fn numbered(out: &mut [u8; LINE], at: usize, n: u64, answer: PageAnswer) -> usiz
     paged(out, c, answer)
 }
 
+// The answer of a plan, the lists that were lent to it, and pages.
 pub fn answered(
     out: &mut [u8; LINE],
     answer: Planning,
-    row_firsts: &[u32],
-    row_lasts: &[u32],
-    row_sizes: &[u64],
-    row_marks: &[u8],
-    column_firsts: &[u32],
-    column_lasts: &[u32],
-    column_sizes: &[u64],
-    column_marks: &[u8],
+    row_runs: &[u64],
+    column_runs: &[u64],
 ) -> usize {
     let a = planned(out, answer);
-    let b = run_lists(out, a, row_firsts, row_lasts, row_sizes, row_marks);
-    let c = run_lists(
-        out,
-        b,
-        column_firsts,
-        column_lasts,
-        column_sizes,
-        column_marks,
-    );
+    let b = list(out, a, row_runs);
+    let c = list(out, b, column_runs);
     let Planning::Value(p) = answer else {
         return c;
     };
-    each_page(
-        out,
-        c,
-        p,
-        row_firsts,
-        row_lasts,
-        row_sizes,
-        row_marks,
-        column_firsts,
-        column_lasts,
-        column_sizes,
-        column_marks,
-    )
+    each_page(out, c, p, row_runs, column_runs)
 }

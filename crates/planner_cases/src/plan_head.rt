@@ -2,72 +2,56 @@
 //
 //     2   eleven flags, 0 or 1: paper given, landscape, percent given, fit, width's target given, height's target given, over then down,
 //         headings, row title given, column title given, margins given
-//     2   eighteen lengths: row indexes and sizes, column indexes and sizes, the merges' first rows, first columns, last rows and last
-//         columns, row breaks, column breaks, and the lent lists of row runs' firsts, lasts, sizes and marks, and of column runs'
+//     2   twelve lengths: row indexes and sizes, column indexes and sizes, the merges' first rows, first columns, last rows and last
+//         columns, row breaks, column breaks, and the numbers of the lent lists of row runs and of column runs
 //     8   paper, percent, width's target, height's target; the range's first row, first column, last row and last column; the row title's
 //         first and last, the column title's first and last
 //     16  the page limit
-use crate::lists::MOST;
+use crate::fields::TEXT;
+use crate::fields::field;
 use crate::widths::low;
 use crate::widths::lower;
 use geometry::MarginSetting;
 use geometry::Setting;
-use hexadecimal::bits;
 use planner_rules::PageOrder;
 use planner_rules::PrintRange;
 use planner_rules::Settings;
 use planner_rules::Title;
-ghost use Prim.Native.Nat.{_≤_, _<_};
+ghost use Prim.Native.Nat.{_<_};
 
 // The bytes of a head.
-pub const HEAD: usize = 212;
+pub const HEAD: usize = 194;
 
-// The field of two digits with the number k.
-fn short(head: &[u8; HEAD], k: usize) -> u64
-    requires { ⌜ k < 29 ⌝ }
-{
-    let text = &head[..];
-    let start = 1 + 3 * k;
-    let end = start + 2;
-    bits(&text[start..end])
-}
+// Where the fields of eight and of sixteen digits start.
+const INDEXES: usize = 69;
 
-// The field of eight digits with the number k.
-fn index(head: &[u8; HEAD], k: usize) -> u32
-    requires { ⌜ k < 12 ⌝ }
-{
-    let text = &head[..];
-    let start = 88 + 9 * k;
-    let end = start + 8;
-    low(bits(&text[start..end]))
-}
+const LIMIT: usize = 177;
 
-fn limit(head: &[u8; HEAD]) -> u64 {
-    let text = &head[..];
-    bits(&text[196..212])
-}
-
-fn flag(head: &[u8; HEAD], k: usize) -> bool
+fn flag(head: &[u8; TEXT], k: usize) -> bool
     requires { ⌜ k < 11 ⌝ }
 {
-    short(head, k) > 0
+    field(head, 0, 2, k) > 0
 }
 
-// The length of the list with the number k, never more than a list can hold.
-pub fn length(head: &[u8; HEAD], k: usize) -> usize
-    requires { ⌜ k < 18 ⌝ }
-    ensures { λ r. ⌜ r ≤ 24 ⌝ }
+fn index(head: &[u8; TEXT], k: usize) -> u32
+    requires { ⌜ k < 12 ⌝ }
 {
-    let n = short(head, k + 11) as usize;
-    if n < MOST { n } else { MOST }
+    low(field(head, INDEXES, 8, k))
 }
 
-pub fn margins_given(head: &[u8; HEAD]) -> bool {
+// The length of the list with the number k.
+pub fn length(head: &[u8; TEXT], k: usize) -> usize
+    requires { ⌜ k < 12 ⌝ }
+{
+    field(head, 0, 2, k + 11) as usize
+}
+
+pub fn margins_given(head: &[u8; TEXT]) -> bool {
     flag(head, 10)
 }
 
 // The setting whose flag and field have these numbers.
-fn setting(head: &[u8; HEAD], given: usize, k: usize) -> Setting
+fn setting(head: &[u8; TEXT], given: usize, k: usize) -> Setting
     requires { ⌜ given < 11 ⌝ }
     requires { ⌜ k < 12 ⌝ }
 {
@@ -78,7 +62,7 @@ fn setting(head: &[u8; HEAD], given: usize, k: usize) -> Setting
     }
 }
 
-fn order(head: &[u8; HEAD]) -> PageOrder {
+fn order(head: &[u8; TEXT]) -> PageOrder {
     if flag(head, 6) {
         PageOrder::OverThenDown
     } else {
@@ -86,7 +70,7 @@ fn order(head: &[u8; HEAD]) -> PageOrder {
     }
 }
 
-pub fn settings(head: &[u8; HEAD], margins: MarginSetting) -> Settings {
+pub fn settings(head: &[u8; TEXT], margins: MarginSetting) -> Settings {
     Settings {
         paper: setting(head, 0, 0),
         landscape: flag(head, 1),
@@ -97,11 +81,11 @@ pub fn settings(head: &[u8; HEAD], margins: MarginSetting) -> Settings {
         fit_height: setting(head, 5, 3),
         order: order(head),
         headings: flag(head, 7),
-        page_limit: limit(head),
+        page_limit: field(head, LIMIT, 16, 0),
     }
 }
 
-pub fn range(head: &[u8; HEAD]) -> PrintRange {
+pub fn range(head: &[u8; TEXT]) -> PrintRange {
     PrintRange {
         first_row: index(head, 4),
         first_column: index(head, 5),
@@ -111,7 +95,7 @@ pub fn range(head: &[u8; HEAD]) -> PrintRange {
 }
 
 // The title whose flag and first have these numbers.
-fn title(head: &[u8; HEAD], given: usize, k: usize) -> Title
+fn title(head: &[u8; TEXT], given: usize, k: usize) -> Title
     requires { ⌜ given < 11 ⌝ }
     requires { ⌜ k < 11 ⌝ }
 {
@@ -122,10 +106,10 @@ fn title(head: &[u8; HEAD], given: usize, k: usize) -> Title
     }
 }
 
-pub fn row_title(head: &[u8; HEAD]) -> Title {
+pub fn row_title(head: &[u8; TEXT]) -> Title {
     title(head, 8, 8)
 }
 
-pub fn column_title(head: &[u8; HEAD]) -> Title {
+pub fn column_title(head: &[u8; TEXT]) -> Title {
     title(head, 9, 10)
 }

@@ -1,7 +1,7 @@
 // Answers lines of input. A line is a letter, a head, lists, and a line end.
 //
 //     t   planner_titles::widen_title, of the title and the merges of an axis; its other lists are empty
-//     r   planner::partition_axis_with_breaks; the lent lists are answered whole
+//     r   planner::partition_axis_with_breaks; the lent list is answered whole
 //     p   planner::plan_pages; the lent lists are answered whole, and then pages by planner_pages::page_numbered
 //     n   planner_pages::page_numbered, of a plan that is not as it was answered
 use crate::answer;

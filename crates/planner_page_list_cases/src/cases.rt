@@ -8,8 +8,14 @@ use planner_rules::PageOrder;
 use planner_rules::Plan;
 use planner_rules::Planning;
 use planner_rules::PrintRange;
+use planner_rules::RUN_NUMBERS;
 use planner_rules::Settings;
 use planner_rules::Title;
+
+// The most runs of these plans.
+const ROW_RUNS: usize = 5;
+
+const COLUMN_RUNS: usize = 2;
 
 fn settings(percent: Setting, order: PageOrder) -> Settings {
     Settings {
@@ -55,44 +61,11 @@ fn answered(answer: Listing) -> u64 {
 }
 
 // Lists the pages of a plan, and says them.
-fn listed(
-    plan: Plan,
-    row_firsts: &[u32],
-    row_lasts: &[u32],
-    row_sizes: &[u64],
-    row_marks: &[u8],
-    column_firsts: &[u32],
-    column_lasts: &[u32],
-    column_sizes: &[u64],
-    column_marks: &[u8],
-) {
-    let four = planner_page_list::list_four(
-        [places::blank(); 4],
-        plan,
-        row_firsts,
-        row_lasts,
-        row_sizes,
-        row_marks,
-        column_firsts,
-        column_lasts,
-        column_sizes,
-        column_marks,
-    );
+fn listed(plan: Plan, row_runs: &[u64], column_runs: &[u64]) {
+    let four = planner_page_list::list_four([places::blank(); 4], plan, row_runs, column_runs);
     let answer = four.answer;
     let list = four.pages;
-    places::say_places(
-        list,
-        answered(answer),
-        plan,
-        row_firsts,
-        row_lasts,
-        row_sizes,
-        row_marks,
-        column_firsts,
-        column_lasts,
-        column_sizes,
-        column_marks,
-    )
+    places::say_places(list, answered(answer), plan, row_runs, column_runs)
 }
 
 // Plans slots, and lists the pages.
@@ -100,58 +73,36 @@ fn planned(
     settings: Settings,
     range: PrintRange,
     row_indexes: &[u32],
-    row_totals: &[u64],
+    row_sizes: &[u64],
     column_indexes: &[u32],
-    column_totals: &[u64],
+    column_sizes: &[u64],
     row_breaks: &[u32],
 ) {
-    let mut row_firsts = [0u32; 5];
-    let mut row_lasts = [0u32; 5];
-    let mut row_sizes = [0u64; 5];
-    let mut row_marks = [0u8; 5];
-    let mut column_firsts = [0u32; 2];
-    let mut column_lasts = [0u32; 2];
-    let mut column_sizes = [0u64; 2];
-    let mut column_marks = [0u8; 2];
+    let mut row_runs = [0u64; ROW_RUNS * RUN_NUMBERS];
+    let mut column_runs = [0u64; COLUMN_RUNS * RUN_NUMBERS];
     let planning = planner::plan_pages(
         settings,
         range,
         Title::Absent,
         Title::Absent,
         row_indexes,
-        row_totals,
+        row_sizes,
         column_indexes,
-        column_totals,
+        column_sizes,
         &[],
         &[],
         &[],
         &[],
         row_breaks,
         &[],
-        &mut row_firsts,
-        &mut row_lasts,
-        &mut row_sizes,
-        &mut row_marks,
-        &mut column_firsts,
-        &mut column_lasts,
-        &mut column_sizes,
-        &mut column_marks,
+        &mut row_runs,
+        &mut column_runs,
     );
     let Planning::Value(plan) = planning else {
         text::word(b"no plan\n");
         return;
     };
-    listed(
-        plan,
-        &row_firsts,
-        &row_lasts,
-        &row_sizes,
-        &row_marks,
-        &column_firsts,
-        &column_lasts,
-        &column_sizes,
-        &column_marks,
-    )
+    listed(plan, &row_runs, &column_runs)
 }
 
 // The example of document 01, section "Jobs": three rows and two columns.

@@ -60,19 +60,7 @@ fn say_rest(number: u64, page: Page) {
 }
 
 // Says each place of a list in whose front so many pages were written.
-pub fn say_places(
-    list: [Page; 4],
-    count: u64,
-    plan: Plan,
-    row_firsts: &[u32],
-    row_lasts: &[u32],
-    row_sizes: &[u64],
-    row_marks: &[u8],
-    column_firsts: &[u32],
-    column_lasts: &[u32],
-    column_sizes: &[u64],
-    column_marks: &[u8],
-) {
+pub fn say_places(list: [Page; 4], count: u64, plan: Plan, row_runs: &[u64], column_runs: &[u64]) {
     let mut k = 0;
     while k < 4 {
         let page = list[k];
@@ -81,18 +69,7 @@ pub fn say_places(
         if number > count {
             say_rest(number, page);
         } else {
-            let by_number = planner_pages::page_numbered(
-                plan,
-                number,
-                row_firsts,
-                row_lasts,
-                row_sizes,
-                row_marks,
-                column_firsts,
-                column_lasts,
-                column_sizes,
-                column_marks,
-            );
+            let by_number = planner_pages::page_numbered(plan, number, row_runs, column_runs);
             say_page(number, page, by_number);
         }
     }

@@ -5,10 +5,10 @@ use Rattle.plan.proofs.print_pages.Statement.{statement}
 use Rattle.plan.proofs.print_pages.Tie as tie
 
 abbrev Inv-loop : tie.InvT-loop
-Inv-loop plan row-firsts row-lasts row-sizes row-marks column-firsts column-lasts column-sizes column-marks out₀ next₀ out next = Unit {0}
+Inv-loop plan row-runs column-runs out₀ next₀ out next = Unit {0}
 
 abbrev μ-loop : tie.MeasureT-loop
-μ-loop plan row-firsts row-lasts row-sizes row-marks column-firsts column-lasts column-sizes column-marks out₀ next₀ out next = plan .pages + 1 - next
+μ-loop plan row-runs column-runs out₀ next₀ out next = plan .pages + 1 - next
 
 loop-holds : tie.Need-loop-holds Inv-loop μ-loop
 loop-holds c = search needs

@@ -5,12 +5,10 @@ use Rattle.job_cases.proofs.planned.put_pages.Statement.{statement}
 use Rattle.job_cases.proofs.planned.put_pages.Tie as tie
 
 abbrev Inv-loop : tie.InvT-loop
-Inv-loop block₀ at plan row-firsts row-lasts row-sizes row-marks column-firsts column-lasts column-sizes column-marks next₀ before₀ block next before =
-    Unit {0}
+Inv-loop block₀ at plan row-runs column-runs next₀ before₀ block next before = Unit {0}
 
 abbrev μ-loop : tie.MeasureT-loop
-μ-loop block₀ at plan row-firsts row-lasts row-sizes row-marks column-firsts column-lasts column-sizes column-marks next₀ before₀ block next before =
-    plan .pages - before
+μ-loop block₀ at plan row-runs column-runs next₀ before₀ block next before = plan .pages - before
 
 loop-holds : tie.Need-loop-holds Inv-loop μ-loop
 loop-holds c = search needs

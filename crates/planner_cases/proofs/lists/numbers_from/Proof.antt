@@ -8,16 +8,13 @@ abbrev Inv-loop : tie.InvT-loop
 Inv-loop first out₀ i₀ out i = Unit {0}
 
 abbrev μ-loop : tie.MeasureT-loop
-μ-loop first out₀ i₀ out i = 24 - i
+μ-loop first out₀ i₀ out i = 99 - i
 
 loop-holds : tie.Need-loop-holds Inv-loop μ-loop
 loop-holds c = search needs
 
-cast-out : tie.Need-cast-out Inv-loop μ-loop
-cast-out c = search needs
-
-add-out : tie.Need-add-out Inv-loop μ-loop
-add-out c = search needs
+wrapping-add-u64-requires : tie.Need-wrapping-add-u64-requires Inv-loop μ-loop
+wrapping-add-u64-requires c κs = search needs
 
 mul-out : tie.Need-mul-out Inv-loop μ-loop
 mul-out c = search needs
@@ -44,8 +41,7 @@ numbers-from-spec =
     Inv-loop
     μ-loop
     loop-holds
-    cast-out
-    add-out
+    wrapping-add-u64-requires
     mul-out
     array-write-out
     add-i

@@ -5,10 +5,10 @@ use Rattle.planner_cases.proofs.page_text.each_page.Statement.{statemen
 use Rattle.planner_cases.proofs.page_text.each_page.Tie as tie
 
 abbrev Inv-loop : tie.InvT-loop
-Inv-loop out₀ at p row-firsts row-lasts row-sizes row-marks column-firsts column-lasts column-sizes column-marks count next₀ k₀ out next k = Unit {0}
+Inv-loop out₀ at p row-runs column-runs count next₀ k₀ out next k = Unit {0}
 
 abbrev μ-loop : tie.MeasureT-loop
-μ-loop out₀ at p row-firsts row-lasts row-sizes row-marks column-firsts column-lasts column-sizes column-marks count next₀ k₀ out next k = count - k
+μ-loop out₀ at p row-runs column-runs count next₀ k₀ out next k = count - k
 
 asked-requires : tie.Need-asked-requires Inv-loop μ-loop
 asked-requires c κs = search needs

@@ -5,10 +5,10 @@ use Rattle.planner_page_list_cases.proofs.places.say_places.Statement.{
 use Rattle.planner_page_list_cases.proofs.places.say_places.Tie as tie
 
 abbrev Inv-loop : tie.InvT-loop
-Inv-loop count plan row-firsts row-lasts row-sizes row-marks column-firsts column-lasts column-sizes column-marks list k₀ k = Unit {0}
+Inv-loop count plan row-runs column-runs list k₀ k = Unit {0}
 
 abbrev μ-loop : tie.MeasureT-loop
-μ-loop count plan row-firsts row-lasts row-sizes row-marks column-firsts column-lasts column-sizes column-marks list k₀ k = 4 - k
+μ-loop count plan row-runs column-runs list k₀ k = 4 - k
 
 loop-holds : tie.Need-loop-holds Inv-loop μ-loop
 loop-holds c = search needs
