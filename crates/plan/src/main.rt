@@ -1,5 +1,6 @@
 // Plans the job on standard input and prints the plan, or `no` and the number of a refusal: document 01, section "Jobs".
 use job::plan_job;
+use job_questions::MOST_BYTES;
 use job_report::head_lines;
 use job_report::page_block;
 use libc::STDIN_FILENO;
@@ -9,7 +10,7 @@ use planner_rules::Planning;
 use planner_rules::RUN_NUMBERS;
 
 // One byte more than a job may have: whoever sends so many has sent too many, and no more are read.
-const MOST: usize = 60_001;
+const MOST: usize = MOST_BYTES + 1;
 
 // "Its run lists hold 5,000 entries an axis".
 const RUNS: usize = 5000;

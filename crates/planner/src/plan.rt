@@ -153,11 +153,11 @@ fn count_cut(
 ) -> FinalCut
     requires { ⌜ call.Cuttable ready (now indexes) (now sizes) ⌝ }
     ensures { λ r. ⌜
-        r ≡ call.cutOf
-        (call.readyRuns ready permille (now (indexes .entry)) (now (sizes .entry)) (now («merge_firsts» .entry))
-        (now («merge_lasts» .entry)) (now (breaks .entry)))
-        (call.readyShifts ready permille (now (indexes .entry)) (now («merge_firsts» .entry)) (now («merge_lasts» .entry))
-        (now (breaks .entry)))
+        (let is = now (indexes .entry) in
+        let firsts = now («merge_firsts» .entry) in
+        let lasts = now («merge_lasts» .entry) in
+        let bs = now (breaks .entry) in
+        r ≡ call.cutOf (call.readyRuns ready permille is (now (sizes .entry)) firsts lasts bs) (call.readyShifts ready permille is firsts lasts bs))
         ⌝ }
     ensures { λ r. ⌜ (r .runs ≤ 2 ^ 20) × (r .expansions ≤ 2 ^ 20) × (r .shifts ≤ length (now (breaks .entry))) ⌝ }
 {

@@ -102,9 +102,8 @@ fn runs_pass(
     requires { ⌜ Low page ⌝ }
     requires { ⌜ Slots (now indexes) (now sizes) ⌝ }
     ensures { λ r. ⌜
-        r ≡ allFit (spaceOf page) (titled (frame .title)) permille
-        (runs frame (now (mfirsts .entry)) (now (mlasts .entry)) (now (indexes .entry)) (now (sizes .entry))) && meets target
-        (length (runs frame (now (mfirsts .entry)) (now (mlasts .entry)) (now (indexes .entry)) (now (sizes .entry))))
+        (let rs = runs frame (now (mfirsts .entry)) (now (mlasts .entry)) (now (indexes .entry)) (now (sizes .entry)) in
+        r ≡ allFit (spaceOf page) (titled (frame .title)) permille rs && meets target (length rs))
         ⌝ }
 {
     let title = frame.title;
