@@ -24,7 +24,7 @@ use Rattle.job_reader.specs.declared.lists.Job.{Job}
 use Rattle.job_reader.specs.declared.lists.Reading.{Reading}
 use Rattle.job_reader.specs.declared.lists.Reading.the-variants as reading
 use Rattle.job_records.specs.Records.{RW, CL, MR, BR, BC, records, marked, values, field}
-use Rattle.job_questions.specs.Verdict.{verdictLent, question1, itemsOf}
+use Rattle.job_questions.specs.Verdict.{verdictLent, question1}
 use Rattle.job_reader.specs.Settings.{settingsOf}
 use Rattle.job_reader.specs.Reading.{Lists, lists, evenLists as itemsEven, roomIn, readJob, jobOf, readingOutcome, JobRead}
 use Rattle.job_reader.proofs.ReadingLaws.{admit-no, job-refused as not-read}

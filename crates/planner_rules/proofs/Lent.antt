@@ -1,7 +1,7 @@
 -- A loop that writes a lent list from its front, and runs in it, one after another. Assumes nothing.
-use mathlib.Core.Path.{_≡_, refl, sym, ap, ap₂, _∙_}
+use mathlib.Core.Path.{_≡_, refl, sym, ap, _∙_}
 use mathlib.Core.List.{List, [], _∷_, _++_, map, append-nil, append-assoc}
-use Prim.Native.Nat.{ℕ, zero, suc, _+_, _*_, _/_, _-_, _≤_, _<_}
+use Prim.Native.Nat.{ℕ, zero, suc, _+_, _*_, _-_, _≤_, _<_}
 use native.Mathlib.Numerals.{add-one}
 use native.Mathlib.Omega.{arith}
 use lib.ListN.{length, getD, take, drop, set, length-set, take-append-drop, length-append, length-drop, drop-of-length-le}
@@ -54,9 +54,6 @@ flat-length (r ∷ rs) = omega (arith, flat-length rs)
 -- so many runs have room where so many are no more than the list has room for
 pub room-runs : (rs : List Run) (l : List ℕ) → length rs ≤ roomIn l → Room rs l
 room-runs rs l h = omega (arith, flat-length rs)
-
-pub runs-room : (rs : List Run) (l : List ℕ) → Room rs l → length rs ≤ roomIn l
-runs-room rs l h = omega (arith, flat-length rs)
 
 -- ---- numbers as runs
 

@@ -1,6 +1,6 @@
 -- Laws of the whole list of pages: how many there are, what stands in the lent list, and that the list and the page by number agree. Assumes nothing.
 use mathlib.Core.Path.{_≡_, refl, sym, ap, _∙_}
-use mathlib.Core.Bool.{Bool, true, false, _&&_}
+use mathlib.Core.Bool.{Bool, true, false}
 use mathlib.Core.WellFounded.{Acc, Acc·intro, WellFounded}
 use mathlib.Core.List.{List, [], _∷_, _++_}
 use Prim.Native.Nat.{ℕ, zero, suc, _+_, _-_, _*_, _/_, _≤_, _<_, _^_, min, zero-le}

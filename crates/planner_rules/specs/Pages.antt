@@ -3,7 +3,7 @@ use mathlib.Core.Bool.{Bool, true, false, cond, _&&_}
 use mathlib.Core.List.{List, [], _∷_, _++_, map}
 use Prim.Native.Nat.{ℕ, zero, suc, _+_, _*_, _/_, _%_, _^_, _≤_, min}
 use lib.Dec.{leb, ltb}
-use lib.ListN.{length, getD, take, drop}
+use lib.ListN.{length, take, drop}
 use Rattle.units.specs.Outcome.{Outcome, given, refused}
 use Rattle.planner_rules.specs.declared.titles.Title.{Title}
 use Rattle.planner_rules.specs.declared.pages.PageOrder.{PageOrder}

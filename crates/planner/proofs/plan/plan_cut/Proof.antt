@@ -4,7 +4,6 @@ use mathlib.Core.List.{List}
 use Prim.Native.Nat.{_+_, _*_, _^_, _<_}
 use lib.ListN.{length}
 use Rattle.planner_rules.specs.declared.pages.Notes.{Notes}
-use Rattle.planner_rules.specs.declared.planning.FinalCut.{FinalCut}
 use Rattle.planner_rules.specs.Runs.{Run}
 use Rattle.planner_rules.specs.Lent.{roomIn}
 use Rattle.planner_rules.specs.Scale.{scaleOf}

@@ -1,7 +1,7 @@
 -- `planner::plan::plan_pages` meets its contract: a no refuses, and else both axes are planned; from that, demand 3. Assumes nothing.
 use mathlib.Core.Path.{_≡_, sym, ap, ap₂, _∙_}
 use mathlib.Core.List.{List}
-use Prim.Native.Nat.{ℕ, _≤_, _<_}
+use Prim.Native.Nat.{ℕ, _≤_}
 use lib.ListN.{length}
 use lib.Seq.{length-take-le}
 use Rattle.units.specs.Outcome.{given, refused}
