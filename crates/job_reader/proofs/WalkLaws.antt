@@ -27,7 +27,7 @@ use Rattle.job_records.specs.Records.{step, rank, isEnd, goesOn, records, marke
 use Rattle.job_questions.specs.Verdict.{follows, ordered}
 use Rattle.job_reader.specs.Walk.{before, ofKind, firstOf, Sorted, Past, isNumber, isFlag, isSlot, isBreak}
 use Rattle.planner_rules.proofs.QuestionLaws.{both}
-use Rattle.job_records.proofs.RecordLaws.{records-more, records-stop, step-used, part}
+use Rattle.job_records.proofs.RecordLaws.{records-more, records-stop, step-used, part, length-part}
 use Rattle.job_records.proofs.records.Record as R
 
 -- ---- marks that never fall
@@ -223,9 +223,17 @@ marked-nil : (k : ℕ) → marked k [] ≡ []
 unfolding marked
 marked-nil k = refl
 
+-- r is the next record of the kind k in s, which is what is left of b; it has n bytes
+pub record Comes (k : ℕ) (b s : List ℕ) (r : Record) (n : ℕ) : Type 0 where
+  pub rank-is : rank r ≡ k
+  pub used : (1 ≤ n) × (n ≤ length s)
+  pub less : length (take (length s - n) (drop n s)) < length s
+  pub head : marked k (records s) ≡ r ∷ marked k (records (take (length s - n) (drop n s)))
+  pub on : Going k (k + 1) b (take (length s - n) (drop n s))
+
 -- a loop over the records of a kind, which stand at the head
-module _ (k : ℕ) (b s : List ℕ) (w : Going k (k + 1) b s) (f : Next) (e : f ≡ ofKind k (before (step s))) where
-  pub kind-past : f ≡ Stop → Past (k + 1) b (length b - length s)
+module _ {k : ℕ} {b s : List ℕ} (w : Going k (k + 1) b s) {f : Next} (e : f ≡ ofKind k (before (step s))) where
+  kind-past : f ≡ Stop → Past (k + 1) b (length b - length s)
   kind-past h =
       kind-stops k (before (step s)) (sym e ∙ h)
       (λ q. past-end k (k + 1) b s w (before (step s)) refl q)
@@ -234,7 +242,7 @@ module _ (k : ℕ) (b s : List ℕ) (w : Going k (k + 1) b s) (f : Next) (e : f 
       above : (r : Record) (n : ℕ) → before (step s) ≡ Kind r n → (rank r ≡ k → ⊥) → k + 1 ≤ rank r
       above r n q o = apart k (rank r) (walk-sorted s (before (step s)) refl r n q k (w .sorted) .0) o
 
-  pub kind-end : f ≡ Stop → marked k (records s) ≡ []
+  kind-end : f ≡ Stop → marked k (records s) ≡ []
   kind-end h =
       kind-stops k (before (step s)) (sym e ∙ h)
       (λ q. rw (walk-end s (before (step s)) refl q) (marked-nil k))
@@ -246,21 +254,21 @@ module _ (k : ℕ) (b s : List ℕ) (w : Going k (k + 1) b s) (f : Next) (e : f 
           let a = apart k (rank r) (v .0) o in
           sorted-above k (rank r) (records (take (length s - n) (drop n s))) (omega arith) (v .1)
 
-  module _ (r : Record) (n : ℕ) (h : f ≡ Kind r n) where
-    this : (before (step s) ≡ Kind r n) × (rank r ≡ k)
-    this = kind-goes k (before (step s)) r n (sym e ∙ h)
+  -- none is left: all of the kind were passed
+  pub kind-done : f ≡ Stop → Past (k + 1) b (length b - length s) × (marked k (records s) ≡ [])
+  kind-done h = (kind-past h, kind-end h)
 
-    pub kind-rank : rank r ≡ k
-    kind-rank = this .1
-
-    pub kind-used : (1 ≤ n) × (n ≤ length s)
-    kind-used = walk-used s (before (step s)) refl r n (this .0)
-
-    pub kind-head : marked k (records s) ≡ r ∷ marked k (records (take (length s - n) (drop n s)))
-    kind-head = walk-yes s (before (step s)) refl r n (this .0) k (this .1)
-
-    pub kind-on : Going k (k + 1) b (take (length s - n) (drop n s))
-    kind-on = let q = this .1 in going-on k (k + 1) b s w (before (step s)) refl r n (this .0) (omega arith)
+  pub kind-next : {r : Record} {n : ℕ} → f ≡ Kind r n → Comes k b s r n
+  kind-next {r} {n} h =
+      let this = kind-goes k (before (step s)) r n (sym e ∙ h) in
+      let u = walk-used s (before (step s)) refl r n (this .0) in
+      record {
+        rank-is = this .1;
+        used = u;
+        less = omega (arith, length-part n s);
+        head = walk-yes s (before (step s)) refl r n (this .0) k (this .1);
+        on = going-on k (k + 1) b s w (before (step s)) refl r n (this .0) (omega (arith, this .1));
+      }
 
 -- ---- the first record of a kind
 
