@@ -109,19 +109,27 @@ goes (Read q m) r n k = go (isEnd q) refl k
         let j : m ≡ n = cc in
         (ap₂ Read i j, ap isEnd (sym i) ∙ g)
 
+-- a record that was read has n bytes of s
+pub record Used (s : List ℕ) (n : ℕ) : Type 0 where
+  pub some : 1 ≤ n
+  pub within : n ≤ length s
+  pub less : length (take (length s - n) (drop n s)) < length s
+
 -- a turn of a loop over s: f is what comes next
-module _ (s : List ℕ) (f : Next) (e : f ≡ before (step s)) where
+module _ (s : List ℕ) {f : Next} (e : f ≡ before (step s)) where
   pub walk-end : f ≡ Stop → records s ≡ []
   walk-end k = records-stop s (stops (step s) (sym e ∙ k))
 
-  module _ (r : Record) (n : ℕ) (k : f ≡ Kind r n) where
-    pub walk-used : (1 ≤ n) × (n ≤ length s)
-    walk-used = step-used s (step s) r n refl (goes (step s) r n (sym e ∙ k) .0)
+  module _ {r : Record} {n : ℕ} (k : f ≡ Kind r n) where
+    pub walk-used : Used s n
+    walk-used =
+        let u = step-used s (step s) r n refl (goes (step s) r n (sym e ∙ k) .0) in
+        record { some = u .0; within = u .1; less = omega (arith, length-part n s) }
 
     pub walk-on : records s ≡ r ∷ records (take (length s - n) (drop n s))
     walk-on =
         let g = goes (step s) r n (sym e ∙ k) in
-        rw (part n s) (records-more s r n (g .0) (walk-used .0) (walk-used .1) (g .1))
+        rw (part n s) (records-more s r n (g .0) (walk-used .some) (walk-used .within) (g .1))
 
     pub walk-yes : (j : ℕ) → rank r ≡ j → marked j (records s) ≡ r ∷ marked j (records (take (length s - n) (drop n s)))
     unfolding marked
@@ -202,21 +210,21 @@ going-past i j b s w h =
     let l = w .suffix .long in
     record { within = omega arith; left = rw (← (w .suffix .is)) (record { sorted = h; kept = w .kept }) }
 
-module _ (i j : ℕ) (b s : List ℕ) (w : Going i j b s) (f : Next) (e : f ≡ before (step s)) where
+module _ {i j : ℕ} {b s : List ℕ} (w : Going i j b s) {f : Next} (e : f ≡ before (step s)) where
   pub past-end : f ≡ Stop → Past j b (length b - length s)
-  past-end k = going-past i j b s w (rw (walk-end s f e k) tt)
+  past-end k = going-past i j b s w (rw (walk-end s e k) tt)
 
-  pub past-at : (r : Record) (n : ℕ) → f ≡ Kind r n → j ≤ rank r → Past j b (length b - length s)
-  past-at r n k h = going-past i j b s w (rw (walk-on s f e r n k) (h, walk-sorted s f e r n k i (w .sorted) .1))
+  pub past-at : {r : Record} {n : ℕ} → f ≡ Kind r n → j ≤ rank r → Past j b (length b - length s)
+  past-at k h = going-past i j b s w (rw (walk-on s e k) (h, walk-sorted s e k i (w .sorted) .1))
 
   -- a record before the marks from j on
-  pub going-on : (r : Record) (n : ℕ) → f ≡ Kind r n → rank r < j → Going i j b (take (length s - n) (drop n s))
-  going-on r n k h =
-      let v = walk-sorted s f e r n k i (w .sorted) in
+  pub going-on : {r : Record} {n : ℕ} → f ≡ Kind r n → rank r < j → Going i j b (take (length s - n) (drop n s))
+  going-on {r} {n} k h =
+      let v = walk-sorted s e k i (w .sorted) in
       record {
         sorted = sorted-less i (rank r) (records (take (length s - n) (drop n s))) (v .0) (v .1);
-        kept = λ m l. sym (walk-no s f e r n k m (λ q. omega arith)) ∙ w .kept m l;
-        suffix = suffix-on b s n (w .suffix) (walk-used s f e r n k .1);
+        kept = λ m l. sym (walk-no s e k m (λ q. omega arith)) ∙ w .kept m l;
+        suffix = suffix-on b s n (w .suffix) (walk-used s e k .within);
       }
 
 marked-nil : (k : ℕ) → marked k [] ≡ []
@@ -226,48 +234,34 @@ marked-nil k = refl
 -- r is the next record of the kind k in s, which is what is left of b; it has n bytes
 pub record Comes (k : ℕ) (b s : List ℕ) (r : Record) (n : ℕ) : Type 0 where
   pub rank-is : rank r ≡ k
-  pub used : (1 ≤ n) × (n ≤ length s)
-  pub less : length (take (length s - n) (drop n s)) < length s
+  pub used : Used s n
   pub head : marked k (records s) ≡ r ∷ marked k (records (take (length s - n) (drop n s)))
   pub on : Going k (k + 1) b (take (length s - n) (drop n s))
 
 -- a loop over the records of a kind, which stand at the head
 module _ {k : ℕ} {b s : List ℕ} (w : Going k (k + 1) b s) {f : Next} (e : f ≡ ofKind k (before (step s))) where
-  kind-past : f ≡ Stop → Past (k + 1) b (length b - length s)
-  kind-past h =
-      kind-stops k (before (step s)) (sym e ∙ h)
-      (λ q. past-end k (k + 1) b s w (before (step s)) refl q)
-      (λ r n q o. past-at k (k + 1) b s w (before (step s)) refl r n q (above r n q o))
-    where
-      above : (r : Record) (n : ℕ) → before (step s) ≡ Kind r n → (rank r ≡ k → ⊥) → k + 1 ≤ rank r
-      above r n q o = apart k (rank r) (walk-sorted s (before (step s)) refl r n q k (w .sorted) .0) o
-
-  kind-end : f ≡ Stop → marked k (records s) ≡ []
-  kind-end h =
-      kind-stops k (before (step s)) (sym e ∙ h)
-      (λ q. rw (walk-end s (before (step s)) refl q) (marked-nil k))
-      (λ r n q o. walk-no s (before (step s)) refl r n q k o ∙ after r n q o)
-    where
-      after : (r : Record) (n : ℕ) → before (step s) ≡ Kind r n → (rank r ≡ k → ⊥) → marked k (records (take (length s - n) (drop n s))) ≡ []
-      after r n q o =
-          let v = walk-sorted s (before (step s)) refl r n q k (w .sorted) in
-          let a = apart k (rank r) (v .0) o in
-          sorted-above k (rank r) (records (take (length s - n) (drop n s))) (omega arith) (v .1)
-
   -- none is left: all of the kind were passed
   pub kind-done : f ≡ Stop → Past (k + 1) b (length b - length s) × (marked k (records s) ≡ [])
-  kind-done h = (kind-past h, kind-end h)
+  kind-done h = (
+    kind-stops k (before (step s)) (sym e ∙ h) (past-end w refl) (λ r n q o. past-at w refl q (above q o)),
+    kind-stops k (before (step s)) (sym e ∙ h) (λ q. rw (walk-end s refl q) (marked-nil k)) (λ r n q o. walk-no s refl q k o ∙ after q o),
+  )
+    where
+      above : {r : Record} {n : ℕ} → before (step s) ≡ Kind r n → (rank r ≡ k → ⊥) → k + 1 ≤ rank r
+      above {r} q o = apart k (rank r) (walk-sorted s refl q k (w .sorted) .0) o
+
+      after : {r : Record} {n : ℕ} → before (step s) ≡ Kind r n → (rank r ≡ k → ⊥) → marked k (records (take (length s - n) (drop n s))) ≡ []
+      after {r} {n} q o =
+          sorted-above k (rank r) (records (take (length s - n) (drop n s))) (omega (arith, above q o)) (walk-sorted s refl q k (w .sorted) .1)
 
   pub kind-next : {r : Record} {n : ℕ} → f ≡ Kind r n → Comes k b s r n
   kind-next {r} {n} h =
       let this = kind-goes k (before (step s)) r n (sym e ∙ h) in
-      let u = walk-used s (before (step s)) refl r n (this .0) in
       record {
         rank-is = this .1;
-        used = u;
-        less = omega (arith, length-part n s);
-        head = walk-yes s (before (step s)) refl r n (this .0) k (this .1);
-        on = going-on k (k + 1) b s w (before (step s)) refl r n (this .0) (omega (arith, this .1));
+        used = walk-used s refl (this .0);
+        head = walk-yes s refl (this .0) k (this .1);
+        on = going-on w refl (this .0) (omega (arith, this .1));
       }
 
 -- ---- the first record of a kind
@@ -318,26 +312,33 @@ module _ (k : ℕ) (rs : List Record) (f : Lookup) (e : f ≡ firstOf (marked k 
 
 -- ---- the loop that looks for a record
 
-module _ (k : ℕ) (b s : List ℕ) (o : Sorted 0 (records s)) (w : marked k (records s) ≡ marked k (records b)) (f : Next) (e : f ≡ before (step s)) where
+-- s is left of b, and no record of the kind k was passed
+pub record Looking (k : ℕ) (b s : List ℕ) : Type 0 where
+  pub sorted : Sorted 0 (records s)
+  pub same : marked k (records s) ≡ marked k (records b)
+
+module _ {k : ℕ} {b s : List ℕ} (w : Looking k b s) {f : Next} (e : f ≡ before (step s)) where
   pub look-end : f ≡ Stop → Missing ≡ firstOf (marked k (records b))
   unfolding marked
-  look-end h = sym (ap firstOf (sym w ∙ ap (marked k) (walk-end s f e h)))
+  look-end h = sym (ap firstOf (sym (w .same) ∙ ap (marked k) (walk-end s e h)))
 
-  module _ (r : Record) (n x : ℕ) (h : f ≡ Kind r n) (i : x ≡ rank r) where
+  module _ {r : Record} {n x : ℕ} (h : f ≡ Kind r n) (i : x ≡ rank r) where
     pub look-found : x ≡ k → Found r ≡ firstOf (marked k (records b))
-    look-found j = sym (ap firstOf (sym w ∙ walk-yes s f e r n h k (sym i ∙ j)))
+    look-found j = sym (ap firstOf (sym (w .same) ∙ walk-yes s e h k (sym i ∙ j)))
 
     pub look-past : k < x → Missing ≡ firstOf (marked k (records b))
     look-past j =
-        let v = walk-sorted s f e r n h 0 o in
+        let v = walk-sorted s e h 0 (w .sorted) in
         sym (ap firstOf
-        (sym w ∙ walk-no s f e r n h k (λ q. omega arith) ∙ sorted-above k (rank r) (records (take (length s - n) (drop n s))) (omega arith) (v .1)))
+        (sym (w .same) ∙ walk-no s e h k (λ q. omega arith) ∙ sorted-above k (rank r) (records (take (length s - n) (drop n s))) (omega arith) (v .1)))
 
-    pub look-on : (x ≡ k → ⊥) → Sorted 0 (records (take (length s - n) (drop n s)))
-        × (marked k (records (take (length s - n) (drop n s))) ≡ marked k (records b))
+    pub look-on : (x ≡ k → ⊥) → Looking k b (take (length s - n) (drop n s))
     look-on j =
-        let v = walk-sorted s f e r n h 0 o in
-        (sorted-less 0 (rank r) (records (take (length s - n) (drop n s))) (omega arith) (v .1), sym (walk-no s f e r n h k (λ q. j (i ∙ q))) ∙ w)
+        let v = walk-sorted s e h 0 (w .sorted) in
+        record {
+          sorted = sorted-less 0 (rank r) (records (take (length s - n) (drop n s))) (omega arith) (v .1);
+          same = sym (walk-no s e h k (λ q. j (i ∙ q))) ∙ w .same;
+        }
 
 -- ---- the kinds that an arm leaves out
 

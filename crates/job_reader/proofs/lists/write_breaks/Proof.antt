@@ -104,7 +104,7 @@ add-k c =
 loop-less : tie.Need-loop-less Inv-loop μ-loop
 loop-less c =
     let d : tie.After-found Inv-loop μ-loop = search in
-    next d .less
+    next d .used .less
 
 loop-again : tie.Need-loop-again Inv-loop μ-loop
 loop-again c =
