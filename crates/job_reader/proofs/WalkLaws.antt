@@ -7,8 +7,7 @@ use Prim.Native.Nat.{ℕ, suc, _+_, _-_, _≤_, _<_}
 use native.Mathlib.Decide.{decLe}
 use native.Mathlib.Nat.{lt-of-not-le}
 use native.Mathlib.Omega.{arith}
-use types.Run.{OneOf, miss}
-use mir.Val.{hasKey}
+use types.Run.{OneOf}
 use denote.Enum.Declared.{tagOf}
 use lib.Dec.{T, ltb, leb, eqb}
 use lib.ListN.{length, take, drop, length-drop}
@@ -25,7 +24,7 @@ use Rattle.job_reader.specs.declared.settings.Lookup.{Lookup}
 use Rattle.job_reader.specs.declared.settings.Lookup.the-variants.{Found, Missing}
 use Rattle.job_records.specs.Records.{step, rank, isEnd, goesOn, records, marked}
 use Rattle.job_questions.specs.Verdict.{follows, ordered}
-use Rattle.job_reader.specs.Walk.{before, ofKind, firstOf, Sorted, Past, isNumber, isFlag, isSlot, isBreak}
+use Rattle.job_reader.specs.Walk.{before, ofKind, firstOf, Sorted, Past}
 use Rattle.planner_rules.proofs.QuestionLaws.{both}
 use Rattle.job_records.proofs.RecordLaws.{records-more, records-stop, step-used, part, length-part}
 use Rattle.job_records.proofs.records.Record as R
@@ -266,11 +265,6 @@ module _ {k : ℕ} {b s : List ℕ} (w : Going k (k + 1) b s) {f : Next} (e : f 
 
 -- ---- the first record of a kind
 
-pub record Head (k : ℕ) (rs : List Record) (r : Record) : Type 0 where
-  pub tail : List Record
-  pub is : marked k rs ≡ r ∷ tail
-  pub rank-is : rank r ≡ k
-
 marked-rank : (k : ℕ) (rs : List Record) (r : Record) (t : List Record) → marked k rs ≡ r ∷ t → rank r ≡ k
 unfolding marked
 marked-rank k [] r t e = let z : _≡_ {A = ℕ} 0 1 = cc in absurd (omega arith)
@@ -280,35 +274,32 @@ marked-rank k (q ∷ qs) r t e = go (eqb (rank q) k) refl e (marked-rank k qs r 
     go true i h later = let j : q ≡ r = cc in ap rank (sym j) ∙ eqb-true (rank q) k i
     go false i h later = later h
 
-module _ (k : ℕ) (rs : List Record) (f : Lookup) (e : f ≡ firstOf (marked k rs)) where
-  found-none : f ≡ Missing → marked k rs ≡ []
-  found-none h = go (marked k rs) (sym e ∙ h)
+-- f is the first record with the mark k, or that there is none
+pub record Looked (k : ℕ) (rs : List Record) (f : Lookup) : Type 0 where
+  pub is : f ≡ firstOf (marked k rs)
+
+module _ {k : ℕ} {rs : List Record} {f : Lookup} (w : Looked k rs f) where
+  found-rank : {r : Record} → f ≡ Found r → rank r ≡ k
+  found-rank {r} h = go (marked k rs) refl (sym (w .is) ∙ h)
     where
-      go : (l : List Record) → firstOf l ≡ Missing → l ≡ []
-      go [] h = refl
+      go : (l : List Record) → marked k rs ≡ l → firstOf l ≡ Found r → rank r ≡ k
+      go [] i h = let z : _≡_ {A = ℕ} 0 1 = cc in absurd (omega arith)
+      go (q ∷ l) i h = let j : q ≡ r = cc in ap rank (sym j) ∙ marked-rank k rs q l i
+
+  -- what is made of the records with the mark, where there is none and where there is one
+  pub from-none : {X : Type 0} (g : List Record → X) {v : X} → f ≡ Missing → g [] ≡ v → v ≡ g (marked k rs)
+  from-none {X} g {v} h p = go (marked k rs) (sym (w .is) ∙ h)
+    where
+      go : (l : List Record) → firstOf l ≡ Missing → v ≡ g l
+      go [] h = sym p
       go (r ∷ l) h = let z : _≡_ {A = ℕ} 0 1 = cc in absurd (omega arith)
 
-  found-one : (r : Record) → f ≡ Found r → Head k rs r
-  found-one r h = go (marked k rs) refl (sym e ∙ h)
+  pub from-one : {X : Type 0} (g : List Record → X) {v : X} {r q : Record} → f ≡ Found r → r ≡ q → ((t : List Record) → g (q ∷ t) ≡ v) → v ≡ g (marked k rs)
+  from-one {X} g {v} {r} {q} h i p = go (marked k rs) (sym (w .is) ∙ h)
     where
-      go : (l : List Record) → marked k rs ≡ l → firstOf l ≡ Found r → Head k rs r
-      go [] i h = let z : _≡_ {A = ℕ} 0 1 = cc in absurd (omega arith)
-      go (q ∷ l) i h =
-          let j : q ≡ r = cc in
-          let m : marked k rs ≡ r ∷ l = i ∙ ap (λ (y : Record). y ∷ l) j in
-          record { tail = l; is = m; rank-is = marked-rank k rs r l m }
-
-  pub found-rank : (r : Record) → f ≡ Found r → rank r ≡ k
-  found-rank r h = found-one r h .rank-is
-
-  -- what is made of the records with a mark, where there is none and where there is one
-  pub from-none : {X : Type 0} (g : List Record → X) (v : X) → f ≡ Missing → g [] ≡ v → v ≡ g (marked k rs)
-  from-none g v h i = sym i ∙ ap g (sym (found-none h))
-
-  pub from-one : {X : Type 0} (g : List Record → X) (v : X) (r q : Record) → f ≡ Found r → r ≡ q → ((t : List Record) → g (q ∷ t) ≡ v) → v ≡ g (marked k rs)
-  from-one g v r q h i p =
-      let w = found-one r h in
-      sym (ap g (w .is ∙ ap (λ (y : Record). y ∷ w .tail) i) ∙ p (w .tail))
+      go : (l : List Record) → firstOf l ≡ Found r → v ≡ g l
+      go [] h = let z : _≡_ {A = ℕ} 0 1 = cc in absurd (omega arith)
+      go (o ∷ t) h = let j : o ≡ q = cc in sym (ap (λ (y : Record). g (y ∷ t)) j ∙ p t)
 
 -- ---- the loop that looks for a record
 
@@ -363,20 +354,31 @@ tag-rank (RowBreak b) = refl
 tag-rank (ColumnBreak b) = refl
 tag-rank End = refl
 
--- a record of the rank k + 1 is none of the others
-pub no-other : (k : ℕ) (ts : List ℕ) (r : Record) → T (not (hasKey ts k)) → rank r ≡ suc k → OneOf ts (tagOf R.the-type r) → ⊥
-no-other k ts r h e o =
-    let i : tagOf R.the-type r ≡ k = omega (arith, tag-rank r) in
-    miss ts k h (rw i at o)
+-- the tags of all kinds
+abbrev tags : List ℕ
+tags = 0 ∷ 1 ∷ 2 ∷ 3 ∷ 4 ∷ 5 ∷ 6 ∷ 7 ∷ 8 ∷ 9 ∷ 10 ∷ 11 ∷ 12 ∷ 13 ∷ 14 ∷ 15 ∷ 16 ∷ 17 ∷ 18 ∷ []
+
+-- those of the ranks that p does not hold of
+abbrev others : (ℕ → Bool) → List ℕ → List ℕ
+others p [] = []
+others p (t ∷ ts) = cond (p (suc t)) (others p ts) (t ∷ others p ts)
 
 -- p holds of no record with one of the tags
 abbrev noneOf : (ℕ → Bool) → List ℕ → Bool
 noneOf p [] = true
 noneOf p (t ∷ ts) = not (p (suc t)) && noneOf p ts
 
--- a record of a rank that p holds of has none of the tags
-no-kind : (p : ℕ → Bool) (ts : List ℕ) (r : Record) → noneOf p ts ≡ true → p (rank r) ≡ true → OneOf ts (tagOf R.the-type r) → ⊥
-no-kind p ts r h e o = go (tagOf R.the-type r) (ap p (sym (tag-rank r)) ∙ e) ts h o
+none-others : (p : ℕ → Bool) (ts : List ℕ) → noneOf p (others p ts) ≡ true
+none-others p [] = refl
+none-others p (t ∷ ts) = go (p (suc t)) refl (none-others p ts)
+  where
+    go : (b : Bool) → p (suc t) ≡ b → noneOf p (others p ts) ≡ true → noneOf p (cond b (others p ts) (t ∷ others p ts)) ≡ true
+    go true e h = h
+    go false e h = rw e h
+
+-- a record of a rank that p holds of is none of the others
+pub no-kind : (p : ℕ → Bool) (r : Record) → p (rank r) ≡ true → OneOf (others p tags) (tagOf R.the-type r) → ⊥
+no-kind p r e o = go (tagOf R.the-type r) (ap p (sym (tag-rank r)) ∙ e) (others p tags) (none-others p tags) o
   where
     no : (b : Bool) → b ≡ true → not b ≡ true → ⊥
     no true e h = true≢false (sym h)
@@ -391,18 +393,14 @@ no-kind p ts r h e o = go (tagOf R.the-type r) (ap p (sym (tag-rank r)) ∙ e) t
     go x e (t ∷ (u ∷ ts)) h (inl o) = at x t e (both (not (p (suc t))) (noneOf p (u ∷ ts)) h .0) o
     go x e (t ∷ (u ∷ ts)) h (inr o) = go x e (u ∷ ts) (both (not (p (suc t))) (noneOf p (u ∷ ts)) h .1) o
 
-pub no-number : (r : Record) → isNumber (rank r) ≡ true → OneOf (1 ∷ 2 ∷ 6 ∷ 7 ∷ 8 ∷ 9 ∷ 10 ∷ 11 ∷ 12 ∷ 13 ∷ 14 ∷ 15 ∷ 16 ∷ 17 ∷ 18 ∷ []) (tagOf R.the-type r)
-    → ⊥
-no-number r = no-kind isNumber (1 ∷ 2 ∷ 6 ∷ 7 ∷ 8 ∷ 9 ∷ 10 ∷ 11 ∷ 12 ∷ 13 ∷ 14 ∷ 15 ∷ 16 ∷ 17 ∷ 18 ∷ []) r refl
+-- a record of the rank k is none of the others
+pub no-other : (k : ℕ) (r : Record) → rank r ≡ k → OneOf (others (λ x. eqb x k) tags) (tagOf R.the-type r) → ⊥
+no-other k r e = no-kind (λ x. eqb x k) r (eq-eqb (rank r) k e)
 
-pub no-flag : (r : Record) → isFlag (rank r) ≡ true → OneOf (0 ∷ 1 ∷ 2 ∷ 3 ∷ 4 ∷ 5 ∷ 8 ∷ 9 ∷ 10 ∷ 11 ∷ 12 ∷ 13 ∷ 14 ∷ 15 ∷ 16 ∷ 17 ∷ 18 ∷ [])
-    (tagOf R.the-type r) → ⊥
-no-flag r = no-kind isFlag (0 ∷ 1 ∷ 2 ∷ 3 ∷ 4 ∷ 5 ∷ 8 ∷ 9 ∷ 10 ∷ 11 ∷ 12 ∷ 13 ∷ 14 ∷ 15 ∷ 16 ∷ 17 ∷ 18 ∷ []) r refl
+-- and so is one that was found
+module _ {k : ℕ} {rs : List Record} {f : Lookup} (w : Looked k rs f) {r : Record} (h : f ≡ Found r) where
+  pub found-kind : (p : ℕ → Bool) → p k ≡ true → OneOf (others p tags) (tagOf R.the-type r) → ⊥
+  found-kind p e = no-kind p r (ap p (found-rank w h) ∙ e)
 
-pub no-slot : (r : Record) → isSlot (rank r) ≡ true → OneOf (0 ∷ 1 ∷ 2 ∷ 3 ∷ 4 ∷ 5 ∷ 6 ∷ 7 ∷ 8 ∷ 9 ∷ 10 ∷ 11 ∷ 12 ∷ 15 ∷ 16 ∷ 17 ∷ 18 ∷ [])
-    (tagOf R.the-type r) → ⊥
-no-slot r = no-kind isSlot (0 ∷ 1 ∷ 2 ∷ 3 ∷ 4 ∷ 5 ∷ 6 ∷ 7 ∷ 8 ∷ 9 ∷ 10 ∷ 11 ∷ 12 ∷ 15 ∷ 16 ∷ 17 ∷ 18 ∷ []) r refl
-
-pub no-break : (r : Record) → isBreak (rank r) ≡ true → OneOf (0 ∷ 1 ∷ 2 ∷ 3 ∷ 4 ∷ 5 ∷ 6 ∷ 7 ∷ 8 ∷ 9 ∷ 10 ∷ 11 ∷ 12 ∷ 13 ∷ 14 ∷ 15 ∷ 18 ∷ [])
-    (tagOf R.the-type r) → ⊥
-no-break r = no-kind isBreak (0 ∷ 1 ∷ 2 ∷ 3 ∷ 4 ∷ 5 ∷ 6 ∷ 7 ∷ 8 ∷ 9 ∷ 10 ∷ 11 ∷ 12 ∷ 13 ∷ 14 ∷ 15 ∷ 18 ∷ []) r refl
+  pub found-no-other : OneOf (others (λ x. eqb x k) tags) (tagOf R.the-type r) → ⊥
+  found-no-other = no-other k r (found-rank w h)
