@@ -170,8 +170,8 @@ pub record Rooms (s : List ℕ) (l : Lists) : Type 0 where
   pub last-rows-even : length (l .merge-first-rows) ≡ length (l .merge-last-rows)
   pub last-columns-even : length (l .merge-first-rows) ≡ length (l .merge-last-columns)
 
-pub rooms : (s : List ℕ) (l : Lists) → Room s l → Rooms s l
-rooms s l w =
+pub rooms : {s : List ℕ} {l : Lists} → Room s l → Rooms s l
+rooms w =
     let a = both _ _ (w .fits) in
     let b = both _ _ (a .1) in
     let c = both _ _ (b .1) in
@@ -195,20 +195,20 @@ rooms s l w =
 
 -- ---- the part of a job that is left
 
-pub part-from : (k : ℕ) (b : List ℕ) (n : ℕ) → Past k b n → From k b (take (length b - n) (drop n b))
-part-from k b n p = rw (part n b) (p .left)
+pub part-from : {k : ℕ} {b : List ℕ} {n : ℕ} → Past k b n → From k b (take (length b - n) (drop n b))
+part-from {k} {b} {n} p = rw (part n b) (p .left)
 
-pub from-on : (k m : ℕ) (b s : List ℕ) (n : ℕ) → From k b s → Past m s n → k ≤ m → From m b (take (length s - n) (drop n s))
-from-on k m b s n w p h =
-    let v = part-from m s n p in
+pub from-on : {k m : ℕ} {b s : List ℕ} {n : ℕ} → From k b s → Past m s n → k ≤ m → From m b (take (length s - n) (drop n s))
+from-on w p h =
+    let v = part-from p in
     record { sorted = v .sorted; kept = λ j i. v .kept j i ∙ w .kept j (omega arith) }
 
-module _ (k : ℕ) (b s : List ℕ) (w : From k b s) where
+module _ {k : ℕ} {b s : List ℕ} (w : From k b s) where
   same : marked k (records s) ≡ marked k (records b)
   same = w .kept k (omega arith)
 
-  pub room-from : (n : ℕ) → length (marked k (records b)) ≤ n → length (marked k (records s)) ≤ n
-  room-from n h = rw same h
+  pub room-from : {n : ℕ} → length (marked k (records b)) ≤ n → length (marked k (records s)) ≤ n
+  room-from h = rw same h
 
-  pub values-from : (f : ℕ) (old new : List ℕ) → new ≡ written (values k f (records s)) old → new ≡ written (values k f (records b)) old
-  values-from f old new e = e ∙ ap (λ (l : List Record). written (map (field f) l) old) same
+  pub values-from : (f : ℕ) (old : List ℕ) {new : List ℕ} → new ≡ written (values k f (records s)) old → new ≡ written (values k f (records b)) old
+  values-from f old e = e ∙ ap (λ (l : List Record). written (map (field f) l) old) same
