@@ -85,54 +85,34 @@ returns c =
     job-refused (s .args .bytes .now) (lent s) (after-admit-to .admit-to .result) _ (after-admit-to .admit-to .ensures) (c .before .admitted .given .1)
 
 same-length-11 : tie.Need-same-length-11
-same-length-11 c =
-    let after-write-items : tie.After-write-items = search in
-    after-write-items .write-items .kept .1 .0
+same-length-11 c = search
 
 same-length-12 : tie.Need-same-length-12
-same-length-12 c =
-    let after-write-items : tie.After-write-items = search in
-    after-write-items .write-items .kept .1 .1 .0
+same-length-12 c = search
 
 same-length-13 : tie.Need-same-length-13
-same-length-13 c =
-    let after-write-items : tie.After-write-items = search in
-    after-write-items .write-items .kept .1 .1 .1 .0
+same-length-13 c = search
 
 same-length-14 : tie.Need-same-length-14
-same-length-14 c =
-    let after-write-items : tie.After-write-items = search in
-    after-write-items .write-items .kept .1 .1 .1 .1 .0
+same-length-14 c = search
 
 same-length-15 : tie.Need-same-length-15
-same-length-15 c =
-    let after-write-items : tie.After-write-items = search in
-    after-write-items .write-items .kept .1 .1 .1 .1 .1 .0
+same-length-15 c = search
 
 same-length-16 : tie.Need-same-length-16
-same-length-16 c =
-    let after-write-items : tie.After-write-items = search in
-    after-write-items .write-items .kept .1 .1 .1 .1 .1 .1 .0
+same-length-16 c = search
 
 same-length-17 : tie.Need-same-length-17
-same-length-17 c =
-    let after-write-items : tie.After-write-items = search in
-    after-write-items .write-items .kept .1 .1 .1 .1 .1 .1 .1 .0
+same-length-17 c = search
 
 same-length-18 : tie.Need-same-length-18
-same-length-18 c =
-    let after-write-items : tie.After-write-items = search in
-    after-write-items .write-items .kept .1 .1 .1 .1 .1 .1 .1 .1 .0
+same-length-18 c = search
 
 same-length-19 : tie.Need-same-length-19
-same-length-19 c =
-    let after-write-items : tie.After-write-items = search in
-    after-write-items .write-items .kept .1 .1 .1 .1 .1 .1 .1 .1 .1 .0
+same-length-19 c = search
 
 same-length-20 : tie.Need-same-length-20
-same-length-20 c =
-    let after-write-items : tie.After-write-items = search in
-    after-write-items .write-items .kept .1 .1 .1 .1 .1 .1 .1 .1 .1 .1 .0
+same-length-20 c = search
 
 returns-2 : tie.Need-returns-2
 returns-2 c =

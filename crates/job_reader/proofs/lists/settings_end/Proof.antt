@@ -33,9 +33,7 @@ enum-told : tie.Need-enum-told Inv-loop μ-loop
 enum-told c = search needs
 
 sub-result : tie.Need-sub-result Inv-loop μ-loop
-sub-result c =
-    let at-loop : tie.At-loop Inv-loop μ-loop = search in
-    at-loop .loop .inv .suffix .long
+sub-result c = search
 
 returns : tie.Need-returns Inv-loop μ-loop
 returns c =
@@ -47,9 +45,7 @@ rank-of-requires : tie.Need-rank-of-requires Inv-loop μ-loop
 rank-of-requires c κs = search needs
 
 sub-result-2 : tie.Need-sub-result-2 Inv-loop μ-loop
-sub-result-2 c =
-    let at-loop : tie.At-loop Inv-loop μ-loop = search in
-    at-loop .loop .inv .suffix .long
+sub-result-2 c = search
 
 returns-2 : tie.Need-returns-2 Inv-loop μ-loop
 returns-2 c =

@@ -48,14 +48,10 @@ enum-told : tie.Need-enum-told Inv-loop μ-loop
 enum-told c = search needs
 
 sub-result : tie.Need-sub-result Inv-loop μ-loop
-sub-result c =
-    let at-loop : tie.At-loop Inv-loop μ-loop = search in
-    at-loop .loop .inv .0 .suffix .long
+sub-result c = search
 
 same-length : tie.Need-same-length Inv-loop μ-loop
-same-length c =
-    let at-loop : tie.At-loop Inv-loop μ-loop = search in
-    at-loop .loop .inv .1 .wrote .long
+same-length c = search
 
 returns : tie.Need-returns Inv-loop μ-loop
 returns c =
