@@ -72,12 +72,12 @@ apart k n h o =
 
 -- ---- the next record
 
-module _ (s : List ℕ) (f : Step) (e : f ≡ step s) where
+module _ (s : List ℕ) {f : Step} (e : f ≡ step s) where
   pub next-nothing : f ≡ Nothing → Stop ≡ before (step s)
   unfolding before
   next-nothing k = sym (ap before (sym e ∙ k))
 
-  module _ (r : Record) (n x : ℕ) (k : f ≡ Read r n) (i : x ≡ rank r) where
+  module _ {r : Record} {n x : ℕ} (k : f ≡ Read r n) (i : x ≡ rank r) where
     pub next-end : x ≡ 19 → Stop ≡ before (step s)
     unfolding before
     next-end h = rw (← e, k, eq-eqb (rank r) 19 (sym i ∙ h))
@@ -143,11 +143,11 @@ module _ (s : List ℕ) {f : Next} (e : f ≡ before (step s)) where
 
 -- ---- the record of a kind
 
-pub kind-none : (k : ℕ) (g f : Next) → f ≡ g → f ≡ Stop → Stop ≡ ofKind k g
+pub kind-none : (k : ℕ) {g f : Next} → f ≡ g → f ≡ Stop → Stop ≡ ofKind k g
 unfolding ofKind
-kind-none k g f e i = sym (ap (ofKind k) (sym e ∙ i))
+kind-none k e i = sym (ap (ofKind k) (sym e ∙ i))
 
-module _ (k : ℕ) (g f : Next) (e : f ≡ g) (r : Record) (n x : ℕ) (i : f ≡ Kind r n) (j : x ≡ rank r) where
+module _ (k : ℕ) {g f : Next} (e : f ≡ g) {r : Record} {n x : ℕ} (i : f ≡ Kind r n) (j : x ≡ rank r) where
   pub kind-some : x ≡ k → Kind r n ≡ ofKind k g
   unfolding ofKind
   kind-some h = rw (← e, i, eq-eqb (rank r) k (sym j ∙ h))
@@ -308,28 +308,31 @@ pub record Looking (k : ℕ) (b s : List ℕ) : Type 0 where
   pub sorted : Sorted 0 (records s)
   pub same : marked k (records s) ≡ marked k (records b)
 
+-- r is the next record in s, with n bytes and the rank x: it is the one, or none comes, or the look goes on after it
+pub record Seen (k : ℕ) (b s : List ℕ) (r : Record) (n x : ℕ) : Type 0 where
+  pub used : Used s n
+  pub here : x ≡ k → Found r ≡ firstOf (marked k (records b))
+  pub past : k < x → Missing ≡ firstOf (marked k (records b))
+  pub on : (x ≡ k → ⊥) → Looking k b (take (length s - n) (drop n s))
+
 module _ {k : ℕ} {b s : List ℕ} (w : Looking k b s) {f : Next} (e : f ≡ before (step s)) where
   pub look-end : f ≡ Stop → Missing ≡ firstOf (marked k (records b))
   unfolding marked
   look-end h = sym (ap firstOf (sym (w .same) ∙ ap (marked k) (walk-end s e h)))
 
-  module _ {r : Record} {n x : ℕ} (h : f ≡ Kind r n) (i : x ≡ rank r) where
-    pub look-found : x ≡ k → Found r ≡ firstOf (marked k (records b))
-    look-found j = sym (ap firstOf (sym (w .same) ∙ walk-yes s e h k (sym i ∙ j)))
-
-    pub look-past : k < x → Missing ≡ firstOf (marked k (records b))
-    look-past j =
-        let v = walk-sorted s e h 0 (w .sorted) in
-        sym (ap firstOf
-        (sym (w .same) ∙ walk-no s e h k (λ q. omega arith) ∙ sorted-above k (rank r) (records (take (length s - n) (drop n s))) (omega arith) (v .1)))
-
-    pub look-on : (x ≡ k → ⊥) → Looking k b (take (length s - n) (drop n s))
-    look-on j =
-        let v = walk-sorted s e h 0 (w .sorted) in
-        record {
-          sorted = sorted-less 0 (rank r) (records (take (length s - n) (drop n s))) (omega arith) (v .1);
+  pub look-next : {r : Record} {n x : ℕ} → f ≡ Kind r n → x ≡ rank r → Seen k b s r n x
+  look-next {r} {n} {x} h i =
+      let v = walk-sorted s e h 0 (w .sorted) in
+      let rest = records (take (length s - n) (drop n s)) in
+      record {
+        used = walk-used s e h;
+        here = λ j. sym (ap firstOf (sym (w .same) ∙ walk-yes s e h k (sym i ∙ j)));
+        past = λ j. sym (ap firstOf (sym (w .same) ∙ walk-no s e h k (λ q. omega arith) ∙ sorted-above k (rank r) rest (omega arith) (v .1)));
+        on = λ j. record {
+          sorted = sorted-less 0 (rank r) rest (omega arith) (v .1);
           same = sym (walk-no s e h k (λ q. j (i ∙ q))) ∙ w .same;
-        }
+        };
+      }
 
 -- ---- the kinds that an arm leaves out
 

@@ -1,7 +1,7 @@
 -- `job_reader::settings::find_record` meets its contract. Assumes nothing.
 use mathlib.Core.Path.{refl}
 use lib.ListN.{length}
-use Rattle.job_reader.proofs.WalkLaws.{Used, Looking, walk-used, look-end, look-found, look-past, look-on}
+use Rattle.job_reader.proofs.WalkLaws.{Looking, Seen, look-end, look-next}
 use borrow.Author.Needs.{needs}
 use native.Mathlib.Omega.{arith}
 use Rattle.job_reader.proofs.settings.find_record.Statement.{statement}
@@ -13,13 +13,16 @@ Inv-loop bytes wanted s₀ s = Looking wanted bytes s
 abbrev μ-loop : tie.MeasureT-loop
 μ-loop bytes wanted s₀ s = length s
 
--- the bytes of the record that was found
-used : (d : tie.After-found Inv-loop μ-loop) →
+-- the record that was found is the next, and its rank says what to do
+next : (d : tie.After-rank-of Inv-loop μ-loop) →
+    let start : tie.Start Inv-loop μ-loop = search in
     let at-loop : tie.At-loop Inv-loop μ-loop = search in
-    Used (at-loop .loop .s .now) (d .found .given .0 .1 .0)
-used d =
+    let f : tie.After-found Inv-loop μ-loop = search in
+    Seen (start .args .wanted) (start .args .bytes .now) (at-loop .loop .s .now) (f .found .given .0 .0) (f .found .given .0 .1 .0) (d .rank-of .result)
+next d =
     let at-loop : tie.At-loop Inv-loop μ-loop = search in
-    walk-used (at-loop .loop .s .now) (d .before .before .next-record .ensures) (d .found .given .1)
+    let f : tie.After-found Inv-loop μ-loop = search in
+    look-next (at-loop .loop .inv) (f .before .before .next-record .ensures) (f .found .given .1) (d .rank-of .ensures)
 
 loop-holds : tie.Need-loop-holds Inv-loop μ-loop
 loop-holds c = record { sorted = c .before .pre; same = refl }
@@ -44,45 +47,38 @@ rank-of-requires c κs = search needs
 
 returns-2 : tie.Need-returns-2 Inv-loop μ-loop
 returns-2 c =
-    let at-loop : tie.At-loop Inv-loop μ-loop = search in
-    let after-next-record : tie.After-next-record Inv-loop μ-loop = search in
-    let d : tie.After-found Inv-loop μ-loop = search in
-    look-found (at-loop .loop .inv) (after-next-record .next-record .ensures) (d .found .given .1) (c .before .rank-of .ensures) (c .if1 .taken)
+    let d : tie.After-rank-of Inv-loop μ-loop = search in
+    next d .here (c .if1 .taken)
 
 returns-3 : tie.Need-returns-3 Inv-loop μ-loop
 returns-3 c =
-    let at-loop : tie.At-loop Inv-loop μ-loop = search in
-    let after-next-record : tie.After-next-record Inv-loop μ-loop = search in
-    let d : tie.After-found Inv-loop μ-loop = search in
-    look-past (at-loop .loop .inv) (after-next-record .next-record .ensures) (d .found .given .1) (c .before .before .rank-of .ensures) (c .if2 .taken)
+    let d : tie.After-rank-of Inv-loop μ-loop = search in
+    next d .past (c .if2 .taken)
 
 sub-s : tie.Need-sub-s Inv-loop μ-loop
 sub-s c =
-    let d : tie.After-found Inv-loop μ-loop = search in
-    omega (arith, used d)
+    let d : tie.After-rank-of Inv-loop μ-loop = search in
+    omega (arith, next d .used)
 
 part-s-start : tie.Need-part-s-start Inv-loop μ-loop
 part-s-start c =
-    let d : tie.After-found Inv-loop μ-loop = search in
-    omega (arith, used d)
+    let d : tie.After-rank-of Inv-loop μ-loop = search in
+    omega (arith, next d .used)
 
 part-s-end : tie.Need-part-s-end Inv-loop μ-loop
 part-s-end c =
-    let d : tie.After-found Inv-loop μ-loop = search in
-    omega (arith, used d)
+    let d : tie.After-rank-of Inv-loop μ-loop = search in
+    omega (arith, next d .used)
 
 loop-less : tie.Need-loop-less Inv-loop μ-loop
 loop-less c =
-    let d : tie.After-found Inv-loop μ-loop = search in
-    used d .less
+    let d : tie.After-rank-of Inv-loop μ-loop = search in
+    next d .used .less
 
 loop-again : tie.Need-loop-again Inv-loop μ-loop
 loop-again c =
-    let at-loop : tie.At-loop Inv-loop μ-loop = search in
-    let after-next-record : tie.After-next-record Inv-loop μ-loop = search in
-    let d : tie.After-found Inv-loop μ-loop = search in
-    let after-rank-of : tie.After-rank-of Inv-loop μ-loop = search in
-    look-on (at-loop .loop .inv) (after-next-record .next-record .ensures) (d .found .given .1) (after-rank-of .rank-of .ensures) (c .before .before .if1 .left)
+    let d : tie.After-rank-of Inv-loop μ-loop = search in
+    next d .on (c .before .before .if1 .left)
 
 pub find-record-spec : {M : Type 1} → statement M
 find-record-spec =
