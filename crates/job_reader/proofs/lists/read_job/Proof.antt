@@ -41,9 +41,7 @@ write-items-requires c κs =
     (given-sorted (given d), given-room (given d))
 
 settings-of-requires : tie.Need-settings-of-requires
-settings-of-requires c κs =
-    let d : tie.After-admitted2 = search in
-    given-sorted (given d)
+settings-of-requires c κs = given-sorted (given (search))
 
 same-length : tie.Need-same-length
 same-length c = refl

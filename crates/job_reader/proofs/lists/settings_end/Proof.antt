@@ -55,24 +55,16 @@ returns-2 c =
     past-at (at-loop .loop .inv) (after-next-record .next-record .ensures) (d .found .given .1) (omega (arith, c .before .rank-of .ensures, c .if1 .taken))
 
 sub-s : tie.Need-sub-s Inv-loop μ-loop
-sub-s c =
-    let d : tie.After-found Inv-loop μ-loop = search in
-    omega (arith, used d)
+sub-s c = omega (arith, used (search))
 
 part-s-start : tie.Need-part-s-start Inv-loop μ-loop
-part-s-start c =
-    let d : tie.After-found Inv-loop μ-loop = search in
-    omega (arith, used d)
+part-s-start c = omega (arith, used (search))
 
 part-s-end : tie.Need-part-s-end Inv-loop μ-loop
-part-s-end c =
-    let d : tie.After-found Inv-loop μ-loop = search in
-    omega (arith, used d)
+part-s-end c = omega (arith, used (search))
 
 loop-less : tie.Need-loop-less Inv-loop μ-loop
-loop-less c =
-    let d : tie.After-found Inv-loop μ-loop = search in
-    used d .less
+loop-less c = used (search) .less
 
 loop-again : tie.Need-loop-again Inv-loop μ-loop
 loop-again c =

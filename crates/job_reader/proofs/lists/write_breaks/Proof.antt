@@ -62,19 +62,13 @@ returns c =
     (z .0, one-done (i .1) (z .1))
 
 sub-s : tie.Need-sub-s Inv-loop μ-loop
-sub-s c =
-    let d : tie.After-found Inv-loop μ-loop = search in
-    omega (arith, next d .used)
+sub-s c = omega (arith, next (search) .used)
 
 part-s-start : tie.Need-part-s-start Inv-loop μ-loop
-part-s-start c =
-    let d : tie.After-found Inv-loop μ-loop = search in
-    omega (arith, next d .used)
+part-s-start c = omega (arith, next (search) .used)
 
 part-s-end : tie.Need-part-s-end Inv-loop μ-loop
-part-s-end c =
-    let d : tie.After-found Inv-loop μ-loop = search in
-    omega (arith, next d .used)
+part-s-end c = omega (arith, next (search) .used)
 
 break-of-requires : tie.Need-break-of-requires Inv-loop μ-loop
 break-of-requires c κs =
@@ -83,24 +77,16 @@ break-of-requires c κs =
     rw (next d .rank-is) (start .pre .1 .0)
 
 mul-breaks : tie.Need-mul-breaks Inv-loop μ-loop
-mul-breaks c =
-    let d : tie.After-found Inv-loop μ-loop = search in
-    omega (arith, room d)
+mul-breaks c = omega (arith, room (search))
 
 slice-write-breaks : tie.Need-slice-write-breaks Inv-loop μ-loop
-slice-write-breaks c =
-    let d : tie.After-found Inv-loop μ-loop = search in
-    room d
+slice-write-breaks c = room (search)
 
 add-k : tie.Need-add-k Inv-loop μ-loop
-add-k c =
-    let d : tie.After-found Inv-loop μ-loop = search in
-    omega (arith, room d)
+add-k c = omega (arith, room (search))
 
 loop-less : tie.Need-loop-less Inv-loop μ-loop
-loop-less c =
-    let d : tie.After-found Inv-loop μ-loop = search in
-    next d .used .less
+loop-less c = next (search) .used .less
 
 loop-again : tie.Need-loop-again Inv-loop μ-loop
 loop-again c =

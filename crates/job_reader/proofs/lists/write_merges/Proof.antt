@@ -95,80 +95,52 @@ returns c =
     (z .0, (one-done (i .1) (z .1), (one-done (i .2) (z .1), (one-done (i .3) (z .1), one-done (i .4) (z .1)))))
 
 sub-s : tie.Need-sub-s Inv-loop μ-loop
-sub-s c =
-    let d : tie.After-found Inv-loop μ-loop = search in
-    omega (arith, next d .used)
+sub-s c = omega (arith, next (search) .used)
 
 part-s-start : tie.Need-part-s-start Inv-loop μ-loop
-part-s-start c =
-    let d : tie.After-found Inv-loop μ-loop = search in
-    omega (arith, next d .used)
+part-s-start c = omega (arith, next (search) .used)
 
 part-s-end : tie.Need-part-s-end Inv-loop μ-loop
-part-s-end c =
-    let d : tie.After-found Inv-loop μ-loop = search in
-    omega (arith, next d .used)
+part-s-end c = omega (arith, next (search) .used)
 
 cells-of-requires : tie.Need-cells-of-requires Inv-loop μ-loop
-cells-of-requires c κs =
-    let d : tie.After-found Inv-loop μ-loop = search in
-    next d .rank-is
+cells-of-requires c κs = next (search) .rank-is
 
 mul-first-rows : tie.Need-mul-first-rows Inv-loop μ-loop
-mul-first-rows c =
-    let d : tie.After-found Inv-loop μ-loop = search in
-    place d
+mul-first-rows c = place search
 
 slice-write-first-rows : tie.Need-slice-write-first-rows Inv-loop μ-loop
-slice-write-first-rows c =
-    let d : tie.After-found Inv-loop μ-loop = search in
-    room d .0
+slice-write-first-rows c = room (search) .0
 
 cast-first-columns : tie.Need-cast-first-columns Inv-loop μ-loop
 cast-first-columns c = search needs
 
 mul-first-columns : tie.Need-mul-first-columns Inv-loop μ-loop
-mul-first-columns c =
-    let d : tie.After-found Inv-loop μ-loop = search in
-    place d
+mul-first-columns c = place search
 
 slice-write-first-columns : tie.Need-slice-write-first-columns Inv-loop μ-loop
-slice-write-first-columns c =
-    let d : tie.After-found Inv-loop μ-loop = search in
-    room d .1
+slice-write-first-columns c = room (search) .1
 
 mul-last-rows : tie.Need-mul-last-rows Inv-loop μ-loop
-mul-last-rows c =
-    let d : tie.After-found Inv-loop μ-loop = search in
-    place d
+mul-last-rows c = place search
 
 slice-write-last-rows : tie.Need-slice-write-last-rows Inv-loop μ-loop
-slice-write-last-rows c =
-    let d : tie.After-found Inv-loop μ-loop = search in
-    room d .2
+slice-write-last-rows c = room (search) .2
 
 cast-last-columns : tie.Need-cast-last-columns Inv-loop μ-loop
 cast-last-columns c = search needs
 
 mul-last-columns : tie.Need-mul-last-columns Inv-loop μ-loop
-mul-last-columns c =
-    let d : tie.After-found Inv-loop μ-loop = search in
-    place d
+mul-last-columns c = place search
 
 slice-write-last-columns : tie.Need-slice-write-last-columns Inv-loop μ-loop
-slice-write-last-columns c =
-    let d : tie.After-found Inv-loop μ-loop = search in
-    room d .3
+slice-write-last-columns c = room (search) .3
 
 add-k : tie.Need-add-k Inv-loop μ-loop
-add-k c =
-    let d : tie.After-found Inv-loop μ-loop = search in
-    omega (arith, place d)
+add-k c = omega (arith, place (search))
 
 loop-less : tie.Need-loop-less Inv-loop μ-loop
-loop-less c =
-    let d : tie.After-found Inv-loop μ-loop = search in
-    next d .used .less
+loop-less c = next (search) .used .less
 
 loop-again : tie.Need-loop-again Inv-loop μ-loop
 loop-again c =

@@ -70,19 +70,13 @@ returns c =
     (z .0, (one-done (i .1) (z .1), one-done (i .2) (z .1)))
 
 sub-s : tie.Need-sub-s Inv-loop μ-loop
-sub-s c =
-    let d : tie.After-found Inv-loop μ-loop = search in
-    omega (arith, next d .used)
+sub-s c = omega (arith, next (search) .used)
 
 part-s-start : tie.Need-part-s-start Inv-loop μ-loop
-part-s-start c =
-    let d : tie.After-found Inv-loop μ-loop = search in
-    omega (arith, next d .used)
+part-s-start c = omega (arith, next (search) .used)
 
 part-s-end : tie.Need-part-s-end Inv-loop μ-loop
-part-s-end c =
-    let d : tie.After-found Inv-loop μ-loop = search in
-    omega (arith, next d .used)
+part-s-end c = omega (arith, next (search) .used)
 
 slot-of-requires : tie.Need-slot-of-requires Inv-loop μ-loop
 slot-of-requires c κs =
@@ -91,34 +85,22 @@ slot-of-requires c κs =
     rw (next d .rank-is) (start .pre .1 .0)
 
 mul-indexes : tie.Need-mul-indexes Inv-loop μ-loop
-mul-indexes c =
-    let d : tie.After-found Inv-loop μ-loop = search in
-    omega (arith, room d .0)
+mul-indexes c = omega (arith, room (search) .0)
 
 slice-write-indexes : tie.Need-slice-write-indexes Inv-loop μ-loop
-slice-write-indexes c =
-    let d : tie.After-found Inv-loop μ-loop = search in
-    room d .0
+slice-write-indexes c = room (search) .0
 
 mul-sizes : tie.Need-mul-sizes Inv-loop μ-loop
-mul-sizes c =
-    let d : tie.After-found Inv-loop μ-loop = search in
-    omega (arith, room d .1)
+mul-sizes c = omega (arith, room (search) .1)
 
 slice-write-sizes : tie.Need-slice-write-sizes Inv-loop μ-loop
-slice-write-sizes c =
-    let d : tie.After-found Inv-loop μ-loop = search in
-    room d .1
+slice-write-sizes c = room (search) .1
 
 add-k : tie.Need-add-k Inv-loop μ-loop
-add-k c =
-    let d : tie.After-found Inv-loop μ-loop = search in
-    omega (arith, room d .0)
+add-k c = omega (arith, room (search) .0)
 
 loop-less : tie.Need-loop-less Inv-loop μ-loop
-loop-less c =
-    let d : tie.After-found Inv-loop μ-loop = search in
-    next d .used .less
+loop-less c = next (search) .used .less
 
 loop-again : tie.Need-loop-again Inv-loop μ-loop
 loop-again c =

@@ -23,18 +23,15 @@ enum-told : tie.Need-enum-told
 enum-told c = search needs
 
 returns : tie.Need-returns
-returns c =
-    let f : tie.After-find-record = search in
-    from-none (looked f) titleFrom (c .enum-told .given .1) refl
+returns c = from-none (looked search) titleFrom (c .enum-told .given .1) refl
 
 enum-known-found-2 : tie.Need-enum-known-found-2
 enum-known-found-2 c = search needs
 
 returns-2 : tie.Need-returns-2
 returns-2 c =
-    let f : tie.After-find-record = search in
     let d : tie.After-found = search in
-    absurd (found-no-other (looked f) (d .found .given .1) (c .match2 .keys2))
+    absurd (found-no-other (looked search) (d .found .given .1) (c .match2 .keys2))
 
 cast-t6 : tie.Need-cast-t6
 cast-t6 c = search needs
@@ -44,9 +41,8 @@ cast-t7 c = search needs
 
 returns-3 : tie.Need-returns-3
 returns-3 c =
-    let f : tie.After-find-record = search in
     let d : tie.After-found = search in
-    from-one (looked f) titleFrom (d .found .given .1) (c .before .found2 .given .1) (λ t. refl)
+    from-one (looked search) titleFrom (d .found .given .1) (c .before .found2 .given .1) (λ t. refl)
 
 pub column-title-of-spec : {M : Type 1} → statement M
 column-title-of-spec =

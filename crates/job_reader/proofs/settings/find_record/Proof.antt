@@ -46,39 +46,25 @@ rank-of-requires : tie.Need-rank-of-requires Inv-loop μ-loop
 rank-of-requires c κs = search needs
 
 returns-2 : tie.Need-returns-2 Inv-loop μ-loop
-returns-2 c =
-    let d : tie.After-rank-of Inv-loop μ-loop = search in
-    next d .here (c .if1 .taken)
+returns-2 c = next (search) .here (c .if1 .taken)
 
 returns-3 : tie.Need-returns-3 Inv-loop μ-loop
-returns-3 c =
-    let d : tie.After-rank-of Inv-loop μ-loop = search in
-    next d .past (c .if2 .taken)
+returns-3 c = next (search) .past (c .if2 .taken)
 
 sub-s : tie.Need-sub-s Inv-loop μ-loop
-sub-s c =
-    let d : tie.After-rank-of Inv-loop μ-loop = search in
-    omega (arith, next d .used)
+sub-s c = omega (arith, next (search) .used)
 
 part-s-start : tie.Need-part-s-start Inv-loop μ-loop
-part-s-start c =
-    let d : tie.After-rank-of Inv-loop μ-loop = search in
-    omega (arith, next d .used)
+part-s-start c = omega (arith, next (search) .used)
 
 part-s-end : tie.Need-part-s-end Inv-loop μ-loop
-part-s-end c =
-    let d : tie.After-rank-of Inv-loop μ-loop = search in
-    omega (arith, next d .used)
+part-s-end c = omega (arith, next (search) .used)
 
 loop-less : tie.Need-loop-less Inv-loop μ-loop
-loop-less c =
-    let d : tie.After-rank-of Inv-loop μ-loop = search in
-    next d .used .less
+loop-less c = next (search) .used .less
 
 loop-again : tie.Need-loop-again Inv-loop μ-loop
-loop-again c =
-    let d : tie.After-rank-of Inv-loop μ-loop = search in
-    next d .on (c .before .before .if1 .left)
+loop-again c = next (search) .on (c .before .before .if1 .left)
 
 pub find-record-spec : {M : Type 1} → statement M
 find-record-spec =

@@ -32,9 +32,7 @@ enum-told : tie.Need-enum-told
 enum-told c = search needs
 
 returns : tie.Need-returns
-returns c =
-    let f : tie.After-find-record = search in
-    from-none (looked f) flagFrom (c .enum-told .given .1) refl
+returns c = from-none (looked search) flagFrom (c .enum-told .given .1) refl
 
 enum-known-found-2 : tie.Need-enum-known-found-2
 enum-known-found-2 c = search needs
@@ -43,21 +41,16 @@ enum-known-found-3 : tie.Need-enum-known-found-3
 enum-known-found-3 c = search needs
 
 returns-2 : tie.Need-returns-2
-returns-2 c =
-    let d : tie.After-found = search in
-    given d (c .before .found2 .given .1)
+returns-2 c = given (search) (c .before .found2 .given .1)
 
 returns-3 : tie.Need-returns-3
-returns-3 c =
-    let d : tie.After-found = search in
-    given d (c .before .found3 .given .1)
+returns-3 c = given (search) (c .before .found3 .given .1)
 
 returns-4 : tie.Need-returns-4
 returns-4 c =
     let start : tie.Start = search in
-    let f : tie.After-find-record = search in
     let d : tie.After-found = search in
-    absurd (found-kind (looked f) (d .found .given .1) isFlag (start .pre .1) (c .match2 .keys3))
+    absurd (found-kind (looked search) (d .found .given .1) isFlag (start .pre .1) (c .match2 .keys3))
 
 pub flag-of-spec : {M : Type 1} → statement M
 flag-of-spec =

@@ -23,24 +23,20 @@ enum-told : tie.Need-enum-told
 enum-told c = search needs
 
 returns : tie.Need-returns
-returns c =
-    let f : tie.After-find-record = search in
-    from-none (looked f) limitFrom (c .enum-told .given .1) refl
+returns c = from-none (looked search) limitFrom (c .enum-told .given .1) refl
 
 enum-known-found-2 : tie.Need-enum-known-found-2
 enum-known-found-2 c = search needs
 
 returns-2 : tie.Need-returns-2
 returns-2 c =
-    let f : tie.After-find-record = search in
     let d : tie.After-found = search in
-    absurd (found-no-other (looked f) (d .found .given .1) (c .match2 .keys2))
+    absurd (found-no-other (looked search) (d .found .given .1) (c .match2 .keys2))
 
 returns-3 : tie.Need-returns-3
 returns-3 c =
-    let f : tie.After-find-record = search in
     let d : tie.After-found = search in
-    from-one (looked f) limitFrom (d .found .given .1) (c .before .found2 .given .1) (λ t. refl)
+    from-one (looked search) limitFrom (d .found .given .1) (c .before .found2 .given .1) (λ t. refl)
 
 pub limit-of-spec : {M : Type 1} → statement M
 limit-of-spec =

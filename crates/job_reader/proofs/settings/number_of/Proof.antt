@@ -32,9 +32,7 @@ enum-told : tie.Need-enum-told
 enum-told c = search needs
 
 returns : tie.Need-returns
-returns c =
-    let f : tie.After-find-record = search in
-    from-none (looked f) numberFrom (c .enum-told .given .1) refl
+returns c = from-none (looked search) numberFrom (c .enum-told .given .1) refl
 
 enum-known-found-2 : tie.Need-enum-known-found-2
 enum-known-found-2 c = search needs
@@ -49,31 +47,22 @@ enum-known-found-5 : tie.Need-enum-known-found-5
 enum-known-found-5 c = search needs
 
 returns-2 : tie.Need-returns-2
-returns-2 c =
-    let d : tie.After-found = search in
-    given d (c .before .found2 .given .1)
+returns-2 c = given (search) (c .before .found2 .given .1)
 
 returns-3 : tie.Need-returns-3
-returns-3 c =
-    let d : tie.After-found = search in
-    given d (c .before .found3 .given .1)
+returns-3 c = given (search) (c .before .found3 .given .1)
 
 returns-4 : tie.Need-returns-4
-returns-4 c =
-    let d : tie.After-found = search in
-    given d (c .before .found4 .given .1)
+returns-4 c = given (search) (c .before .found4 .given .1)
 
 returns-5 : tie.Need-returns-5
-returns-5 c =
-    let d : tie.After-found = search in
-    given d (c .before .found5 .given .1)
+returns-5 c = given (search) (c .before .found5 .given .1)
 
 returns-6 : tie.Need-returns-6
 returns-6 c =
     let start : tie.Start = search in
-    let f : tie.After-find-record = search in
     let d : tie.After-found = search in
-    absurd (found-kind (looked f) (d .found .given .1) isNumber (start .pre .1) (c .match2 .keys5))
+    absurd (found-kind (looked search) (d .found .given .1) isNumber (start .pre .1) (c .match2 .keys5))
 
 pub number-of-spec : {M : Type 1} → statement M
 number-of-spec =

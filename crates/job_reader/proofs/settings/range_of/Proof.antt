@@ -26,9 +26,7 @@ nowhere-requires : tie.Need-nowhere-requires
 nowhere-requires c κs = search needs
 
 returns : tie.Need-returns
-returns c =
-    let f : tie.After-find-record = search in
-    from-none (looked f) rangeFrom (c .before .enum-told .given .1) (sym (c .nowhere .ensures))
+returns c = from-none (looked search) rangeFrom (c .before .enum-told .given .1) (sym (c .nowhere .ensures))
 
 enum-known-found-2 : tie.Need-enum-known-found-2
 enum-known-found-2 c = search needs
@@ -38,15 +36,13 @@ nowhere-requires-2 c κs = search needs
 
 returns-2 : tie.Need-returns-2
 returns-2 c =
-    let f : tie.After-find-record = search in
     let d : tie.After-found = search in
-    absurd (found-no-other (looked f) (d .found .given .1) (c .before .match2 .keys2))
+    absurd (found-no-other (looked search) (d .found .given .1) (c .before .match2 .keys2))
 
 returns-3 : tie.Need-returns-3
 returns-3 c =
-    let f : tie.After-find-record = search in
     let d : tie.After-found = search in
-    from-one (looked f) rangeFrom (d .found .given .1) (c .before .found2 .given .1) (λ t. refl)
+    from-one (looked search) rangeFrom (d .found .given .1) (c .before .found2 .given .1) (λ t. refl)
 
 pub range-of-spec : {M : Type 1} → statement M
 range-of-spec =
