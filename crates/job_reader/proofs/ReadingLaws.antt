@@ -81,17 +81,9 @@ module _ (even : Bool) (s : List ℕ) (room : Items) (f : Checked) (e : checkedO
           a .1 .1 .1 .1 .1 .1 .1 .1 .0,
         )
 
-    fits-is : (b x : Bool) → b ≡ fitIn items room → b ≡ x → cond x (given items) (refused 11) ≡ admitted even room s
-    fits-is b x i h =
-        ap (λ (q : Bool). cond q (given items) (refused 11)) (sym h ∙ i)
-        ∙ ap (λ (c : Items). inOrder 10 (true ∷ fitIn c room ∷ []) c) counted
-        ∙ past-nine
-
-    pub admit-yes : (b : Bool) → b ≡ fitIn items room → b ≡ true → given items ≡ admitted even room s
-    admit-yes b i h = fits-is b true i h
-
-    pub admit-full : (b : Bool) → b ≡ fitIn items room → b ≡ false → refused 11 ≡ admitted even room s
-    admit-full b i h = fits-is b false i h
+    pub admit-fits : (b : Bool) → b ≡ fitIn items room → cond b (given items) (refused 11) ≡ admitted even room s
+    admit-fits b i =
+        ap (λ (q : Bool). cond q (given items) (refused 11)) i ∙ ap (λ (c : Items). inOrder 10 (true ∷ fitIn c room ∷ []) c) counted ∙ past-nine
 
 -- ---- what a job that is admitted tells
 
@@ -104,13 +96,17 @@ read-refused : (s : List ℕ) (l : Lists) (n : ℕ) → refused n ≡ admittedTo
 unfolding admitted readJob
 read-refused s l n h = in-order-refused (itemsOf (records s)) (jobOf (records s)) 1 (asked (evenLists l) (roomIn l) s) n h
 
-module _ (s : List ℕ) (l : Lists) (f : Checked) (e : checkedOutcome f ≡ admittedTo s l) (items : Items) (k : f ≡ checked.Value items) where
-  is-given : given items ≡ inOrder 1 (asked (evenLists l) (roomIn l) s) (itemsOf (records s))
-  unfolding admitted
-  is-given = sym (ap checkedOutcome k) ∙ e
+-- the job s is admitted to the lists l, and has these items
+pub record Admitted (s : List ℕ) (l : Lists) (items : Items) : Type 0 where
+  pub is : given items ≡ inOrder 1 (asked (evenLists l) (roomIn l) s) (itemsOf (records s))
 
+pub admitted-is : {s : List ℕ} {l : Lists} {items : Items} {f : Checked} → checkedOutcome f ≡ admittedTo s l → f ≡ checked.Value items → Admitted s l items
+unfolding admitted
+admitted-is e k = record { is = sym (ap checkedOutcome k) ∙ e }
+
+module _ {s : List ℕ} {l : Lists} {items : Items} (w : Admitted s l items) where
   all : All (asked (evenLists l) (roomIn l) s)
-  all = all-given (itemsOf (records s)) 1 (asked (evenLists l) (roomIn l) s) items is-given
+  all = all-given (itemsOf (records s)) 1 (asked (evenLists l) (roomIn l) s) items (w .is)
 
   pub given-sorted : Sorted 0 (records s)
   given-sorted = sorted-of 0 (records s) (both (ordered 0 (records s)) (hasArea (records s)) (all .1 .1 .1 .0) .0)
@@ -119,28 +115,28 @@ module _ (s : List ℕ) (l : Lists) (f : Checked) (e : checkedOutcome f ≡ admi
   given-room = record { even = both (evenLists l) _ (all .1 .1 .1 .1 .1 .0) .0; fits = all .1 .1 .1 .1 .1 .1 .1 .1 .1 .1 .0 }
 
   -- the job that was read
-  pub job-given : (after : Lists) (set : JobSettings) → set ≡ settingsOf (records s) → AllWritten s l after → JobRead s
+  pub job-given : {after : Lists} {set : JobSettings} → set ≡ settingsOf (records s) → AllWritten s l after → JobRead s
       (Value (record { settings = set; items = items })) l after
-  job-given after set i w =
-      let g = in-order-given (itemsOf (records s)) (jobOf (records s)) 1 (asked (evenLists l) (roomIn l) s) items is-given in
+  job-given i v =
+      let g = in-order-given (itemsOf (records s)) (jobOf (records s)) 1 (asked (evenLists l) (roomIn l) s) items (w .is) in
       let q : given (jobOf (records s)) ≡ readJob s l = read-given s l (g .1) in
       record {
         answer = ap₂ (λ (x : JobSettings) (y : Items). given (record { settings = x; items = y })) i (g .0) ∙ q;
-        row-indexes-are = rw (← q) (w .row-indexes-are);
-        row-sizes-are = rw (← q) (w .row-sizes-are);
-        column-indexes-are = rw (← q) (w .column-indexes-are);
-        column-sizes-are = rw (← q) (w .column-sizes-are);
-        merge-first-rows-are = rw (← q) (w .merge-first-rows-are);
-        merge-first-columns-are = rw (← q) (w .merge-first-columns-are);
-        merge-last-rows-are = rw (← q) (w .merge-last-rows-are);
-        merge-last-columns-are = rw (← q) (w .merge-last-columns-are);
-        row-breaks-are = rw (← q) (w .row-breaks-are);
-        column-breaks-are = rw (← q) (w .column-breaks-are);
+        row-indexes-are = rw (← q) (v .row-indexes-are);
+        row-sizes-are = rw (← q) (v .row-sizes-are);
+        column-indexes-are = rw (← q) (v .column-indexes-are);
+        column-sizes-are = rw (← q) (v .column-sizes-are);
+        merge-first-rows-are = rw (← q) (v .merge-first-rows-are);
+        merge-first-columns-are = rw (← q) (v .merge-first-columns-are);
+        merge-last-rows-are = rw (← q) (v .merge-last-rows-are);
+        merge-last-columns-are = rw (← q) (v .merge-last-columns-are);
+        row-breaks-are = rw (← q) (v .row-breaks-are);
+        column-breaks-are = rw (← q) (v .column-breaks-are);
       }
 
 -- a job that is refused
-pub job-refused : (s : List ℕ) (l : Lists) (f : Checked) (n : ℕ) → checkedOutcome f ≡ admittedTo s l → f ≡ checked.Refused n → JobRead s (Refused n) l l
-job-refused s l f n e k =
+pub job-refused : {s : List ℕ} {l : Lists} {f : Checked} {n : ℕ} → checkedOutcome f ≡ admittedTo s l → f ≡ checked.Refused n → JobRead s (Refused n) l l
+job-refused {s} {l} {f} {n} e k =
     let q : refused n ≡ readJob s l = read-refused s l n (sym (ap checkedOutcome k) ∙ e) in
     record {
       answer = q;
@@ -170,8 +166,8 @@ pub record Rooms (s : List ℕ) (l : Lists) : Type 0 where
   pub last-rows-even : length (l .merge-first-rows) ≡ length (l .merge-last-rows)
   pub last-columns-even : length (l .merge-first-rows) ≡ length (l .merge-last-columns)
 
-pub rooms : (s : List ℕ) (l : Lists) → Room s l → Rooms s l
-rooms s l w =
+pub rooms : {s : List ℕ} {l : Lists} → Room s l → Rooms s l
+rooms w =
     let a = both _ _ (w .fits) in
     let b = both _ _ (a .1) in
     let c = both _ _ (b .1) in
@@ -195,20 +191,20 @@ rooms s l w =
 
 -- ---- the part of a job that is left
 
-pub part-from : (k : ℕ) (b : List ℕ) (n : ℕ) → Past k b n → From k b (take (length b - n) (drop n b))
-part-from k b n p = rw (part n b) (p .left)
+pub part-from : {k : ℕ} {b : List ℕ} {n : ℕ} → Past k b n → From k b (take (length b - n) (drop n b))
+part-from {k} {b} {n} p = rw (part n b) (p .left)
 
-pub from-on : (k m : ℕ) (b s : List ℕ) (n : ℕ) → From k b s → Past m s n → k ≤ m → From m b (take (length s - n) (drop n s))
-from-on k m b s n w p h =
-    let v = part-from m s n p in
+pub from-on : {k m : ℕ} {b s : List ℕ} {n : ℕ} → From k b s → Past m s n → k ≤ m → From m b (take (length s - n) (drop n s))
+from-on w p h =
+    let v = part-from p in
     record { sorted = v .sorted; kept = λ j i. v .kept j i ∙ w .kept j (omega arith) }
 
-module _ (k : ℕ) (b s : List ℕ) (w : From k b s) where
+module _ {k : ℕ} {b s : List ℕ} (w : From k b s) where
   same : marked k (records s) ≡ marked k (records b)
   same = w .kept k (omega arith)
 
-  pub room-from : (n : ℕ) → length (marked k (records b)) ≤ n → length (marked k (records s)) ≤ n
-  room-from n h = rw same h
+  pub room-from : {n : ℕ} → length (marked k (records b)) ≤ n → length (marked k (records s)) ≤ n
+  room-from h = rw same h
 
-  pub values-from : (f : ℕ) (old new : List ℕ) → new ≡ written (values k f (records s)) old → new ≡ written (values k f (records b)) old
-  values-from f old new e = e ∙ ap (λ (l : List Record). written (map (field f) l) old) same
+  pub values-from : (f : ℕ) (old : List ℕ) {new : List ℕ} → new ≡ written (values k f (records s)) old → new ≡ written (values k f (records b)) old
+  values-from f old e = e ∙ ap (λ (l : List Record). written (map (field f) l) old) same

@@ -7,10 +7,9 @@ use Prim.Native.Nat.{ℕ, suc, _+_, _-_, _≤_, _<_}
 use native.Mathlib.Decide.{decLe}
 use native.Mathlib.Nat.{lt-of-not-le}
 use native.Mathlib.Omega.{arith}
-use types.Run.{OneOf, miss}
-use mir.Val.{hasKey}
+use types.Run.{OneOf}
 use denote.Enum.Declared.{tagOf}
-use lib.Dec.{T, ltb, leb, eqb}
+use lib.Dec.{ltb, leb, eqb}
 use lib.ListN.{length, take, drop, length-drop}
 use lib.Seq.{drop-drop}
 use borrow.Author.Tests.{eq-eqb, ne-eqb, eqb-true, eqb-false, ltb-true}
@@ -25,9 +24,9 @@ use Rattle.job_reader.specs.declared.settings.Lookup.{Lookup}
 use Rattle.job_reader.specs.declared.settings.Lookup.the-variants.{Found, Missing}
 use Rattle.job_records.specs.Records.{step, rank, isEnd, goesOn, records, marked}
 use Rattle.job_questions.specs.Verdict.{follows, ordered}
-use Rattle.job_reader.specs.Walk.{before, ofKind, firstOf, Sorted, Past, isNumber, isFlag, isSlot, isBreak}
+use Rattle.job_reader.specs.Walk.{before, ofKind, firstOf, Sorted, Past}
 use Rattle.planner_rules.proofs.QuestionLaws.{both}
-use Rattle.job_records.proofs.RecordLaws.{records-more, records-stop, step-used, part}
+use Rattle.job_records.proofs.RecordLaws.{records-more, records-stop, step-used, part, length-part}
 use Rattle.job_records.proofs.records.Record as R
 
 -- ---- marks that never fall
@@ -73,12 +72,12 @@ apart k n h o =
 
 -- ---- the next record
 
-module _ (s : List ℕ) (f : Step) (e : f ≡ step s) where
+module _ (s : List ℕ) {f : Step} (e : f ≡ step s) where
   pub next-nothing : f ≡ Nothing → Stop ≡ before (step s)
   unfolding before
   next-nothing k = sym (ap before (sym e ∙ k))
 
-  module _ (r : Record) (n x : ℕ) (k : f ≡ Read r n) (i : x ≡ rank r) where
+  module _ {r : Record} {n x : ℕ} (k : f ≡ Read r n) (i : x ≡ rank r) where
     pub next-end : x ≡ 19 → Stop ≡ before (step s)
     unfolding before
     next-end h = rw (← e, k, eq-eqb (rank r) 19 (sym i ∙ h))
@@ -109,19 +108,27 @@ goes (Read q m) r n k = go (isEnd q) refl k
         let j : m ≡ n = cc in
         (ap₂ Read i j, ap isEnd (sym i) ∙ g)
 
+-- a record that was read has n bytes of s
+pub record Used (s : List ℕ) (n : ℕ) : Type 0 where
+  pub some : 1 ≤ n
+  pub within : n ≤ length s
+  pub less : length (take (length s - n) (drop n s)) < length s
+
 -- a turn of a loop over s: f is what comes next
-module _ (s : List ℕ) (f : Next) (e : f ≡ before (step s)) where
+module _ (s : List ℕ) {f : Next} (e : f ≡ before (step s)) where
   pub walk-end : f ≡ Stop → records s ≡ []
   walk-end k = records-stop s (stops (step s) (sym e ∙ k))
 
-  module _ (r : Record) (n : ℕ) (k : f ≡ Kind r n) where
-    pub walk-used : (1 ≤ n) × (n ≤ length s)
-    walk-used = step-used s (step s) r n refl (goes (step s) r n (sym e ∙ k) .0)
+  module _ {r : Record} {n : ℕ} (k : f ≡ Kind r n) where
+    pub walk-used : Used s n
+    walk-used =
+        let u = step-used s (step s) r n refl (goes (step s) r n (sym e ∙ k) .0) in
+        record { some = u .0; within = u .1; less = omega (arith, length-part n s) }
 
     pub walk-on : records s ≡ r ∷ records (take (length s - n) (drop n s))
     walk-on =
         let g = goes (step s) r n (sym e ∙ k) in
-        rw (part n s) (records-more s r n (g .0) (walk-used .0) (walk-used .1) (g .1))
+        rw (part n s) (records-more s r n (g .0) (walk-used .some) (walk-used .within) (g .1))
 
     pub walk-yes : (j : ℕ) → rank r ≡ j → marked j (records s) ≡ r ∷ marked j (records (take (length s - n) (drop n s)))
     unfolding marked
@@ -136,11 +143,11 @@ module _ (s : List ℕ) (f : Next) (e : f ≡ before (step s)) where
 
 -- ---- the record of a kind
 
-pub kind-none : (k : ℕ) (g f : Next) → f ≡ g → f ≡ Stop → Stop ≡ ofKind k g
+pub kind-none : (k : ℕ) {g f : Next} → f ≡ g → f ≡ Stop → Stop ≡ ofKind k g
 unfolding ofKind
-kind-none k g f e i = sym (ap (ofKind k) (sym e ∙ i))
+kind-none k e i = sym (ap (ofKind k) (sym e ∙ i))
 
-module _ (k : ℕ) (g f : Next) (e : f ≡ g) (r : Record) (n x : ℕ) (i : f ≡ Kind r n) (j : x ≡ rank r) where
+module _ (k : ℕ) {g f : Next} (e : f ≡ g) {r : Record} {n x : ℕ} (i : f ≡ Kind r n) (j : x ≡ rank r) where
   pub kind-some : x ≡ k → Kind r n ≡ ofKind k g
   unfolding ofKind
   kind-some h = rw (← e, i, eq-eqb (rank r) k (sym j ∙ h))
@@ -202,72 +209,61 @@ going-past i j b s w h =
     let l = w .suffix .long in
     record { within = omega arith; left = rw (← (w .suffix .is)) (record { sorted = h; kept = w .kept }) }
 
-module _ (i j : ℕ) (b s : List ℕ) (w : Going i j b s) (f : Next) (e : f ≡ before (step s)) where
+module _ {i j : ℕ} {b s : List ℕ} (w : Going i j b s) {f : Next} (e : f ≡ before (step s)) where
   pub past-end : f ≡ Stop → Past j b (length b - length s)
-  past-end k = going-past i j b s w (rw (walk-end s f e k) tt)
+  past-end k = going-past i j b s w (rw (walk-end s e k) tt)
 
-  pub past-at : (r : Record) (n : ℕ) → f ≡ Kind r n → j ≤ rank r → Past j b (length b - length s)
-  past-at r n k h = going-past i j b s w (rw (walk-on s f e r n k) (h, walk-sorted s f e r n k i (w .sorted) .1))
+  pub past-at : {r : Record} {n : ℕ} → f ≡ Kind r n → j ≤ rank r → Past j b (length b - length s)
+  past-at k h = going-past i j b s w (rw (walk-on s e k) (h, walk-sorted s e k i (w .sorted) .1))
 
   -- a record before the marks from j on
-  pub going-on : (r : Record) (n : ℕ) → f ≡ Kind r n → rank r < j → Going i j b (take (length s - n) (drop n s))
-  going-on r n k h =
-      let v = walk-sorted s f e r n k i (w .sorted) in
+  pub going-on : {r : Record} {n : ℕ} → f ≡ Kind r n → rank r < j → Going i j b (take (length s - n) (drop n s))
+  going-on {r} {n} k h =
+      let v = walk-sorted s e k i (w .sorted) in
       record {
         sorted = sorted-less i (rank r) (records (take (length s - n) (drop n s))) (v .0) (v .1);
-        kept = λ m l. sym (walk-no s f e r n k m (λ q. omega arith)) ∙ w .kept m l;
-        suffix = suffix-on b s n (w .suffix) (walk-used s f e r n k .1);
+        kept = λ m l. sym (walk-no s e k m (λ q. omega arith)) ∙ w .kept m l;
+        suffix = suffix-on b s n (w .suffix) (walk-used s e k .within);
       }
 
 marked-nil : (k : ℕ) → marked k [] ≡ []
 unfolding marked
 marked-nil k = refl
 
+-- r is the next record of the kind k in s, which is what is left of b; it has n bytes
+pub record Comes (k : ℕ) (b s : List ℕ) (r : Record) (n : ℕ) : Type 0 where
+  pub rank-is : rank r ≡ k
+  pub used : Used s n
+  pub head : marked k (records s) ≡ r ∷ marked k (records (take (length s - n) (drop n s)))
+  pub on : Going k (k + 1) b (take (length s - n) (drop n s))
+
 -- a loop over the records of a kind, which stand at the head
-module _ (k : ℕ) (b s : List ℕ) (w : Going k (k + 1) b s) (f : Next) (e : f ≡ ofKind k (before (step s))) where
-  pub kind-past : f ≡ Stop → Past (k + 1) b (length b - length s)
-  kind-past h =
-      kind-stops k (before (step s)) (sym e ∙ h)
-      (λ q. past-end k (k + 1) b s w (before (step s)) refl q)
-      (λ r n q o. past-at k (k + 1) b s w (before (step s)) refl r n q (above r n q o))
+module _ {k : ℕ} {b s : List ℕ} (w : Going k (k + 1) b s) {f : Next} (e : f ≡ ofKind k (before (step s))) where
+  -- none is left: all of the kind were passed
+  pub kind-done : f ≡ Stop → Past (k + 1) b (length b - length s) × (marked k (records s) ≡ [])
+  kind-done h = (
+    kind-stops k (before (step s)) (sym e ∙ h) (past-end w refl) (λ r n q o. past-at w refl q (above q o)),
+    kind-stops k (before (step s)) (sym e ∙ h) (λ q. rw (walk-end s refl q) (marked-nil k)) (λ r n q o. walk-no s refl q k o ∙ after q o),
+  )
     where
-      above : (r : Record) (n : ℕ) → before (step s) ≡ Kind r n → (rank r ≡ k → ⊥) → k + 1 ≤ rank r
-      above r n q o = apart k (rank r) (walk-sorted s (before (step s)) refl r n q k (w .sorted) .0) o
+      above : {r : Record} {n : ℕ} → before (step s) ≡ Kind r n → (rank r ≡ k → ⊥) → k + 1 ≤ rank r
+      above {r} q o = apart k (rank r) (walk-sorted s refl q k (w .sorted) .0) o
 
-  pub kind-end : f ≡ Stop → marked k (records s) ≡ []
-  kind-end h =
-      kind-stops k (before (step s)) (sym e ∙ h)
-      (λ q. rw (walk-end s (before (step s)) refl q) (marked-nil k))
-      (λ r n q o. walk-no s (before (step s)) refl r n q k o ∙ after r n q o)
-    where
-      after : (r : Record) (n : ℕ) → before (step s) ≡ Kind r n → (rank r ≡ k → ⊥) → marked k (records (take (length s - n) (drop n s))) ≡ []
-      after r n q o =
-          let v = walk-sorted s (before (step s)) refl r n q k (w .sorted) in
-          let a = apart k (rank r) (v .0) o in
-          sorted-above k (rank r) (records (take (length s - n) (drop n s))) (omega arith) (v .1)
+      after : {r : Record} {n : ℕ} → before (step s) ≡ Kind r n → (rank r ≡ k → ⊥) → marked k (records (take (length s - n) (drop n s))) ≡ []
+      after {r} {n} q o =
+          sorted-above k (rank r) (records (take (length s - n) (drop n s))) (omega (arith, above q o)) (walk-sorted s refl q k (w .sorted) .1)
 
-  module _ (r : Record) (n : ℕ) (h : f ≡ Kind r n) where
-    this : (before (step s) ≡ Kind r n) × (rank r ≡ k)
-    this = kind-goes k (before (step s)) r n (sym e ∙ h)
-
-    pub kind-rank : rank r ≡ k
-    kind-rank = this .1
-
-    pub kind-used : (1 ≤ n) × (n ≤ length s)
-    kind-used = walk-used s (before (step s)) refl r n (this .0)
-
-    pub kind-head : marked k (records s) ≡ r ∷ marked k (records (take (length s - n) (drop n s)))
-    kind-head = walk-yes s (before (step s)) refl r n (this .0) k (this .1)
-
-    pub kind-on : Going k (k + 1) b (take (length s - n) (drop n s))
-    kind-on = let q = this .1 in going-on k (k + 1) b s w (before (step s)) refl r n (this .0) (omega arith)
+  pub kind-next : {r : Record} {n : ℕ} → f ≡ Kind r n → Comes k b s r n
+  kind-next {r} {n} h =
+      let this = kind-goes k (before (step s)) r n (sym e ∙ h) in
+      record {
+        rank-is = this .1;
+        used = walk-used s refl (this .0);
+        head = walk-yes s refl (this .0) k (this .1);
+        on = going-on w refl (this .0) (omega (arith, this .1));
+      }
 
 -- ---- the first record of a kind
-
-pub record Head (k : ℕ) (rs : List Record) (r : Record) : Type 0 where
-  pub tail : List Record
-  pub is : marked k rs ≡ r ∷ tail
-  pub rank-is : rank r ≡ k
 
 marked-rank : (k : ℕ) (rs : List Record) (r : Record) (t : List Record) → marked k rs ≡ r ∷ t → rank r ≡ k
 unfolding marked
@@ -278,58 +274,65 @@ marked-rank k (q ∷ qs) r t e = go (eqb (rank q) k) refl e (marked-rank k qs r 
     go true i h later = let j : q ≡ r = cc in ap rank (sym j) ∙ eqb-true (rank q) k i
     go false i h later = later h
 
-module _ (k : ℕ) (rs : List Record) (f : Lookup) (e : f ≡ firstOf (marked k rs)) where
-  found-none : f ≡ Missing → marked k rs ≡ []
-  found-none h = go (marked k rs) (sym e ∙ h)
+-- f is the first record with the mark k, or that there is none
+pub record Looked (k : ℕ) (rs : List Record) (f : Lookup) : Type 0 where
+  pub is : f ≡ firstOf (marked k rs)
+
+module _ {k : ℕ} {rs : List Record} {f : Lookup} (w : Looked k rs f) where
+  found-rank : {r : Record} → f ≡ Found r → rank r ≡ k
+  found-rank {r} h = go (marked k rs) refl (sym (w .is) ∙ h)
     where
-      go : (l : List Record) → firstOf l ≡ Missing → l ≡ []
-      go [] h = refl
+      go : (l : List Record) → marked k rs ≡ l → firstOf l ≡ Found r → rank r ≡ k
+      go [] i h = let z : _≡_ {A = ℕ} 0 1 = cc in absurd (omega arith)
+      go (q ∷ l) i h = let j : q ≡ r = cc in ap rank (sym j) ∙ marked-rank k rs q l i
+
+  -- what is made of the records with the mark, where there is none and where there is one
+  pub from-none : {X : Type 0} (g : List Record → X) {v : X} → f ≡ Missing → g [] ≡ v → v ≡ g (marked k rs)
+  from-none {X} g {v} h p = go (marked k rs) (sym (w .is) ∙ h)
+    where
+      go : (l : List Record) → firstOf l ≡ Missing → v ≡ g l
+      go [] h = sym p
       go (r ∷ l) h = let z : _≡_ {A = ℕ} 0 1 = cc in absurd (omega arith)
 
-  found-one : (r : Record) → f ≡ Found r → Head k rs r
-  found-one r h = go (marked k rs) refl (sym e ∙ h)
+  pub from-one : {X : Type 0} (g : List Record → X) {v : X} {r q : Record} → f ≡ Found r → r ≡ q → ((t : List Record) → g (q ∷ t) ≡ v) → v ≡ g (marked k rs)
+  from-one {X} g {v} {r} {q} h i p = go (marked k rs) (sym (w .is) ∙ h)
     where
-      go : (l : List Record) → marked k rs ≡ l → firstOf l ≡ Found r → Head k rs r
-      go [] i h = let z : _≡_ {A = ℕ} 0 1 = cc in absurd (omega arith)
-      go (q ∷ l) i h =
-          let j : q ≡ r = cc in
-          let m : marked k rs ≡ r ∷ l = i ∙ ap (λ (y : Record). y ∷ l) j in
-          record { tail = l; is = m; rank-is = marked-rank k rs r l m }
-
-  pub found-rank : (r : Record) → f ≡ Found r → rank r ≡ k
-  found-rank r h = found-one r h .rank-is
-
-  -- what is made of the records with a mark, where there is none and where there is one
-  pub from-none : {X : Type 0} (g : List Record → X) (v : X) → f ≡ Missing → g [] ≡ v → v ≡ g (marked k rs)
-  from-none g v h i = sym i ∙ ap g (sym (found-none h))
-
-  pub from-one : {X : Type 0} (g : List Record → X) (v : X) (r q : Record) → f ≡ Found r → r ≡ q → ((t : List Record) → g (q ∷ t) ≡ v) → v ≡ g (marked k rs)
-  from-one g v r q h i p =
-      let w = found-one r h in
-      sym (ap g (w .is ∙ ap (λ (y : Record). y ∷ w .tail) i) ∙ p (w .tail))
+      go : (l : List Record) → firstOf l ≡ Found r → v ≡ g l
+      go [] h = let z : _≡_ {A = ℕ} 0 1 = cc in absurd (omega arith)
+      go (o ∷ t) h = let j : o ≡ q = cc in sym (ap (λ (y : Record). g (y ∷ t)) j ∙ p t)
 
 -- ---- the loop that looks for a record
 
-module _ (k : ℕ) (b s : List ℕ) (o : Sorted 0 (records s)) (w : marked k (records s) ≡ marked k (records b)) (f : Next) (e : f ≡ before (step s)) where
+-- s is left of b, and no record of the kind k was passed
+pub record Looking (k : ℕ) (b s : List ℕ) : Type 0 where
+  pub sorted : Sorted 0 (records s)
+  pub same : marked k (records s) ≡ marked k (records b)
+
+-- r is the next record in s, with n bytes and the rank x: it is the one, or none comes, or the look goes on after it
+pub record Seen (k : ℕ) (b s : List ℕ) (r : Record) (n x : ℕ) : Type 0 where
+  pub used : Used s n
+  pub here : x ≡ k → Found r ≡ firstOf (marked k (records b))
+  pub past : k < x → Missing ≡ firstOf (marked k (records b))
+  pub on : (x ≡ k → ⊥) → Looking k b (take (length s - n) (drop n s))
+
+module _ {k : ℕ} {b s : List ℕ} (w : Looking k b s) {f : Next} (e : f ≡ before (step s)) where
   pub look-end : f ≡ Stop → Missing ≡ firstOf (marked k (records b))
   unfolding marked
-  look-end h = sym (ap firstOf (sym w ∙ ap (marked k) (walk-end s f e h)))
+  look-end h = sym (ap firstOf (sym (w .same) ∙ ap (marked k) (walk-end s e h)))
 
-  module _ (r : Record) (n x : ℕ) (h : f ≡ Kind r n) (i : x ≡ rank r) where
-    pub look-found : x ≡ k → Found r ≡ firstOf (marked k (records b))
-    look-found j = sym (ap firstOf (sym w ∙ walk-yes s f e r n h k (sym i ∙ j)))
-
-    pub look-past : k < x → Missing ≡ firstOf (marked k (records b))
-    look-past j =
-        let v = walk-sorted s f e r n h 0 o in
-        sym (ap firstOf
-        (sym w ∙ walk-no s f e r n h k (λ q. omega arith) ∙ sorted-above k (rank r) (records (take (length s - n) (drop n s))) (omega arith) (v .1)))
-
-    pub look-on : (x ≡ k → ⊥) → Sorted 0 (records (take (length s - n) (drop n s)))
-        × (marked k (records (take (length s - n) (drop n s))) ≡ marked k (records b))
-    look-on j =
-        let v = walk-sorted s f e r n h 0 o in
-        (sorted-less 0 (rank r) (records (take (length s - n) (drop n s))) (omega arith) (v .1), sym (walk-no s f e r n h k (λ q. j (i ∙ q))) ∙ w)
+  pub look-next : {r : Record} {n x : ℕ} → f ≡ Kind r n → x ≡ rank r → Seen k b s r n x
+  look-next {r} {n} {x} h i =
+      let v = walk-sorted s e h 0 (w .sorted) in
+      let rest = records (take (length s - n) (drop n s)) in
+      record {
+        used = walk-used s e h;
+        here = λ j. sym (ap firstOf (sym (w .same) ∙ walk-yes s e h k (sym i ∙ j)));
+        past = λ j. sym (ap firstOf (sym (w .same) ∙ walk-no s e h k (λ q. omega arith) ∙ sorted-above k (rank r) rest (omega arith) (v .1)));
+        on = λ j. record {
+          sorted = sorted-less 0 (rank r) rest (omega arith) (v .1);
+          same = sym (walk-no s e h k (λ q. j (i ∙ q))) ∙ w .same;
+        };
+      }
 
 -- ---- the kinds that an arm leaves out
 
@@ -354,20 +357,31 @@ tag-rank (RowBreak b) = refl
 tag-rank (ColumnBreak b) = refl
 tag-rank End = refl
 
--- a record of the rank k + 1 is none of the others
-pub no-other : (k : ℕ) (ts : List ℕ) (r : Record) → T (not (hasKey ts k)) → rank r ≡ suc k → OneOf ts (tagOf R.the-type r) → ⊥
-no-other k ts r h e o =
-    let i : tagOf R.the-type r ≡ k = omega (arith, tag-rank r) in
-    miss ts k h (rw i at o)
+-- the tags of all kinds
+abbrev tags : List ℕ
+tags = 0 ∷ 1 ∷ 2 ∷ 3 ∷ 4 ∷ 5 ∷ 6 ∷ 7 ∷ 8 ∷ 9 ∷ 10 ∷ 11 ∷ 12 ∷ 13 ∷ 14 ∷ 15 ∷ 16 ∷ 17 ∷ 18 ∷ []
+
+-- those of the ranks that p does not hold of
+abbrev others : (ℕ → Bool) → List ℕ → List ℕ
+others p [] = []
+others p (t ∷ ts) = cond (p (suc t)) (others p ts) (t ∷ others p ts)
 
 -- p holds of no record with one of the tags
 abbrev noneOf : (ℕ → Bool) → List ℕ → Bool
 noneOf p [] = true
 noneOf p (t ∷ ts) = not (p (suc t)) && noneOf p ts
 
--- a record of a rank that p holds of has none of the tags
-no-kind : (p : ℕ → Bool) (ts : List ℕ) (r : Record) → noneOf p ts ≡ true → p (rank r) ≡ true → OneOf ts (tagOf R.the-type r) → ⊥
-no-kind p ts r h e o = go (tagOf R.the-type r) (ap p (sym (tag-rank r)) ∙ e) ts h o
+none-others : (p : ℕ → Bool) (ts : List ℕ) → noneOf p (others p ts) ≡ true
+none-others p [] = refl
+none-others p (t ∷ ts) = go (p (suc t)) refl (none-others p ts)
+  where
+    go : (b : Bool) → p (suc t) ≡ b → noneOf p (others p ts) ≡ true → noneOf p (cond b (others p ts) (t ∷ others p ts)) ≡ true
+    go true e h = h
+    go false e h = rw e h
+
+-- a record of a rank that p holds of is none of the others
+pub no-kind : (p : ℕ → Bool) (r : Record) → p (rank r) ≡ true → OneOf (others p tags) (tagOf R.the-type r) → ⊥
+no-kind p r e o = go (tagOf R.the-type r) (ap p (sym (tag-rank r)) ∙ e) (others p tags) (none-others p tags) o
   where
     no : (b : Bool) → b ≡ true → not b ≡ true → ⊥
     no true e h = true≢false (sym h)
@@ -382,18 +396,14 @@ no-kind p ts r h e o = go (tagOf R.the-type r) (ap p (sym (tag-rank r)) ∙ e) t
     go x e (t ∷ (u ∷ ts)) h (inl o) = at x t e (both (not (p (suc t))) (noneOf p (u ∷ ts)) h .0) o
     go x e (t ∷ (u ∷ ts)) h (inr o) = go x e (u ∷ ts) (both (not (p (suc t))) (noneOf p (u ∷ ts)) h .1) o
 
-pub no-number : (r : Record) → isNumber (rank r) ≡ true → OneOf (1 ∷ 2 ∷ 6 ∷ 7 ∷ 8 ∷ 9 ∷ 10 ∷ 11 ∷ 12 ∷ 13 ∷ 14 ∷ 15 ∷ 16 ∷ 17 ∷ 18 ∷ []) (tagOf R.the-type r)
-    → ⊥
-no-number r = no-kind isNumber (1 ∷ 2 ∷ 6 ∷ 7 ∷ 8 ∷ 9 ∷ 10 ∷ 11 ∷ 12 ∷ 13 ∷ 14 ∷ 15 ∷ 16 ∷ 17 ∷ 18 ∷ []) r refl
+-- a record of the rank k is none of the others
+pub no-other : (k : ℕ) (r : Record) → rank r ≡ k → OneOf (others (λ x. eqb x k) tags) (tagOf R.the-type r) → ⊥
+no-other k r e = no-kind (λ x. eqb x k) r (eq-eqb (rank r) k e)
 
-pub no-flag : (r : Record) → isFlag (rank r) ≡ true → OneOf (0 ∷ 1 ∷ 2 ∷ 3 ∷ 4 ∷ 5 ∷ 8 ∷ 9 ∷ 10 ∷ 11 ∷ 12 ∷ 13 ∷ 14 ∷ 15 ∷ 16 ∷ 17 ∷ 18 ∷ [])
-    (tagOf R.the-type r) → ⊥
-no-flag r = no-kind isFlag (0 ∷ 1 ∷ 2 ∷ 3 ∷ 4 ∷ 5 ∷ 8 ∷ 9 ∷ 10 ∷ 11 ∷ 12 ∷ 13 ∷ 14 ∷ 15 ∷ 16 ∷ 17 ∷ 18 ∷ []) r refl
+-- and so is one that was found
+module _ {k : ℕ} {rs : List Record} {f : Lookup} (w : Looked k rs f) {r : Record} (h : f ≡ Found r) where
+  pub found-kind : (p : ℕ → Bool) → p k ≡ true → OneOf (others p tags) (tagOf R.the-type r) → ⊥
+  found-kind p e = no-kind p r (ap p (found-rank w h) ∙ e)
 
-pub no-slot : (r : Record) → isSlot (rank r) ≡ true → OneOf (0 ∷ 1 ∷ 2 ∷ 3 ∷ 4 ∷ 5 ∷ 6 ∷ 7 ∷ 8 ∷ 9 ∷ 10 ∷ 11 ∷ 12 ∷ 15 ∷ 16 ∷ 17 ∷ 18 ∷ [])
-    (tagOf R.the-type r) → ⊥
-no-slot r = no-kind isSlot (0 ∷ 1 ∷ 2 ∷ 3 ∷ 4 ∷ 5 ∷ 6 ∷ 7 ∷ 8 ∷ 9 ∷ 10 ∷ 11 ∷ 12 ∷ 15 ∷ 16 ∷ 17 ∷ 18 ∷ []) r refl
-
-pub no-break : (r : Record) → isBreak (rank r) ≡ true → OneOf (0 ∷ 1 ∷ 2 ∷ 3 ∷ 4 ∷ 5 ∷ 6 ∷ 7 ∷ 8 ∷ 9 ∷ 10 ∷ 11 ∷ 12 ∷ 13 ∷ 14 ∷ 15 ∷ 18 ∷ [])
-    (tagOf R.the-type r) → ⊥
-no-break r = no-kind isBreak (0 ∷ 1 ∷ 2 ∷ 3 ∷ 4 ∷ 5 ∷ 6 ∷ 7 ∷ 8 ∷ 9 ∷ 10 ∷ 11 ∷ 12 ∷ 13 ∷ 14 ∷ 15 ∷ 18 ∷ []) r refl
+  pub found-no-other : OneOf (others (λ x. eqb x k) tags) (tagOf R.the-type r) → ⊥
+  found-no-other = no-other k r (found-rank w h)

@@ -1,6 +1,5 @@
 -- `job_reader::lists::cells_of` meets its contract. Assumes nothing.
 use mathlib.Core.Path.{sym, ap}
-use mathlib.Core.List.{[], _∷_}
 use Rattle.job_reader.specs.Walk.{cells}
 use Rattle.job_reader.proofs.WalkLaws.{no-other}
 use borrow.Author.Needs.{needs}
@@ -11,9 +10,7 @@ enum-known-found : tie.Need-enum-known-found
 enum-known-found c = search needs
 
 returns : tie.Need-returns
-returns c =
-    absurd (no-other 15 (0 ∷ 1 ∷ 2 ∷ 3 ∷ 4 ∷ 5 ∷ 6 ∷ 7 ∷ 8 ∷ 9 ∷ 10 ∷ 11 ∷ 12 ∷ 13 ∷ 14 ∷ 16 ∷ 17 ∷ 18 ∷ []) (c .before .args .found) tt (c .before .pre)
-    (c .match .keys2))
+returns c = absurd (no-other 16 (c .before .args .found) (c .before .pre) (c .match .keys2))
 
 returns-2 : tie.Need-returns-2
 returns-2 c = sym (ap cells (c .before .before .found .given .1))

@@ -16,7 +16,7 @@ enum-told c = search needs
 returns : tie.Need-returns
 returns c =
     let start : tie.Start = search in
-    kind-none (start .args .wanted) _ _ (c .before .before .next-record .ensures) (c .enum-told .given .1)
+    kind-none (start .args .wanted) (c .before .before .next-record .ensures) (c .enum-told .given .1)
 
 rank-of-requires : tie.Need-rank-of-requires
 rank-of-requires c κs = search needs
@@ -26,7 +26,7 @@ returns-2 c =
     let start : tie.Start = search in
     let after-next-record : tie.After-next-record = search in
     let after-found : tie.After-found = search in
-    kind-some (start .args .wanted) _ _ (after-next-record .next-record .ensures) _ _ _ (after-found .found .given .1) (c .before .rank-of .ensures)
+    kind-some (start .args .wanted) (after-next-record .next-record .ensures) (after-found .found .given .1) (c .before .rank-of .ensures)
     (c .if1 .taken)
 
 returns-3 : tie.Need-returns-3
@@ -34,7 +34,7 @@ returns-3 c =
     let start : tie.Start = search in
     let after-next-record : tie.After-next-record = search in
     let after-found : tie.After-found = search in
-    kind-other (start .args .wanted) _ _ (after-next-record .next-record .ensures) _ _ _ (after-found .found .given .1) (c .before .rank-of .ensures)
+    kind-other (start .args .wanted) (after-next-record .next-record .ensures) (after-found .found .given .1) (c .before .rank-of .ensures)
     (c .if1 .left)
 
 pub next-of-spec : {M : Type 1} → statement M

@@ -1,7 +1,7 @@
 -- `job_reader::lists::read_job` meets its contract. Assumes nothing.
 use mathlib.Core.Path.{refl}
 use Rattle.job_reader.specs.Reading.{Lists, lists}
-use Rattle.job_reader.proofs.ReadingLaws.{given-sorted, given-room, job-given, job-refused}
+use Rattle.job_reader.proofs.ReadingLaws.{Admitted, admitted-is, given-sorted, given-room, job-given, job-refused}
 use Rattle.job_reader.proofs.lists.read_job.Statement.{statement}
 use Rattle.job_reader.proofs.lists.read_job.Tie as tie
 
@@ -22,6 +22,10 @@ lent s =
     lists (a .row-indexes .now) (a .row-sizes .now) (a .column-indexes .now) (a .column-sizes .now) (a .merge-first-rows .now)
     (a .merge-first-columns .now) (a .merge-last-rows .now) (a .merge-last-columns .now) (a .row-breaks .now) (a .column-breaks .now)
 
+-- the job was admitted to them
+given : (d : tie.After-admitted2) → Admitted (start d .args .bytes .now) (lent (start d)) (d .admitted2 .given .0 .0)
+given d = admitted-is (asked d .admit-to .ensures) (d .admitted2 .given .1)
+
 admit-to-requires : tie.Need-admit-to-requires
 admit-to-requires c κs = tt
 
@@ -34,19 +38,10 @@ enum-known-admitted-2 c = c .match .keys2
 write-items-requires : tie.Need-write-items-requires
 write-items-requires c κs =
     let d : tie.After-admitted2 = search in
-    let s = start d in
-    let after-admit-to = asked d in (
-      given-sorted (s .args .bytes .now) (lent s) (after-admit-to .admit-to .result) (after-admit-to .admit-to .ensures) _ (d .admitted2 .given .1),
-      given-room
-          (s .args .bytes .now) (lent s) (after-admit-to .admit-to .result) (after-admit-to .admit-to .ensures) _ (d .admitted2 .given .1),
-    )
+    (given-sorted (given d), given-room (given d))
 
 settings-of-requires : tie.Need-settings-of-requires
-settings-of-requires c κs =
-    let d : tie.After-admitted2 = search in
-    let s = start d in
-    let after-admit-to = asked d in
-    given-sorted (s .args .bytes .now) (lent s) (after-admit-to .admit-to .result) (after-admit-to .admit-to .ensures) _ (d .admitted2 .given .1)
+settings-of-requires c κs = given-sorted (given (search))
 
 same-length : tie.Need-same-length
 same-length c = refl
@@ -80,68 +75,43 @@ same-length-10 c = refl
 
 returns : tie.Need-returns
 returns c =
-    let s : tie.Start = search in
     let after-admit-to : tie.After-admit-to = search in
-    job-refused (s .args .bytes .now) (lent s) (after-admit-to .admit-to .result) _ (after-admit-to .admit-to .ensures) (c .before .admitted .given .1)
+    job-refused (after-admit-to .admit-to .ensures) (c .before .admitted .given .1)
 
 same-length-11 : tie.Need-same-length-11
-same-length-11 c =
-    let after-write-items : tie.After-write-items = search in
-    after-write-items .write-items .kept .1 .0
+same-length-11 c = search
 
 same-length-12 : tie.Need-same-length-12
-same-length-12 c =
-    let after-write-items : tie.After-write-items = search in
-    after-write-items .write-items .kept .1 .1 .0
+same-length-12 c = search
 
 same-length-13 : tie.Need-same-length-13
-same-length-13 c =
-    let after-write-items : tie.After-write-items = search in
-    after-write-items .write-items .kept .1 .1 .1 .0
+same-length-13 c = search
 
 same-length-14 : tie.Need-same-length-14
-same-length-14 c =
-    let after-write-items : tie.After-write-items = search in
-    after-write-items .write-items .kept .1 .1 .1 .1 .0
+same-length-14 c = search
 
 same-length-15 : tie.Need-same-length-15
-same-length-15 c =
-    let after-write-items : tie.After-write-items = search in
-    after-write-items .write-items .kept .1 .1 .1 .1 .1 .0
+same-length-15 c = search
 
 same-length-16 : tie.Need-same-length-16
-same-length-16 c =
-    let after-write-items : tie.After-write-items = search in
-    after-write-items .write-items .kept .1 .1 .1 .1 .1 .1 .0
+same-length-16 c = search
 
 same-length-17 : tie.Need-same-length-17
-same-length-17 c =
-    let after-write-items : tie.After-write-items = search in
-    after-write-items .write-items .kept .1 .1 .1 .1 .1 .1 .1 .0
+same-length-17 c = search
 
 same-length-18 : tie.Need-same-length-18
-same-length-18 c =
-    let after-write-items : tie.After-write-items = search in
-    after-write-items .write-items .kept .1 .1 .1 .1 .1 .1 .1 .1 .0
+same-length-18 c = search
 
 same-length-19 : tie.Need-same-length-19
-same-length-19 c =
-    let after-write-items : tie.After-write-items = search in
-    after-write-items .write-items .kept .1 .1 .1 .1 .1 .1 .1 .1 .1 .0
+same-length-19 c = search
 
 same-length-20 : tie.Need-same-length-20
-same-length-20 c =
-    let after-write-items : tie.After-write-items = search in
-    after-write-items .write-items .kept .1 .1 .1 .1 .1 .1 .1 .1 .1 .1 .0
+same-length-20 c = search
 
 returns-2 : tie.Need-returns-2
 returns-2 c =
     let after-write-items : tie.After-write-items = search in
-    let d = admitted after-write-items in
-    let s = start d in
-    let after-admit-to = asked d in
-    job-given (s .args .bytes .now) (lent s) (after-admit-to .admit-to .result) (after-admit-to .admit-to .ensures) _ (d .admitted2 .given .1) _ _
-    (c .settings-of .ensures) (after-write-items .write-items .ensures)
+    job-given (given (admitted after-write-items)) (c .settings-of .ensures) (after-write-items .write-items .ensures)
 
 pub read-job-spec : {M : Type 1} → statement M
 read-job-spec =

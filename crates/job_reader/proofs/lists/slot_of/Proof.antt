@@ -1,7 +1,7 @@
 -- `job_reader::lists::slot_of` meets its contract. Assumes nothing.
 use mathlib.Core.Path.{sym, ap, _∙_}
-use Rattle.job_reader.specs.Walk.{measured}
-use Rattle.job_reader.proofs.WalkLaws.{no-slot}
+use Rattle.job_reader.specs.Walk.{isSlot, measured}
+use Rattle.job_reader.proofs.WalkLaws.{no-kind}
 use borrow.Author.Needs.{needs}
 use Rattle.job_reader.proofs.lists.slot_of.Statement.{statement}
 use Rattle.job_reader.proofs.lists.slot_of.Tie as tie
@@ -25,7 +25,7 @@ returns-2 : tie.Need-returns-2
 returns-2 c = c .column-measured .ensures ∙ sym (ap measured (c .before .before .found2 .given .1))
 
 returns-3 : tie.Need-returns-3
-returns-3 c = absurd (no-slot (c .before .args .found) (c .before .pre) (c .match .keys3))
+returns-3 c = absurd (no-kind isSlot (c .before .args .found) (c .before .pre) (c .match .keys3))
 
 pub slot-of-spec : {M : Type 1} → statement M
 slot-of-spec =

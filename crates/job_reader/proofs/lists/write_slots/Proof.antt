@@ -1,28 +1,47 @@
 -- `job_reader::lists::write_slots` meets its contract. Assumes nothing.
 use mathlib.Core.Path.{ap}
 use lib.ListN.{length}
-use Prim.Native.Nat.{_+_}
+use Prim.Native.Nat.{_+_, _<_}
 use Rattle.job_reader.specs.declared.lists.Measured.{Measured}
-use Rattle.job_records.specs.Records.{field, records, marked}
-use Rattle.job_records.proofs.RecordLaws.{length-part}
-use Rattle.job_reader.proofs.WalkLaws.{Going, going-start, kind-past, kind-end, kind-rank, kind-used, kind-head, kind-on}
-use Rattle.job_reader.proofs.Lent.{One, one-start, one-room, one-store, one-done}
+use Rattle.job_reader.proofs.WalkLaws.{Going, Comes, going-start, kind-done, kind-next}
+use Rattle.job_reader.proofs.Lent.{Numbers, one-start, one-room, one-store, one-done}
 use borrow.Author.Needs.{needs}
 use native.Mathlib.Omega.{arith}
 use Rattle.job_reader.proofs.lists.write_slots.Statement.{statement}
 use Rattle.job_reader.proofs.lists.write_slots.Tie as tie
 
 abbrev Inv-loop : tie.InvT-loop
-Inv-loop bytes wanted indexes₀ sizes₀ s₀ k₀ indexes sizes s k = Going wanted (wanted + 1) bytes s × One (field 0) (marked wanted (records bytes)) indexes₀ k
-    (marked wanted (records s)) indexes × One (field 1) (marked wanted (records bytes)) sizes₀ k (marked wanted (records s)) sizes
+Inv-loop bytes wanted indexes₀ sizes₀ s₀ k₀ indexes sizes s k =
+    Going wanted (wanted + 1) bytes s
+    × Numbers wanted 0 bytes s k indexes₀ indexes
+    × Numbers wanted 1 bytes s k sizes₀ sizes
 
 abbrev μ-loop : tie.MeasureT-loop
 μ-loop bytes wanted indexes₀ sizes₀ s₀ k₀ indexes sizes s k = length s
 
+-- the slot that was found is the next of those that are left
+next : (d : tie.After-found Inv-loop μ-loop) →
+    let start : tie.Start Inv-loop μ-loop = search in
+    let at-loop : tie.At-loop Inv-loop μ-loop = search in
+    Comes (start .args .wanted) (start .args .bytes .now) (at-loop .loop .s .now) (d .found .given .0 .0) (d .found .given .0 .1 .0)
+next d =
+    let at-loop : tie.At-loop Inv-loop μ-loop = search in
+    kind-next (at-loop .loop .inv .0) (d .before .before .next-of .ensures) (d .found .given .1)
+
+-- each list has a place for it
+room : (d : tie.After-found Inv-loop μ-loop) →
+    let at-loop : tie.At-loop Inv-loop μ-loop = search in
+    let l = at-loop .loop in
+    (l .k < length (l .indexes)) × (l .k < length (l .sizes))
+room d =
+    let at-loop : tie.At-loop Inv-loop μ-loop = search in
+    let i = at-loop .loop .inv in
+    (one-room (i .1) (next d .head), one-room (i .2) (next d .head))
+
 loop-holds : tie.Need-loop-holds Inv-loop μ-loop
 loop-holds c =
     let start : tie.Start Inv-loop μ-loop = search in
-    (going-start (start .args .wanted) _ (start .args .bytes .now) (start .pre .0), one-start _ _ _, one-start _ _ _)
+    (going-start (start .args .wanted) _ (start .args .bytes .now) (start .pre .0), one-start (start .pre .1 .1 .0), one-start (omega arith))
 
 next-of-requires : tie.Need-next-of-requires Inv-loop μ-loop
 next-of-requires c κs = search needs
@@ -34,167 +53,64 @@ enum-told : tie.Need-enum-told Inv-loop μ-loop
 enum-told c = search needs
 
 sub-result : tie.Need-sub-result Inv-loop μ-loop
-sub-result c =
-    let at-loop : tie.At-loop Inv-loop μ-loop = search in
-    at-loop .loop .inv .0 .suffix .long
+sub-result c = search
 
 same-length : tie.Need-same-length Inv-loop μ-loop
-same-length c =
-    let at-loop : tie.At-loop Inv-loop μ-loop = search in
-    at-loop .loop .inv .1 .wrote .long
+same-length c = search
 
 same-length-2 : tie.Need-same-length-2 Inv-loop μ-loop
-same-length-2 c =
-    let at-loop : tie.At-loop Inv-loop μ-loop = search in
-    at-loop .loop .inv .2 .wrote .long
+same-length-2 c = search
 
 returns : tie.Need-returns Inv-loop μ-loop
 returns c =
-    let start : tie.Start Inv-loop μ-loop = search in
     let at-loop : tie.At-loop Inv-loop μ-loop = search in
-    let a = start .args in (
-      kind-past (a .wanted) (a .bytes .now) (at-loop .loop .s .now) (at-loop .loop .inv .0) (c .before .before .next-of .result)
-          (c .before .before .next-of .ensures) (c .enum-told .given .1),
-      (
-        one-done _ _ _ _ _ _ (at-loop .loop .inv .1)
-            (kind-end (a .wanted) (a .bytes .now) (at-loop .loop .s .now) (at-loop .loop .inv .0) (c .before .before .next-of .result)
-            (c .before .before .next-of .ensures) (c .enum-told .given .1)),
-        one-done _ _ _ _ _ _ (at-loop .loop .inv .2)
-            (kind-end (a .wanted) (a .bytes .now) (at-loop .loop .s .now) (at-loop .loop .inv .0) (c .before .before .next-of .result)
-            (c .before .before .next-of .ensures) (c .enum-told .given .1)),
-      ),
-    )
+    let after-next-of : tie.After-next-of Inv-loop μ-loop = search in
+    let i = at-loop .loop .inv in
+    let z = kind-done (i .0) (after-next-of .next-of .ensures) (c .enum-told .given .1) in
+    (z .0, (one-done (i .1) (z .1), one-done (i .2) (z .1)))
 
 sub-s : tie.Need-sub-s Inv-loop μ-loop
-sub-s c =
-    let start : tie.Start Inv-loop μ-loop = search in
-    let at-loop : tie.At-loop Inv-loop μ-loop = search in
-    let after-next-of : tie.After-next-of Inv-loop μ-loop = search in
-    omega (
-      arith,
-      kind-used (start .args .wanted) (start .args .bytes .now) (at-loop .loop .s .now) (at-loop .loop .inv .0) (after-next-of .next-of .result)
-          (after-next-of .next-of .ensures) _ _ (c .before .found .given .1),
-    )
+sub-s c = omega (arith, next (search) .used)
 
 part-s-start : tie.Need-part-s-start Inv-loop μ-loop
-part-s-start c =
-    let start : tie.Start Inv-loop μ-loop = search in
-    let at-loop : tie.At-loop Inv-loop μ-loop = search in
-    let after-next-of : tie.After-next-of Inv-loop μ-loop = search in
-    omega (
-      arith,
-      kind-used (start .args .wanted) (start .args .bytes .now) (at-loop .loop .s .now) (at-loop .loop .inv .0) (after-next-of .next-of .result)
-          (after-next-of .next-of .ensures) _ _ (c .before .found .given .1),
-    )
+part-s-start c = omega (arith, next (search) .used)
 
 part-s-end : tie.Need-part-s-end Inv-loop μ-loop
-part-s-end c =
-    let start : tie.Start Inv-loop μ-loop = search in
-    let at-loop : tie.At-loop Inv-loop μ-loop = search in
-    let after-next-of : tie.After-next-of Inv-loop μ-loop = search in
-    omega (
-      arith,
-      kind-used (start .args .wanted) (start .args .bytes .now) (at-loop .loop .s .now) (at-loop .loop .inv .0) (after-next-of .next-of .result)
-          (after-next-of .next-of .ensures) _ _ (c .before .found .given .1),
-    )
+part-s-end c = omega (arith, next (search) .used)
 
 slot-of-requires : tie.Need-slot-of-requires Inv-loop μ-loop
 slot-of-requires c κs =
     let start : tie.Start Inv-loop μ-loop = search in
-    let at-loop : tie.At-loop Inv-loop μ-loop = search in
-    let after-next-of : tie.After-next-of Inv-loop μ-loop = search in
-    rw (kind-rank (start .args .wanted) (start .args .bytes .now) (at-loop .loop .s .now) (at-loop .loop .inv .0) (after-next-of .next-of .result)
-    (after-next-of .next-of .ensures) _ _ (c .before .before .found .given .1)) (start .pre .1 .0)
+    let d : tie.After-found Inv-loop μ-loop = search in
+    rw (next d .rank-is) (start .pre .1 .0)
 
 mul-indexes : tie.Need-mul-indexes Inv-loop μ-loop
-mul-indexes c =
-    let start : tie.Start Inv-loop μ-loop = search in
-    let at-loop : tie.At-loop Inv-loop μ-loop = search in
-    let after-next-of : tie.After-next-of Inv-loop μ-loop = search in
-    let after-found : tie.After-found Inv-loop μ-loop = search in
-    omega (
-      arith,
-      one-room _ _ _ _ _ _ (at-loop .loop .inv .1) _ _
-          (kind-head (start .args .wanted) (start .args .bytes .now) (at-loop .loop .s .now) (at-loop .loop .inv .0) (after-next-of .next-of .result)
-          (after-next-of .next-of .ensures) _ _ (after-found .found .given .1)) (start .pre .1 .1 .0),
-    )
+mul-indexes c = omega (arith, room (search) .0)
 
 slice-write-indexes : tie.Need-slice-write-indexes Inv-loop μ-loop
-slice-write-indexes c =
-    let start : tie.Start Inv-loop μ-loop = search in
-    let at-loop : tie.At-loop Inv-loop μ-loop = search in
-    let after-next-of : tie.After-next-of Inv-loop μ-loop = search in
-    let after-found : tie.After-found Inv-loop μ-loop = search in
-    one-room _ _ _ _ _ _ (at-loop .loop .inv .1) _ _
-    (kind-head (start .args .wanted) (start .args .bytes .now) (at-loop .loop .s .now) (at-loop .loop .inv .0) (after-next-of .next-of .result)
-    (after-next-of .next-of .ensures) _ _ (after-found .found .given .1)) (start .pre .1 .1 .0)
+slice-write-indexes c = room (search) .0
 
 mul-sizes : tie.Need-mul-sizes Inv-loop μ-loop
-mul-sizes c =
-    let start : tie.Start Inv-loop μ-loop = search in
-    let at-loop : tie.At-loop Inv-loop μ-loop = search in
-    let after-next-of : tie.After-next-of Inv-loop μ-loop = search in
-    let after-found : tie.After-found Inv-loop μ-loop = search in
-    omega (
-      arith,
-      one-room _ _ _ _ _ _ (at-loop .loop .inv .2) _ _
-          (kind-head (start .args .wanted) (start .args .bytes .now) (at-loop .loop .s .now) (at-loop .loop .inv .0) (after-next-of .next-of .result)
-          (after-next-of .next-of .ensures) _ _ (after-found .found .given .1)) (omega (arith, start .pre .1 .1 .0, start .pre .1 .1 .1)),
-    )
+mul-sizes c = omega (arith, room (search) .1)
 
 slice-write-sizes : tie.Need-slice-write-sizes Inv-loop μ-loop
-slice-write-sizes c =
-    let start : tie.Start Inv-loop μ-loop = search in
-    let at-loop : tie.At-loop Inv-loop μ-loop = search in
-    let after-next-of : tie.After-next-of Inv-loop μ-loop = search in
-    let after-found : tie.After-found Inv-loop μ-loop = search in
-    one-room _ _ _ _ _ _ (at-loop .loop .inv .2) _ _
-    (kind-head (start .args .wanted) (start .args .bytes .now) (at-loop .loop .s .now) (at-loop .loop .inv .0) (after-next-of .next-of .result)
-    (after-next-of .next-of .ensures) _ _ (after-found .found .given .1)) (omega (arith, start .pre .1 .1 .0, start .pre .1 .1 .1))
+slice-write-sizes c = room (search) .1
 
 add-k : tie.Need-add-k Inv-loop μ-loop
-add-k c =
-    let start : tie.Start Inv-loop μ-loop = search in
-    let at-loop : tie.At-loop Inv-loop μ-loop = search in
-    let after-next-of : tie.After-next-of Inv-loop μ-loop = search in
-    let after-found : tie.After-found Inv-loop μ-loop = search in
-    omega (
-      arith,
-      one-room _ _ _ _ _ _ (at-loop .loop .inv .1) _ _
-          (kind-head (start .args .wanted) (start .args .bytes .now) (at-loop .loop .s .now) (at-loop .loop .inv .0) (after-next-of .next-of .result)
-          (after-next-of .next-of .ensures) _ _ (after-found .found .given .1)) (start .pre .1 .1 .0),
-    )
+add-k c = omega (arith, room (search) .0)
 
 loop-less : tie.Need-loop-less Inv-loop μ-loop
-loop-less c =
-    let start : tie.Start Inv-loop μ-loop = search in
-    let at-loop : tie.At-loop Inv-loop μ-loop = search in
-    let after-next-of : tie.After-next-of Inv-loop μ-loop = search in
-    let after-found : tie.After-found Inv-loop μ-loop = search in
-    omega (
-      arith,
-      kind-used (start .args .wanted) (start .args .bytes .now) (at-loop .loop .s .now) (at-loop .loop .inv .0) (after-next-of .next-of .result)
-          (after-next-of .next-of .ensures) _ _ (after-found .found .given .1),
-      length-part (after-found .found .given .0 .1 .0) (at-loop .loop .s .now),
-    )
+loop-less c = next (search) .used .less
 
 loop-again : tie.Need-loop-again Inv-loop μ-loop
 loop-again c =
-    let start : tie.Start Inv-loop μ-loop = search in
+    let d : tie.After-found Inv-loop μ-loop = search in
     let at-loop : tie.At-loop Inv-loop μ-loop = search in
-    let after-next-of : tie.After-next-of Inv-loop μ-loop = search in
-    let after-found : tie.After-found Inv-loop μ-loop = search in
-    let a = start .args in (
-      kind-on (a .wanted) (a .bytes .now) (at-loop .loop .s .now) (at-loop .loop .inv .0) (after-next-of .next-of .result)
-          (after-next-of .next-of .ensures) _ _ (after-found .found .given .1),
-      one-store _ _ _ _ _ _ (at-loop .loop .inv .1) _ _ (c .slot-of .result .index)
-          (kind-head (a .wanted) (a .bytes .now) (at-loop .loop .s .now) (at-loop .loop .inv .0) (after-next-of .next-of .result)
-          (after-next-of .next-of .ensures) _ _ (after-found .found .given .1)) (start .pre .1 .1 .0)
-          (ap (λ (m : Measured). m .index) (c .slot-of .ensures)),
-      one-store _ _ _ _ _ _ (at-loop .loop .inv .2) _ _ (c .slot-of .result .size)
-          (kind-head (a .wanted) (a .bytes .now) (at-loop .loop .s .now) (at-loop .loop .inv .0) (after-next-of .next-of .result)
-          (after-next-of .next-of .ensures) _ _ (after-found .found .given .1)) (omega (arith, start .pre .1 .1 .0, start .pre .1 .1 .1))
-          (ap (λ (m : Measured). m .size) (c .slot-of .ensures)),
+    let i = at-loop .loop .inv in
+    let h = next d .head in (
+      next d .on,
+      one-store (i .1) h (ap (λ (m : Measured). m .index) (c .slot-of .ensures)),
+      one-store (i .2) h (ap (λ (m : Measured). m .size) (c .slot-of .ensures)),
     )
 
 pub write-slots-spec : {M : Type 1} → statement M

@@ -1,23 +1,31 @@
 -- `job_reader::settings::find_record` meets its contract. Assumes nothing.
-use mathlib.Core.Path.{_≡_, refl}
+use mathlib.Core.Path.{refl}
 use lib.ListN.{length}
-use Rattle.job_records.specs.Records.{records, marked}
-use Rattle.job_reader.specs.Walk.{Sorted}
-use Rattle.job_records.proofs.RecordLaws.{length-part}
-use Rattle.job_reader.proofs.WalkLaws.{walk-used, look-end, look-found, look-past, look-on}
+use Rattle.job_reader.proofs.WalkLaws.{Looking, Seen, look-end, look-next}
 use borrow.Author.Needs.{needs}
 use native.Mathlib.Omega.{arith}
 use Rattle.job_reader.proofs.settings.find_record.Statement.{statement}
 use Rattle.job_reader.proofs.settings.find_record.Tie as tie
 
 abbrev Inv-loop : tie.InvT-loop
-Inv-loop bytes wanted s₀ s = Sorted 0 (records s) × (marked wanted (records s) ≡ marked wanted (records bytes))
+Inv-loop bytes wanted s₀ s = Looking wanted bytes s
 
 abbrev μ-loop : tie.MeasureT-loop
 μ-loop bytes wanted s₀ s = length s
 
+-- the record that was found is the next, and its rank says what to do
+next : (d : tie.After-rank-of Inv-loop μ-loop) →
+    let start : tie.Start Inv-loop μ-loop = search in
+    let at-loop : tie.At-loop Inv-loop μ-loop = search in
+    let f : tie.After-found Inv-loop μ-loop = search in
+    Seen (start .args .wanted) (start .args .bytes .now) (at-loop .loop .s .now) (f .found .given .0 .0) (f .found .given .0 .1 .0) (d .rank-of .result)
+next d =
+    let at-loop : tie.At-loop Inv-loop μ-loop = search in
+    let f : tie.After-found Inv-loop μ-loop = search in
+    look-next (at-loop .loop .inv) (f .before .before .next-record .ensures) (f .found .given .1) (d .rank-of .ensures)
+
 loop-holds : tie.Need-loop-holds Inv-loop μ-loop
-loop-holds c = (c .before .pre, refl)
+loop-holds c = record { sorted = c .before .pre; same = refl }
 
 next-record-requires : tie.Need-next-record-requires Inv-loop μ-loop
 next-record-requires c κs = search needs
@@ -30,89 +38,33 @@ enum-told c = search needs
 
 returns : tie.Need-returns Inv-loop μ-loop
 returns c =
-    let start : tie.Start Inv-loop μ-loop = search in
     let at-loop : tie.At-loop Inv-loop μ-loop = search in
-    look-end (start .args .wanted) (start .args .bytes .now) (at-loop .loop .s .now) (at-loop .loop .inv .0) (at-loop .loop .inv .1)
-    (c .before .before .next-record .result) (c .before .before .next-record .ensures) (c .enum-told .given .1)
+    let after-next-record : tie.After-next-record Inv-loop μ-loop = search in
+    look-end (at-loop .loop .inv) (after-next-record .next-record .ensures) (c .enum-told .given .1)
 
 rank-of-requires : tie.Need-rank-of-requires Inv-loop μ-loop
 rank-of-requires c κs = search needs
 
 returns-2 : tie.Need-returns-2 Inv-loop μ-loop
-returns-2 c =
-    let start : tie.Start Inv-loop μ-loop = search in
-    let at-loop : tie.At-loop Inv-loop μ-loop = search in
-    let after-next-record : tie.After-next-record Inv-loop μ-loop = search in
-    let after-found : tie.After-found Inv-loop μ-loop = search in
-    look-found (start .args .wanted) (start .args .bytes .now) (at-loop .loop .s .now) (at-loop .loop .inv .0) (at-loop .loop .inv .1)
-    (after-next-record .next-record .result) (after-next-record .next-record .ensures) _ _ _ (after-found .found .given .1) (c .before .rank-of .ensures)
-    (c .if1 .taken)
+returns-2 c = next (search) .here (c .if1 .taken)
 
 returns-3 : tie.Need-returns-3 Inv-loop μ-loop
-returns-3 c =
-    let start : tie.Start Inv-loop μ-loop = search in
-    let at-loop : tie.At-loop Inv-loop μ-loop = search in
-    let after-next-record : tie.After-next-record Inv-loop μ-loop = search in
-    let after-found : tie.After-found Inv-loop μ-loop = search in
-    look-past (start .args .wanted) (start .args .bytes .now) (at-loop .loop .s .now) (at-loop .loop .inv .0) (at-loop .loop .inv .1)
-    (after-next-record .next-record .result) (after-next-record .next-record .ensures) _ _ _ (after-found .found .given .1)
-    (c .before .before .rank-of .ensures) (c .if2 .taken)
+returns-3 c = next (search) .past (c .if2 .taken)
 
 sub-s : tie.Need-sub-s Inv-loop μ-loop
-sub-s c =
-    let at-loop : tie.At-loop Inv-loop μ-loop = search in
-    let after-next-record : tie.After-next-record Inv-loop μ-loop = search in
-    let after-found : tie.After-found Inv-loop μ-loop = search in
-    omega (
-      arith,
-      walk-used (at-loop .loop .s .now) (after-next-record .next-record .result) (after-next-record .next-record .ensures) _ _
-          (after-found .found .given .1),
-    )
+sub-s c = omega (arith, next (search) .used)
 
 part-s-start : tie.Need-part-s-start Inv-loop μ-loop
-part-s-start c =
-    let at-loop : tie.At-loop Inv-loop μ-loop = search in
-    let after-next-record : tie.After-next-record Inv-loop μ-loop = search in
-    let after-found : tie.After-found Inv-loop μ-loop = search in
-    omega (
-      arith,
-      walk-used (at-loop .loop .s .now) (after-next-record .next-record .result) (after-next-record .next-record .ensures) _ _
-          (after-found .found .given .1),
-    )
+part-s-start c = omega (arith, next (search) .used)
 
 part-s-end : tie.Need-part-s-end Inv-loop μ-loop
-part-s-end c =
-    let at-loop : tie.At-loop Inv-loop μ-loop = search in
-    let after-next-record : tie.After-next-record Inv-loop μ-loop = search in
-    let after-found : tie.After-found Inv-loop μ-loop = search in
-    omega (
-      arith,
-      walk-used (at-loop .loop .s .now) (after-next-record .next-record .result) (after-next-record .next-record .ensures) _ _
-          (after-found .found .given .1),
-    )
+part-s-end c = omega (arith, next (search) .used)
 
 loop-less : tie.Need-loop-less Inv-loop μ-loop
-loop-less c =
-    let at-loop : tie.At-loop Inv-loop μ-loop = search in
-    let after-next-record : tie.After-next-record Inv-loop μ-loop = search in
-    let after-found : tie.After-found Inv-loop μ-loop = search in
-    omega (
-      arith,
-      walk-used (at-loop .loop .s .now) (after-next-record .next-record .result) (after-next-record .next-record .ensures) _ _
-          (after-found .found .given .1),
-      length-part (after-found .found .given .0 .1 .0) (at-loop .loop .s .now),
-    )
+loop-less c = next (search) .used .less
 
 loop-again : tie.Need-loop-again Inv-loop μ-loop
-loop-again c =
-    let start : tie.Start Inv-loop μ-loop = search in
-    let at-loop : tie.At-loop Inv-loop μ-loop = search in
-    let after-next-record : tie.After-next-record Inv-loop μ-loop = search in
-    let after-found : tie.After-found Inv-loop μ-loop = search in
-    let after-rank-of : tie.After-rank-of Inv-loop μ-loop = search in
-    look-on (start .args .wanted) (start .args .bytes .now) (at-loop .loop .s .now) (at-loop .loop .inv .0) (at-loop .loop .inv .1)
-    (after-next-record .next-record .result) (after-next-record .next-record .ensures) _ _ _ (after-found .found .given .1)
-    (after-rank-of .rank-of .ensures) (c .before .before .if1 .left)
+loop-again c = next (search) .on (c .before .before .if1 .left)
 
 pub find-record-spec : {M : Type 1} → statement M
 find-record-spec =

@@ -1,12 +1,17 @@
 -- `job_reader::settings::margins_of` meets its contract. Assumes nothing.
 use mathlib.Core.Path.{refl}
-use mathlib.Core.List.{[], _∷_}
 use Rattle.job_records.specs.Records.{records}
 use Rattle.job_reader.specs.Settings.{marginsFrom}
-use Rattle.job_reader.proofs.WalkLaws.{no-other, found-rank, from-none, from-one}
+use Rattle.job_reader.proofs.WalkLaws.{Looked, from-none, from-one, found-no-other}
 use borrow.Author.Needs.{needs}
 use Rattle.job_reader.proofs.settings.margins_of.Statement.{statement}
 use Rattle.job_reader.proofs.settings.margins_of.Tie as tie
+
+-- what the search for the record says
+looked : (d : tie.After-find-record) →
+    let start : tie.Start = search in
+    Looked 3 (records (start .args .bytes .now)) (d .find-record .result)
+looked d = record { is = d .find-record .ensures }
 
 find-record-requires : tie.Need-find-record-requires
 find-record-requires c κs = c .before .pre
@@ -18,29 +23,20 @@ enum-told : tie.Need-enum-told
 enum-told c = search needs
 
 returns : tie.Need-returns
-returns c =
-    let start : tie.Start = search in
-    from-none 3 (records (start .args .bytes .now)) (c .before .before .find-record .result) (c .before .before .find-record .ensures) marginsFrom _
-    (c .enum-told .given .1) refl
+returns c = from-none (looked search) marginsFrom (c .enum-told .given .1) refl
 
 enum-known-found-2 : tie.Need-enum-known-found-2
 enum-known-found-2 c = search needs
 
 returns-2 : tie.Need-returns-2
 returns-2 c =
-    let start : tie.Start = search in
-    let after-find-record : tie.After-find-record = search in
-    absurd (no-other 2 (0 ∷ 1 ∷ 3 ∷ 4 ∷ 5 ∷ 6 ∷ 7 ∷ 8 ∷ 9 ∷ 10 ∷ 11 ∷ 12 ∷ 13 ∷ 14 ∷ 15 ∷ 16 ∷ 17 ∷ 18 ∷ []) (c .before .before .found .given .0 .0) tt
-    (found-rank 3 (records (start .args .bytes .now)) (after-find-record .find-record .result) (after-find-record .find-record .ensures) _
-    (c .before .before .found .given .1)) (c .match2 .keys2))
+    let d : tie.After-found = search in
+    absurd (found-no-other (looked search) (d .found .given .1) (c .match2 .keys2))
 
 returns-3 : tie.Need-returns-3
 returns-3 c =
-    let start : tie.Start = search in
-    let after-find-record : tie.After-find-record = search in
-    let after-found : tie.After-found = search in
-    from-one 3 (records (start .args .bytes .now)) (after-find-record .find-record .result) (after-find-record .find-record .ensures) marginsFrom _ _ _
-    (after-found .found .given .1) (c .before .found2 .given .1) (λ t. refl)
+    let d : tie.After-found = search in
+    from-one (looked search) marginsFrom (d .found .given .1) (c .before .found2 .given .1) (λ t. refl)
 
 pub margins-of-spec : {M : Type 1} → statement M
 margins-of-spec =

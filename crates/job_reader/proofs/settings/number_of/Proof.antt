@@ -1,11 +1,26 @@
 -- `job_reader::settings::number_of` meets its contract. Assumes nothing.
-use mathlib.Core.Path.{refl}
-use Rattle.job_records.specs.Records.{records}
+use mathlib.Core.Path.{_≡_, refl}
+use mathlib.Core.List.{[], _∷_}
+use Rattle.job_records.specs.declared.records.Record.{Record}
+use Rattle.job_records.specs.Records.{records, marked}
 use Rattle.job_reader.specs.Settings.{numberFrom}
-use Rattle.job_reader.proofs.WalkLaws.{no-number, found-rank, from-none, from-one}
+use Rattle.job_reader.specs.Walk.{isNumber}
+use Rattle.job_reader.proofs.WalkLaws.{Looked, from-none, from-one, found-kind}
 use borrow.Author.Needs.{needs}
 use Rattle.job_reader.proofs.settings.number_of.Statement.{statement}
 use Rattle.job_reader.proofs.settings.number_of.Tie as tie
+
+-- what the search for the record says
+looked : (d : tie.After-find-record) →
+    let start : tie.Start = search in
+    Looked (start .args .wanted) (records (start .args .bytes .now)) (d .find-record .result)
+looked d = record { is = d .find-record .ensures }
+
+-- the record that was found has the setting
+given : (d : tie.After-found) {r : Record} → d .found .given .0 .0 ≡ r →
+    let start : tie.Start = search in
+    numberFrom (r ∷ []) ≡ numberFrom (marked (start .args .wanted) (records (start .args .bytes .now)))
+given d e = from-one (looked (d .before .before)) numberFrom (d .found .given .1) e (λ t. refl)
 
 find-record-requires : tie.Need-find-record-requires
 find-record-requires c κs = c .before .pre .0
@@ -17,10 +32,7 @@ enum-told : tie.Need-enum-told
 enum-told c = search needs
 
 returns : tie.Need-returns
-returns c =
-    let start : tie.Start = search in
-    from-none (start .args .wanted) (records (start .args .bytes .now)) (c .before .before .find-record .result)
-    (c .before .before .find-record .ensures) numberFrom _ (c .enum-told .given .1) refl
+returns c = from-none (looked search) numberFrom (c .enum-told .given .1) refl
 
 enum-known-found-2 : tie.Need-enum-known-found-2
 enum-known-found-2 c = search needs
@@ -35,44 +47,22 @@ enum-known-found-5 : tie.Need-enum-known-found-5
 enum-known-found-5 c = search needs
 
 returns-2 : tie.Need-returns-2
-returns-2 c =
-    let start : tie.Start = search in
-    let after-find-record : tie.After-find-record = search in
-    let after-found : tie.After-found = search in
-    from-one (start .args .wanted) (records (start .args .bytes .now)) (after-find-record .find-record .result)
-    (after-find-record .find-record .ensures) numberFrom _ _ _ (after-found .found .given .1) (c .before .found2 .given .1) (λ t. refl)
+returns-2 c = given (search) (c .before .found2 .given .1)
 
 returns-3 : tie.Need-returns-3
-returns-3 c =
-    let start : tie.Start = search in
-    let after-find-record : tie.After-find-record = search in
-    let after-found : tie.After-found = search in
-    from-one (start .args .wanted) (records (start .args .bytes .now)) (after-find-record .find-record .result)
-    (after-find-record .find-record .ensures) numberFrom _ _ _ (after-found .found .given .1) (c .before .found3 .given .1) (λ t. refl)
+returns-3 c = given (search) (c .before .found3 .given .1)
 
 returns-4 : tie.Need-returns-4
-returns-4 c =
-    let start : tie.Start = search in
-    let after-find-record : tie.After-find-record = search in
-    let after-found : tie.After-found = search in
-    from-one (start .args .wanted) (records (start .args .bytes .now)) (after-find-record .find-record .result)
-    (after-find-record .find-record .ensures) numberFrom _ _ _ (after-found .found .given .1) (c .before .found4 .given .1) (λ t. refl)
+returns-4 c = given (search) (c .before .found4 .given .1)
 
 returns-5 : tie.Need-returns-5
-returns-5 c =
-    let start : tie.Start = search in
-    let after-find-record : tie.After-find-record = search in
-    let after-found : tie.After-found = search in
-    from-one (start .args .wanted) (records (start .args .bytes .now)) (after-find-record .find-record .result)
-    (after-find-record .find-record .ensures) numberFrom _ _ _ (after-found .found .given .1) (c .before .found5 .given .1) (λ t. refl)
+returns-5 c = given (search) (c .before .found5 .given .1)
 
 returns-6 : tie.Need-returns-6
 returns-6 c =
     let start : tie.Start = search in
-    let after-find-record : tie.After-find-record = search in
-    absurd (no-number (c .before .before .found .given .0 .0)
-    (rw (found-rank (start .args .wanted) (records (start .args .bytes .now)) (after-find-record .find-record .result)
-    (after-find-record .find-record .ensures) _ (c .before .before .found .given .1)) (start .pre .1)) (c .match2 .keys5))
+    let d : tie.After-found = search in
+    absurd (found-kind (looked search) (d .found .given .1) isNumber (start .pre .1) (c .match2 .keys5))
 
 pub number-of-spec : {M : Type 1} → statement M
 number-of-spec =

@@ -1,68 +1,45 @@
 -- `job_reader::settings::settings_of` meets its contract. Assumes nothing.
-use mathlib.Core.Path.{refl}
 use Rattle.job_reader.proofs.settings.settings_of.Statement.{statement}
 use Rattle.job_reader.proofs.settings.settings_of.Tie as tie
 
 number-of-requires : tie.Need-number-of-requires
-number-of-requires c κs = (c .before .pre, refl)
+number-of-requires c κs = search
 
 is-there-requires : tie.Need-is-there-requires
-is-there-requires c κs = c .before .before .pre
+is-there-requires c κs = search
 
 margins-of-requires : tie.Need-margins-of-requires
-margins-of-requires c κs =
-    let start : tie.Start = search in
-    start .pre
+margins-of-requires c κs = search
 
 number-of-requires-2 : tie.Need-number-of-requires-2
-number-of-requires-2 c κs =
-    let start : tie.Start = search in
-    (start .pre, refl)
+number-of-requires-2 c κs = search
 
 number-of-requires-3 : tie.Need-number-of-requires-3
-number-of-requires-3 c κs =
-    let start : tie.Start = search in
-    (start .pre, refl)
+number-of-requires-3 c κs = search
 
 number-of-requires-4 : tie.Need-number-of-requires-4
-number-of-requires-4 c κs =
-    let start : tie.Start = search in
-    (start .pre, refl)
+number-of-requires-4 c κs = search
 
 flag-of-requires : tie.Need-flag-of-requires
-flag-of-requires c κs =
-    let start : tie.Start = search in
-    (start .pre, refl)
+flag-of-requires c κs = search
 
 flag-of-requires-2 : tie.Need-flag-of-requires-2
-flag-of-requires-2 c κs =
-    let start : tie.Start = search in
-    (start .pre, refl)
+flag-of-requires-2 c κs = search
 
 is-there-requires-2 : tie.Need-is-there-requires-2
-is-there-requires-2 c κs =
-    let start : tie.Start = search in
-    start .pre
+is-there-requires-2 c κs = search
 
 limit-of-requires : tie.Need-limit-of-requires
-limit-of-requires c κs =
-    let start : tie.Start = search in
-    start .pre
+limit-of-requires c κs = search
 
 range-of-requires : tie.Need-range-of-requires
-range-of-requires c κs =
-    let start : tie.Start = search in
-    start .pre
+range-of-requires c κs = search
 
 row-title-of-requires : tie.Need-row-title-of-requires
-row-title-of-requires c κs =
-    let start : tie.Start = search in
-    start .pre
+row-title-of-requires c κs = search
 
 column-title-of-requires : tie.Need-column-title-of-requires
-column-title-of-requires c κs =
-    let start : tie.Start = search in
-    start .pre
+column-title-of-requires c κs = search
 
 returns : tie.Need-returns
 returns c =
