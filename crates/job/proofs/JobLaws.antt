@@ -134,7 +134,7 @@ module _ (s : List ℕ) {before : Lists} (holds : Holds s before) where
       go (given items) e = read-whole s items e before (holds .even) (holds .room (all-answered s items e .0))
       go (refused n) e =
           let v : refused n ≡ verdictLent (itemsEven before) s = sym e ∙ ap (λ (b : Bool). verdictLent b s) (sym (holds .even)) in
-          sym (not-read s before (checked.Refused n) n (admit-no (itemsEven before) s (roomIn before) (checked.Refused n) v n refl) refl .answer)
+          sym (not-read {s = s} {l = before} {f = checked.Refused n} (admit-no (itemsEven before) s (roomIn before) (checked.Refused n) v n refl) refl .answer)
 
   -- a no refuses the plan
   pub read-no : (rows columns : List ℕ) (r : Reading) (n : ℕ) → readingOutcome r ≡ readJob s before → r ≡ reading.Refused n → planJob s rows columns

@@ -1,7 +1,7 @@
 -- How many items a number of bytes can bring: a record has the bytes of its mark. A job whose questions 1 to 9 are answered yes is read
 -- whole where the lists hold its items. Assumes nothing.
 use mathlib.Core.Path.{_≡_, refl, sym, ap, _∙_}
-use mathlib.Core.Bool.{Bool, true, false, true≢false, cond}
+use mathlib.Core.Bool.{Bool, true, false, cond}
 use mathlib.Core.List.{List, [], _∷_}
 use Prim.Native.Nat.{ℕ, zero, suc, pred, _+_, _*_, _≤_, _<_}
 use native.Mathlib.Omega.{arith}
@@ -150,14 +150,6 @@ module _ (s : List ℕ) (items : Items) (e : verdictLent true s ≡ given items)
           ),
         ),
       )
-
--- lists that are not equally long are never questioned with yes
-pub verdict-even : (even : Bool) (s : List ℕ) (items : Items) → verdictLent even s ≡ given items → verdictLent true s ≡ given items
-unfolding verdictLent
-verdict-even true s items e = e
-verdict-even false s items e =
-    let a = all-given (itemsOf (records s)) 1 (questions false s) items (sym e) in
-    absurd (true≢false (sym (a .1 .1 .1 .1 .1 .0)))
 
 -- ---- which numbers 1 to 9 give, and how many rows and columns a job has
 
