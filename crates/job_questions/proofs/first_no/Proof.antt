@@ -49,19 +49,13 @@ returns-4 c =
     (yes-here _ _ _ _ (not-false _ (c .before .before .if3 .left)) (no-here _ _ _ (not-true _ (c .if4 .taken)))))
 
 returns-5 : tie.Need-returns-5
-returns-5 c =
-    let e : tie.Else4 = search in
-    past e _ (no-here _ _ _ (not-true _ (c .if5 .taken)))
+returns-5 c = past (search) _ (no-here _ _ _ (not-true _ (c .if5 .taken)))
 
 returns-6 : tie.Need-returns-6
-returns-6 c =
-    let e : tie.Else4 = search in
-    past e _ (yes-here _ _ _ _ (not-false _ (c .before .before .if5 .left)) (no-here _ _ _ (not-true _ (c .if6 .taken))))
+returns-6 c = past (search) _ (yes-here _ _ _ _ (not-false _ (c .before .before .if5 .left)) (no-here _ _ _ (not-true _ (c .if6 .taken))))
 
 returns-7 : tie.Need-returns-7
-returns-7 c =
-    let e : tie.Else4 = search in
-    past e _ (yes-here _ _ _ _ (not-false _ (c .before .before .if5 .left)) (yes-here _ _ _ _ (not-false _ (c .if6 .left)) (none-no _)))
+returns-7 c = past (search) _ (yes-here _ _ _ _ (not-false _ (c .before .before .if5 .left)) (yes-here _ _ _ _ (not-false _ (c .if6 .left)) (none-no _)))
 
 pub first-no-spec : {M : Type 1} → statement M
 first-no-spec =
