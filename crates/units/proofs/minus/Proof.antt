@@ -92,40 +92,41 @@ returns : tie.Need-returns
 returns c =
     let s : tie.After-magnitude2 = search in
     let then1 : tie.Then1 = search in
-    c .positive .ensures ∙ as-positive (by-size s (λ m n. m - n)) (pos-pos-ge (a s) (b s) (a-test s (then1 .if1 .taken)) (b-test s (c .before .before .if2 .taken)) (omega (arith, m-is s, n-is s, c .before .if3 .taken)))
+    c .positive .ensures ∙ as-positive (by-size s (λ m n. m - n))
+    (pos-pos-ge (a s) (b s) (a-test s (then1 .if1 .taken)) (b-test s (c .before .before .if2 .taken)) (omega (arith, m-is s, n-is s, c .before .if3 .taken)))
 
 returns-2 : tie.Need-returns-2
 returns-2 c =
     let s : tie.After-magnitude2 = search in
     let then1 : tie.Then1 = search in
-    c .negative .ensures
-    ∙ as-negative (by-size s (λ m n. n - m)) (pos-pos-lt (a s) (b s) (a-test s (then1 .if1 .taken)) (b-test s (c .before .before .if2 .taken)) (omega (arith, m-is s, n-is s, c .before .if3 .left)))
+    c .negative .ensures ∙ as-negative (by-size s (λ m n. n - m))
+    (pos-pos-lt (a s) (b s) (a-test s (then1 .if1 .taken)) (b-test s (c .before .before .if2 .taken)) (omega (arith, m-is s, n-is s, c .before .if3 .left)))
 
 returns-3 : tie.Need-returns-3
 returns-3 c =
     let s : tie.After-magnitude2 = search in
-    c .positive2 .ensures
-    ∙ as-positive (by-size s (λ m n. m + n)) (pos-neg (a s) (b s) (a-test s (c .before .before .if1 .taken)) (b-test s (c .before .if2 .left)))
+    c .positive2 .ensures ∙ as-positive (by-size s (λ m n. m + n))
+    (pos-neg (a s) (b s) (a-test s (c .before .before .if1 .taken)) (b-test s (c .before .if2 .left)))
 
 returns-4 : tie.Need-returns-4
 returns-4 c =
     let s : tie.After-magnitude2 = search in
-    c .negative2 .ensures
-    ∙ as-negative (by-size s (λ m n. m + n)) (neg-pos (a s) (b s) (a-test s (c .before .before .if1 .left)) (b-test s (c .before .if4 .taken)))
+    c .negative2 .ensures ∙ as-negative (by-size s (λ m n. m + n))
+    (neg-pos (a s) (b s) (a-test s (c .before .before .if1 .left)) (b-test s (c .before .if4 .taken)))
 
 returns-5 : tie.Need-returns-5
 returns-5 c =
     let s : tie.After-magnitude2 = search in
     let else1 : tie.Else1 = search in
-    c .negative3 .ensures
-    ∙ as-negative (by-size s (λ m n. m - n)) (neg-neg-ge (a s) (b s) (a-test s (else1 .if1 .left)) (b-test s (c .before .before .if4 .left)) (omega (arith, m-is s, n-is s, c .before .if5 .taken)))
+    c .negative3 .ensures ∙ as-negative (by-size s (λ m n. m - n))
+    (neg-neg-ge (a s) (b s) (a-test s (else1 .if1 .left)) (b-test s (c .before .before .if4 .left)) (omega (arith, m-is s, n-is s, c .before .if5 .taken)))
 
 returns-6 : tie.Need-returns-6
 returns-6 c =
     let s : tie.After-magnitude2 = search in
     let else1 : tie.Else1 = search in
-    c .positive3 .ensures
-    ∙ as-positive (by-size s (λ m n. n - m)) (neg-neg-lt (a s) (b s) (a-test s (else1 .if1 .left)) (b-test s (c .before .before .if4 .left)) (omega (arith, m-is s, n-is s, c .before .if5 .left)))
+    c .positive3 .ensures ∙ as-positive (by-size s (λ m n. n - m))
+    (neg-neg-lt (a s) (b s) (a-test s (else1 .if1 .left)) (b-test s (c .before .before .if4 .left)) (omega (arith, m-is s, n-is s, c .before .if5 .left)))
 
 pub minus-spec : {M : Type 1} → statement M
 minus-spec =

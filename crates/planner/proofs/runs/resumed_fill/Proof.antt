@@ -81,7 +81,8 @@ returns c =
     let l = t .before .loop in
     omega (
       arith,
-      again-stops (a .capacity) (a .last) (l .sum) (l .n) (a .indexes .now) (a .sizes .now) (here t .0) (here t .1) (c .before .before .if1 .left) (c .if2 .taken),
+      again-stops (a .capacity) (a .last) (l .sum) (l .n) (a .indexes .now) (a .sizes .now) (here t .0) (here t .1)
+          (c .before .before .if1 .left) (c .if2 .taken),
     )
 
 add-n-2 : tie.Need-add-n-2 Inv-loop μ-loop
@@ -98,7 +99,11 @@ loop-again-2 c =
       search needs,
       search needs,
       omega (arith, here t .2),
-      omega (arith, again-title (a .capacity) (a .last) (l .sum) (l .n) (a .indexes .now) (a .sizes .now) (here t .0) (here t .1) (c .before .before .if1 .left) (c .if2 .left)),
+      omega (
+        arith,
+        again-title (a .capacity) (a .last) (l .sum) (l .n) (a .indexes .now) (a .sizes .now) (here t .0) (here t .1)
+            (c .before .before .if1 .left) (c .if2 .left),
+      ),
     )
 
 returns-2 : tie.Need-returns-2 Inv-loop μ-loop
