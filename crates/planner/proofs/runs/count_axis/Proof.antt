@@ -40,10 +40,7 @@ runs-between : (s : tie.Start Inv-loop μ-loop) (b e : ℕ) (t : Counted) →
     t ≡ counted (runs (a .k) (a .mfirsts .now) (a .mlasts .now) (mid b e (a .indexes .now)) (mid b e (a .sizes .now)))
     → (t .runs ≡ length (between s b e)) × (t .grown ≡ expansions (between s b e))
 runs-between s b e t h =
-    let a = s .args in (
-      ap (λ (r : Counted). r .runs) h ∙ sym (stretch-length (a .k) (a .mfirsts .now) (a .mlasts .now) (a .indexes .now) (a .sizes .now) b e),
-      ap (λ (r : Counted). r .grown) h ∙ sym (stretch-expansions (a .k) (a .mfirsts .now) (a .mlasts .now) (a .indexes .now) (a .sizes .now) b e),
-    )
+    (ap (λ (r : Counted). r .runs) h ∙ sym (stretch-length _ _ _ _ _ b e), ap (λ (r : Counted). r .grown) h ∙ sym (stretch-expansions _ _ _ _ _ b e))
 
 -- once the next cut is known: it lies within, and what is left begins with the stretch up to it
 abbrev start : tie.After-next-cut Inv-loop μ-loop → tie.Start Inv-loop μ-loop
@@ -63,13 +60,20 @@ turning : (d : tie.After-next-cut Inv-loop μ-loop) →
     (from s (l .prev) (drop (l .j) bs) ≡ between s (l .prev) p ++ from s p (drop (l .j + 1) bs))
     × (shifts-from s (l .prev) (drop (l .j) bs) ≡ d .next-cut .result .shifted + shifts-from s p (drop (l .j + 1) bs))
 turning d =
-    let a = start d .args in
-    let l = turn d .before .loop in
-    let cut = d .next-cut in
-    let taken = turn d .loop-test .taken in (
-      axis-more (a .k) (a .mfirsts .now) (a .mlasts .now) (a .indexes .now) (a .sizes .now) (l .prev) (l .j) (a .breaks .now) _ taken (cut .ensures .0),
-      shifts-more (a .k) (a .mfirsts .now) (a .mlasts .now) (a .indexes .now) (a .sizes .now) (l .prev) (l .j) (a .breaks .now) _ taken (cut .ensures .0),
-    )
+    let taken = turn d .loop-test .taken in
+    let is = d .next-cut .ensures .0 in
+    (axis-more _ _ _ _ _ _ _ _ _ taken is, shifts-more _ _ _ _ (start d .args .sizes .now) _ _ _ _ taken is)
+
+-- after the loop: what is left is the stretch up to the end, and nothing is shifted
+abbrev begun : tie.After-loop Inv-loop μ-loop → tie.Start Inv-loop μ-loop
+begun e = search
+
+ending : (e : tie.After-loop Inv-loop μ-loop) →
+    let s = begun e in
+    let l = e .before .loop in
+    let left = drop (l .j) (s .args .breaks .now) in
+    (from s (l .prev) left ≡ between s (l .prev) (length (s .args .sizes .now))) × (shifts-from s (l .prev) left ≡ 0)
+ending e = (axis-end _ _ _ _ _ _ _ _ (e .loop-test .left), shifts-end _ _ _ _ (begun e .args .sizes .now) _ _ _ (e .loop-test .left))
 
 loop-holds : tie.Need-loop-holds Inv-loop μ-loop
 loop-holds c = search needs
@@ -195,19 +199,16 @@ add-t40 c = search needs
 returns : tie.Need-returns Inv-loop μ-loop
 unfolding axisTally
 returns c =
-    let s : tie.Start Inv-loop μ-loop = search in
     let e : tie.After-loop Inv-loop μ-loop = search in
+    let s = begun e in
     let t = c .before .before .count-runs2 in
     let l = e .before .loop in
     let a = s .args in
-    let left = e .loop-test .left in
-    let stop = axis-end (a .k) (a .mfirsts .now) (a .mlasts .now) (a .indexes .now) (a .sizes .now) (l .prev) (l .j) (a .breaks .now) left in
-    let still = shifts-end (a .k) (a .mfirsts .now) (a .mlasts .now) (a .indexes .now) (a .sizes .now) (l .prev) (l .j) (a .breaks .now) left in
     let counts = runs-between s (l .prev) (length (a .sizes .now)) _ (t .ensures .0) in
     let len = length-mid (l .prev) (length (a .sizes .now)) (a .sizes .now) (omega arith) in
-    let n : l .count + t .result .runs ≡ length (from s 0 (a .breaks .now)) = omega (arith, ap length stop, counts .0, l .inv .5) in
-    let g : l .grown + t .result .grown ≡ expansions (from s 0 (a .breaks .now)) = omega (arith, ap expansions stop, counts .1, l .inv .6) in
-    let m : l .shifts ≡ shifts-from s 0 (a .breaks .now) = omega (arith, still, l .inv .7) in (
+    let n : l .count + t .result .runs ≡ length (from s 0 (a .breaks .now)) = omega (arith, ap length (ending e .0), counts .0, l .inv .5) in
+    let g : l .grown + t .result .grown ≡ expansions (from s 0 (a .breaks .now)) = omega (arith, ap expansions (ending e .0), counts .1, l .inv .6) in
+    let m : l .shifts ≡ shifts-from s 0 (a .breaks .now) = omega (arith, ending e .1, l .inv .7) in (
       (λ i. tallies (n i) (g i) (m i)),
       (
         omega (arith, l .inv .2, l .inv .1, t .ensures .1 .0, len),
