@@ -3,6 +3,7 @@ use mathlib.Core.Path.{ap, _∙_}
 use mathlib.Core.List.{[]}
 use Rattle.units.specs.Outcome.{given}
 use Rattle.job_records.specs.Records.{records}
+use Rattle.job_questions.specs.declared.Items.{Items}
 use Rattle.job_questions.specs.Verdict.{verdictLent, itemsOf}
 use Rattle.job_questions.proofs.PassLaws.{job-stopped, job-no, job-yes, job-items}
 use borrow.Author.Needs.{needs}
@@ -21,38 +22,34 @@ enum-known-found-2 c = search needs
 first-no-requires : tie.Need-first-no-requires
 first-no-requires c κs = search needs
 
+-- once the job was surveyed: what it is asked about
+abbrev given-job : tie.After-survey-job → tie.Start
+given-job d = search
+
+abbrev items : tie.After-survey-job → Items
+items d = itemsOf (records (given-job d .args .bytes .now))
+
 returns : tie.Need-returns
 unfolding verdictLent
 returns c =
-    let start : tie.Start = search in
-    let after-survey-job : tie.After-survey-job = search in
-    let after-found2 : tie.After-found2 = search in
-    let a = start .args in
-    job-no (itemsOf (records (a .bytes .now))) (a .equally-long) [] (a .bytes .now) (after-survey-job .survey-job .result)
-    (after-survey-job .survey-job .ensures) _ (after-found2 .found2 .given .1) (c .before .first-no .result) (c .before .first-no .ensures)
-    (c .if1 .taken)
+    let d : tie.After-survey-job = search in
+    let f : tie.After-found2 = search in
+    job-no (items d) (given-job d .args .equally-long) [] _ _ (d .survey-job .ensures) _ (f .found2 .given .1) _ (c .before .first-no .ensures) (c .if1 .taken)
 
 returns-2 : tie.Need-returns-2
 unfolding verdictLent
 returns-2 c =
-    let start : tie.Start = search in
-    let after-survey-job : tie.After-survey-job = search in
-    let a = start .args in
-    job-stopped (itemsOf (records (a .bytes .now))) (a .equally-long) [] (a .bytes .now) (after-survey-job .survey-job .result) _
-    (after-survey-job .survey-job .ensures) (c .before .found .given .1)
+    let d : tie.After-survey-job = search in
+    job-stopped (items d) (given-job d .args .equally-long) [] _ _ _ (d .survey-job .ensures) (c .before .found .given .1)
 
 returns-3 : tie.Need-returns-3
 unfolding verdictLent
 returns-3 c =
-    let start : tie.Start = search in
-    let after-survey-job : tie.After-survey-job = search in
-    let after-found2 : tie.After-found2 = search in
-    let v = itemsOf (records (start .args .bytes .now)) in
-    ap given (job-items v (start .args .equally-long) [] (start .args .bytes .now) (after-survey-job .survey-job .result)
-    (after-survey-job .survey-job .ensures) _ (after-found2 .found2 .given .1) (c .before .before .first-no .result)
-    (c .before .before .first-no .ensures))
-    ∙ job-yes v (start .args .equally-long) [] (start .args .bytes .now) (after-survey-job .survey-job .result) (after-survey-job .survey-job .ensures) _
-    (after-found2 .found2 .given .1) (c .before .before .first-no .result) (c .before .before .first-no .ensures) (c .before .if1 .left)
+    let d : tie.After-survey-job = search in
+    let f : tie.After-found2 = search in
+    let n = c .before .before .first-no in
+    ap given (job-items (items d) (given-job d .args .equally-long) [] _ _ (d .survey-job .ensures) _ (f .found2 .given .1) _ (n .ensures))
+    ∙ job-yes (items d) (given-job d .args .equally-long) [] _ _ (d .survey-job .ensures) _ (f .found2 .given .1) _ (n .ensures) (c .before .if1 .left)
 
 pub check-job-lent-spec : {M : Type 1} → statement M
 check-job-lent-spec =

@@ -1,9 +1,28 @@
 -- `job_questions::first_no` meets its contract. Assumes nothing.
-use Rattle.job_questions.specs.Pass.{answer}
+use mathlib.Core.Path.{_≡_}
+use mathlib.Core.Bool.{_&&_}
+use mathlib.Core.List.{[], _∷_}
+use Prim.Native.Nat.{ℕ}
+use lib.Dec.{ltb}
+use Rattle.job_questions.specs.Pass.{answer, beyond, firstNo}
 use Rattle.job_questions.proofs.PassLaws.{no-here, yes-here, none-no}
 use borrow.Author.Tests.{not-true, not-false}
 use Rattle.job_questions.proofs.first_no.Statement.{statement}
 use Rattle.job_questions.proofs.first_no.Tie as tie
+
+-- past the first four questions, the last two decide
+past : (e : tie.Else4) (x : ℕ) →
+    let s : tie.Start = search in
+    let t = s .args .t in
+    x ≡ firstNo 8 ((ltb (t .rows) beyond && ltb (t .columns) beyond) ∷ t .fine .size ∷ []) → x ≡ answer (s .args .equally-long) t
+unfolding answer
+past e x k =
+    let else1 : tie.Else1 = search in
+    let else2 : tie.Else2 = search in
+    let else3 : tie.Else3 = search in
+    yes-here _ _ _ _ (not-false _ (else1 .if1 .left))
+    (yes-here _ _ _ _ (not-false _ (else2 .if2 .left))
+    (yes-here _ _ _ _ (not-false _ (else3 .if3 .left)) (yes-here _ _ _ _ (not-false _ (e .if4 .left)) k)))
 
 returns : tie.Need-returns
 unfolding answer
@@ -30,42 +49,13 @@ returns-4 c =
     (yes-here _ _ _ _ (not-false _ (c .before .before .if3 .left)) (no-here _ _ _ (not-true _ (c .if4 .taken)))))
 
 returns-5 : tie.Need-returns-5
-unfolding answer
-returns-5 c =
-    let else1 : tie.Else1 = search in
-    let else2 : tie.Else2 = search in
-    let else3 : tie.Else3 = search in
-    let else4 : tie.Else4 = search in
-    yes-here _ _ _ _ (not-false _ (else1 .if1 .left))
-    (yes-here _ _ _ _ (not-false _ (else2 .if2 .left))
-    (yes-here _ _ _ _ (not-false _ (else3 .if3 .left))
-    (yes-here _ _ _ _ (not-false _ (else4 .if4 .left)) (no-here _ _ _ (not-true _ (c .if5 .taken))))))
+returns-5 c = past (search) _ (no-here _ _ _ (not-true _ (c .if5 .taken)))
 
 returns-6 : tie.Need-returns-6
-unfolding answer
-returns-6 c =
-    let else1 : tie.Else1 = search in
-    let else2 : tie.Else2 = search in
-    let else3 : tie.Else3 = search in
-    let else4 : tie.Else4 = search in
-    yes-here _ _ _ _ (not-false _ (else1 .if1 .left))
-    (yes-here _ _ _ _ (not-false _ (else2 .if2 .left))
-    (yes-here _ _ _ _ (not-false _ (else3 .if3 .left))
-    (yes-here _ _ _ _ (not-false _ (else4 .if4 .left))
-    (yes-here _ _ _ _ (not-false _ (c .before .before .if5 .left)) (no-here _ _ _ (not-true _ (c .if6 .taken)))))))
+returns-6 c = past (search) _ (yes-here _ _ _ _ (not-false _ (c .before .before .if5 .left)) (no-here _ _ _ (not-true _ (c .if6 .taken))))
 
 returns-7 : tie.Need-returns-7
-unfolding answer
-returns-7 c =
-    let else1 : tie.Else1 = search in
-    let else2 : tie.Else2 = search in
-    let else3 : tie.Else3 = search in
-    let else4 : tie.Else4 = search in
-    yes-here _ _ _ _ (not-false _ (else1 .if1 .left))
-    (yes-here _ _ _ _ (not-false _ (else2 .if2 .left))
-    (yes-here _ _ _ _ (not-false _ (else3 .if3 .left))
-    (yes-here _ _ _ _ (not-false _ (else4 .if4 .left))
-    (yes-here _ _ _ _ (not-false _ (c .before .before .if5 .left)) (yes-here _ _ _ _ (not-false _ (c .if6 .left)) (none-no _))))))
+returns-7 c = past (search) _ (yes-here _ _ _ _ (not-false _ (c .before .before .if5 .left)) (yes-here _ _ _ _ (not-false _ (c .if6 .left)) (none-no _)))
 
 pub first-no-spec : {M : Type 1} → statement M
 first-no-spec =

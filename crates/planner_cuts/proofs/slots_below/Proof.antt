@@ -30,12 +30,9 @@ wide-requires c κs = search needs
 
 returns : tie.Need-returns Inv-loop μ-loop
 returns c =
-    let start : tie.Start Inv-loop μ-loop = search in
-    let at-loop : tie.At-loop Inv-loop μ-loop = search in
-    let in-loop : tie.In-loop Inv-loop μ-loop = search in
-    let l = at-loop .loop in
-    let s = start .args in
-    omega (arith, below-no (s .limit) (l .n) (s .indexes .now) (in-loop .loop-test .taken) (omega arith))
+    let s : tie.Start Inv-loop μ-loop = search in
+    let t : tie.In-loop Inv-loop μ-loop = search in
+    omega (arith, below-no (s .args .limit) (t .before .loop .n) (s .args .indexes .now) (t .loop-test .taken) (omega arith))
 
 add-n : tie.Need-add-n Inv-loop μ-loop
 add-n c = search needs
@@ -45,19 +42,14 @@ loop-less c = search needs
 
 loop-again : tie.Need-loop-again Inv-loop μ-loop
 loop-again c =
-    let start : tie.Start Inv-loop μ-loop = search in
-    let at-loop : tie.At-loop Inv-loop μ-loop = search in
-    let in-loop : tie.In-loop Inv-loop μ-loop = search in
-    let l = at-loop .loop in
-    let s = start .args in
-    omega (arith, below-yes (s .limit) (l .n) (s .indexes .now) (in-loop .loop-test .taken) (omega arith))
+    let s : tie.Start Inv-loop μ-loop = search in
+    let t : tie.In-loop Inv-loop μ-loop = search in
+    omega (arith, below-yes (s .args .limit) (t .before .loop .n) (s .args .indexes .now) (t .loop-test .taken) (omega arith))
 
 returns-2 : tie.Need-returns-2 Inv-loop μ-loop
 returns-2 c =
-    let start : tie.Start Inv-loop μ-loop = search in
-    let l = c .before .loop in
-    let s = start .args in
-    omega (arith, below-end (s .limit) (l .n) (s .indexes .now) (c .loop-test .left))
+    let s : tie.Start Inv-loop μ-loop = search in
+    omega (arith, below-end (s .args .limit) (c .before .loop .n) (s .args .indexes .now) (c .loop-test .left))
 
 pub slots-below-spec : {M : Type 1} → statement M
 slots-below-spec =

@@ -27,6 +27,27 @@ Inv-loop first last firsts lasts end span₀ expanded₀ span expanded =
 abbrev μ-loop : tie.MeasureT-loop
 μ-loop first last firsts lasts end span₀ expanded₀ span expanded = length firsts - inside span firsts lasts
 
+-- after a pass: the way back, what the pass made of the span, and what its test says of that
+abbrev start : tie.After-same-span Inv-loop2 μ-loop2 Inv-loop μ-loop → tie.Start Inv-loop2 μ-loop2 Inv-loop μ-loop
+start d = search
+
+abbrev turn : tie.After-same-span Inv-loop2 μ-loop2 Inv-loop μ-loop → tie.At-loop Inv-loop2 μ-loop2 Inv-loop μ-loop
+turn d = search
+
+passed : (d : tie.After-same-span Inv-loop2 μ-loop2 Inv-loop μ-loop) →
+    let a = start d .args in
+    d .before .before .loop2 .span ≡ pass (a .firsts .now) (a .lasts .now) (turn d .loop .span)
+passed d =
+    let after-shorter : tie.After-shorter Inv-loop2 μ-loop2 Inv-loop μ-loop = search in
+    let l = d .before .before .loop2 in
+    let a = start d .args in
+    sym (pass-end (l .i) (a .firsts .now) (a .lasts .now) (l .span) (omega (arith, d .before .loop2-test .left, after-shorter .shorter .ensures))) ∙ l .inv .2
+
+said : (d : tie.After-same-span Inv-loop2 μ-loop2 Inv-loop μ-loop) (b : Bool) → d .same-span .result ≡ b →
+    let a = start d .args in
+    still (a .firsts .now) (a .lasts .now) (turn d .loop .span) ≡ b
+said d b h = still-of _ _ _ _ (passed d) _ b (d .same-span .ensures) h
+
 shorter-requires : tie.Need-shorter-requires Inv-loop2 μ-loop2 Inv-loop μ-loop
 shorter-requires c κs = search needs
 
@@ -95,66 +116,29 @@ loop2-again c =
 same-span-requires : tie.Need-same-span-requires Inv-loop2 μ-loop2 Inv-loop μ-loop
 same-span-requires c κs = search needs
 
--- after a pass: what it made of the span, and what its test says of that
-passed : (c : tie.After-same-span Inv-loop2 μ-loop2 Inv-loop μ-loop) →
-    let start : tie.Start Inv-loop2 μ-loop2 Inv-loop μ-loop = search in
-    let at-loop : tie.At-loop Inv-loop2 μ-loop2 Inv-loop μ-loop = search in
-    let a = start .args in
-    c .before .before .loop2 .span ≡ pass (a .firsts .now) (a .lasts .now) (at-loop .loop .span)
-passed c =
-    let start : tie.Start Inv-loop2 μ-loop2 Inv-loop μ-loop = search in
-    let after-shorter : tie.After-shorter Inv-loop2 μ-loop2 Inv-loop μ-loop = search in
-    let l = c .before .before .loop2 in
-    let a = start .args in
-    sym (pass-end (l .i) (a .firsts .now) (a .lasts .now) (l .span) (omega (arith, c .before .loop2-test .left, after-shorter .shorter .ensures))) ∙ l .inv .2
-
-said : (c : tie.After-same-span Inv-loop2 μ-loop2 Inv-loop μ-loop) (b : Bool) → c .same-span .result ≡ b →
-    let start : tie.Start Inv-loop2 μ-loop2 Inv-loop μ-loop = search in
-    let at-loop : tie.At-loop Inv-loop2 μ-loop2 Inv-loop μ-loop = search in
-    let a = start .args in
-    still (a .firsts .now) (a .lasts .now) (at-loop .loop .span) ≡ b
-said c b h =
-    let start : tie.Start Inv-loop2 μ-loop2 Inv-loop μ-loop = search in
-    let at-loop : tie.At-loop Inv-loop2 μ-loop2 Inv-loop μ-loop = search in
-    let a = start .args in
-    still-of (a .firsts .now) (a .lasts .now) (at-loop .loop .span) _ (passed c) _ b (c .same-span .ensures) h
-
 add-expanded : tie.Need-add-expanded Inv-loop2 μ-loop2 Inv-loop μ-loop
 add-expanded c =
-    let start : tie.Start Inv-loop2 μ-loop2 Inv-loop μ-loop = search in
-    let at-loop : tie.At-loop Inv-loop2 μ-loop2 Inv-loop μ-loop = search in
-    let a = start .args in
-    let l = at-loop .loop in
-    omega (arith, inside-le (l .span) (a .firsts .now) (a .lasts .now), start .good)
+    let d = c .before in
+    let a = start d .args in
+    omega (arith, inside-le (turn d .loop .span) (a .firsts .now) (a .lasts .now), start d .good)
 
 loop-less : tie.Need-loop-less Inv-loop2 μ-loop2 Inv-loop μ-loop
 loop-less c =
-    let start : tie.Start Inv-loop2 μ-loop2 Inv-loop μ-loop = search in
-    let at-loop : tie.At-loop Inv-loop2 μ-loop2 Inv-loop μ-loop = search in
-    let l = at-loop .loop in
-    let a = start .args in
-    turn-less (a .firsts .now) (a .lasts .now) (l .span) _ (passed (c .before)) (said (c .before) false (c .if1 .left))
+    let d = c .before in
+    turn-less _ _ _ _ (passed d) (said d false (c .if1 .left))
 
 loop-again : tie.Need-loop-again Inv-loop2 μ-loop2 Inv-loop μ-loop
 loop-again c =
-    let start : tie.Start Inv-loop2 μ-loop2 Inv-loop μ-loop = search in
-    let at-loop : tie.At-loop Inv-loop2 μ-loop2 Inv-loop μ-loop = search in
-    let l = at-loop .loop in
-    let a = start .args in
-    let f = said (c .before) false (c .if1 .left) in (
-      turn-count (a .firsts .now) (a .lasts .now) (l .span) _ (passed (c .before)) (l .expanded) f (l .inv .0),
-      turn-passes (a .firsts .now) (a .lasts .now) (l .span) _ (passed (c .before)) (l .expanded) f (l .inv .0) ∙ l .inv .1,
-    )
+    let d = c .before in
+    let l = turn d .loop in
+    let f = said d false (c .if1 .left) in
+    (turn-count _ _ _ _ (passed d) (l .expanded) f (l .inv .0), turn-passes _ _ _ _ (passed d) (l .expanded) f (l .inv .0) ∙ l .inv .1)
 
 returns : tie.Need-returns Inv-loop2 μ-loop2 Inv-loop μ-loop
 returns c =
-    let start : tie.Start Inv-loop2 μ-loop2 Inv-loop μ-loop = search in
-    let at-loop : tie.At-loop Inv-loop2 μ-loop2 Inv-loop μ-loop = search in
-    let l = at-loop .loop in
-    let a = start .args in
-    turn-ends (a .firsts .now) (a .lasts .now) (l .span) _ (passed (c .before)) (length (a .firsts .now) - l .expanded) (l .expanded)
-    (said (c .before) true (c .if1 .taken))
-    ∙ l .inv .1
+    let d = c .before in
+    let l = turn d .loop in
+    turn-ends _ _ _ _ (passed d) (length (start d .args .firsts .now) - l .expanded) (l .expanded) (said d true (c .if1 .taken)) ∙ l .inv .1
 
 pub expand-repeat-for-merges-spec : {M : Type 1} → statement M
 expand-repeat-for-merges-spec =

@@ -14,20 +14,12 @@ use Rattle.units.proofs.Signs.{tested, abs-pos, pos-pos-ge, pos-pos-lt,
 use Rattle.units.proofs.minus.Statement.{statement}
 use Rattle.units.proofs.minus.Tie as tie
 
-magnitude-requires : tie.Need-magnitude-requires
-magnitude-requires c κs = search needs
+-- a result of a size, as that of the number of this size
+as-positive : {m n : ℕ} {z : ℤ} → m ≡ n → pos n ≡ z → inI64 (pos m) ≡ inI64 z
+as-positive e k = ap (λ (x : ℕ). inI64 (pos x)) e ∙ ap inI64 k
 
-magnitude-requires-2 : tie.Need-magnitude-requires-2
-magnitude-requires-2 c κs = search needs
-
-positive-requires : tie.Need-positive-requires
-positive-requires c κs = search needs
-
-sub-negative : tie.Need-sub-negative
-sub-negative c = search needs
-
-negative-requires : tie.Need-negative-requires
-negative-requires c κs = search needs
+as-negative : {m n : ℕ} {z : ℤ} → m ≡ n → negℤ (pos n) ≡ z → inI64 (negℤ (pos m)) ≡ inI64 z
+as-negative e k = ap (λ (x : ℕ). inI64 (negℤ (pos x))) e ∙ ap inI64 k
 
 -- ---- what is known after the two calls, of a and b themselves
 module _ (c : tie.After-magnitude2) where
@@ -48,6 +40,24 @@ module _ (c : tie.After-magnitude2) where
 
   b-test : {t : Bool} → leZ (pos 0) (toZ w64 (ofZ w64 b)) ≡ t → leZ (pos 0) b ≡ t
   b-test e = tested b (c .before .before .fits .b) e
+
+  by-size : (f : ℕ → ℕ → ℕ) → f (c .before .magnitude .result) (c .magnitude2 .result) ≡ f (natAbs a) (natAbs b)
+  by-size f = cc (m-is, n-is)
+
+magnitude-requires : tie.Need-magnitude-requires
+magnitude-requires c κs = search needs
+
+magnitude-requires-2 : tie.Need-magnitude-requires-2
+magnitude-requires-2 c κs = search needs
+
+positive-requires : tie.Need-positive-requires
+positive-requires c κs = search needs
+
+sub-negative : tie.Need-sub-negative
+sub-negative c = search needs
+
+negative-requires : tie.Need-negative-requires
+negative-requires c κs = search needs
 
 add-positive : tie.Need-add-positive
 add-positive c =
@@ -82,51 +92,41 @@ returns : tie.Need-returns
 returns c =
     let s : tie.After-magnitude2 = search in
     let then1 : tie.Then1 = search in
-    let h : natAbs (b s) ≤ natAbs (a s) = omega (arith, m-is s, n-is s, c .before .if3 .taken) in
-    let e : s .before .magnitude .result - s .magnitude2 .result ≡ natAbs (a s) - natAbs (b s) = omega (arith, m-is s, n-is s) in
-    c .positive .ensures ∙ ap (λ (x : ℕ). inI64 (pos x)) e
-    ∙ ap inI64 (pos-pos-ge (a s) (b s) (a-test s (then1 .if1 .taken)) (b-test s (c .before .before .if2 .taken)) h)
+    c .positive .ensures ∙ as-positive (by-size s (λ m n. m - n))
+    (pos-pos-ge (a s) (b s) (a-test s (then1 .if1 .taken)) (b-test s (c .before .before .if2 .taken)) (omega (arith, m-is s, n-is s, c .before .if3 .taken)))
 
 returns-2 : tie.Need-returns-2
 returns-2 c =
     let s : tie.After-magnitude2 = search in
     let then1 : tie.Then1 = search in
-    let h : natAbs (a s) < natAbs (b s) = omega (arith, m-is s, n-is s, c .before .if3 .left) in
-    let e : s .magnitude2 .result - s .before .magnitude .result ≡ natAbs (b s) - natAbs (a s) = omega (arith, m-is s, n-is s) in
-    c .negative .ensures ∙ ap (λ (x : ℕ). inI64 (negℤ (pos x))) e
-    ∙ ap inI64 (pos-pos-lt (a s) (b s) (a-test s (then1 .if1 .taken)) (b-test s (c .before .before .if2 .taken)) h)
+    c .negative .ensures ∙ as-negative (by-size s (λ m n. n - m))
+    (pos-pos-lt (a s) (b s) (a-test s (then1 .if1 .taken)) (b-test s (c .before .before .if2 .taken)) (omega (arith, m-is s, n-is s, c .before .if3 .left)))
 
 returns-3 : tie.Need-returns-3
 returns-3 c =
     let s : tie.After-magnitude2 = search in
-    let e : s .before .magnitude .result + s .magnitude2 .result ≡ natAbs (a s) + natAbs (b s) = omega (arith, m-is s, n-is s) in
-    c .positive2 .ensures ∙ ap (λ (x : ℕ). inI64 (pos x)) e
-    ∙ ap inI64 (pos-neg (a s) (b s) (a-test s (c .before .before .if1 .taken)) (b-test s (c .before .if2 .left)))
+    c .positive2 .ensures ∙ as-positive (by-size s (λ m n. m + n))
+    (pos-neg (a s) (b s) (a-test s (c .before .before .if1 .taken)) (b-test s (c .before .if2 .left)))
 
 returns-4 : tie.Need-returns-4
 returns-4 c =
     let s : tie.After-magnitude2 = search in
-    let e : s .before .magnitude .result + s .magnitude2 .result ≡ natAbs (a s) + natAbs (b s) = omega (arith, m-is s, n-is s) in
-    c .negative2 .ensures ∙ ap (λ (x : ℕ). inI64 (negℤ (pos x))) e
-    ∙ ap inI64 (neg-pos (a s) (b s) (a-test s (c .before .before .if1 .left)) (b-test s (c .before .if4 .taken)))
+    c .negative2 .ensures ∙ as-negative (by-size s (λ m n. m + n))
+    (neg-pos (a s) (b s) (a-test s (c .before .before .if1 .left)) (b-test s (c .before .if4 .taken)))
 
 returns-5 : tie.Need-returns-5
 returns-5 c =
     let s : tie.After-magnitude2 = search in
     let else1 : tie.Else1 = search in
-    let h : natAbs (b s) ≤ natAbs (a s) = omega (arith, m-is s, n-is s, c .before .if5 .taken) in
-    let e : s .before .magnitude .result - s .magnitude2 .result ≡ natAbs (a s) - natAbs (b s) = omega (arith, m-is s, n-is s) in
-    c .negative3 .ensures ∙ ap (λ (x : ℕ). inI64 (negℤ (pos x))) e
-    ∙ ap inI64 (neg-neg-ge (a s) (b s) (a-test s (else1 .if1 .left)) (b-test s (c .before .before .if4 .left)) h)
+    c .negative3 .ensures ∙ as-negative (by-size s (λ m n. m - n))
+    (neg-neg-ge (a s) (b s) (a-test s (else1 .if1 .left)) (b-test s (c .before .before .if4 .left)) (omega (arith, m-is s, n-is s, c .before .if5 .taken)))
 
 returns-6 : tie.Need-returns-6
 returns-6 c =
     let s : tie.After-magnitude2 = search in
     let else1 : tie.Else1 = search in
-    let h : natAbs (a s) < natAbs (b s) = omega (arith, m-is s, n-is s, c .before .if5 .left) in
-    let e : s .magnitude2 .result - s .before .magnitude .result ≡ natAbs (b s) - natAbs (a s) = omega (arith, m-is s, n-is s) in
-    c .positive3 .ensures ∙ ap (λ (x : ℕ). inI64 (pos x)) e
-    ∙ ap inI64 (neg-neg-lt (a s) (b s) (a-test s (else1 .if1 .left)) (b-test s (c .before .before .if4 .left)) h)
+    c .positive3 .ensures ∙ as-positive (by-size s (λ m n. n - m))
+    (neg-neg-lt (a s) (b s) (a-test s (else1 .if1 .left)) (b-test s (c .before .before .if4 .left)) (omega (arith, m-is s, n-is s, c .before .if5 .left)))
 
 pub minus-spec : {M : Type 1} → statement M
 minus-spec =

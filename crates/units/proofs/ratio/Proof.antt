@@ -8,6 +8,22 @@ use Rattle.units.proofs.Division.{apart, over, under, rest}
 use Rattle.units.proofs.ratio.Statement.{statement}
 use Rattle.units.proofs.ratio.Tie as tie
 
+-- the quotient of what was given, as the code takes it apart
+parts : (s : tie.Start) → let a = s .args in (a .m * a .k + a .h) / a .d ≡ a .m / a .d * a .k + (a .m % a .d * a .k + a .h) / a .d
+parts s = let a = s .args in apart (a .m) (a .k) (a .h) (a .d) (s .pre)
+
+-- what is known past the first test
+small : (c : tie.Else2) → let a = c .before .before .args in a .m % a .d * a .k + a .h < 2 ^ 32
+small c =
+    let a = c .before .before .args in
+    rest (a .m) (a .k) (a .h) (a .d) (c .before .before .pre) (c .before .before .fits .k .fits) (c .before .before .fits .h .fits)
+    (c .before .before .fits .d .fits)
+
+whole : (c : tie.Else2) → let a = c .before .before .args in a .m / a .d * a .k ≤ 2 ^ 63
+whole c =
+    let a = c .before .before .args in
+    under (a .m / a .d) (a .k) (omega (arith, c .before .if1 .left)) (c .if2 .left)
+
 div-result : tie.Need-div-result
 div-result c = search needs
 
@@ -27,24 +43,12 @@ div-q c = search needs
 div-if2 : tie.Need-div-if2
 div-if2 c = search needs
 
--- what is known past the first test
-small : (c : tie.Else2) → let a = c .before .before .args in a .m % a .d * a .k + a .h < 2 ^ 32
-small c =
-    let a = c .before .before .args in
-    rest (a .m) (a .k) (a .h) (a .d) (c .before .before .pre) (c .before .before .fits .k .fits) (c .before .before .fits .h .fits)
-    (c .before .before .fits .d .fits)
-
-whole : (c : tie.Else2) → let a = c .before .before .args in a .m / a .d * a .k ≤ 2 ^ 63
-whole c =
-    let a = c .before .before .args in
-    under (a .m / a .d) (a .k) (omega (arith, c .before .if1 .left)) (c .if2 .left)
-
 returns-2 : tie.Need-returns-2
 returns-2 c =
-    let a = c .before .before .args in
-    let e = apart (a .m) (a .k) (a .h) (a .d) (c .before .before .pre) in
+    let s = c .before .before in
+    let a = s .args in
     let p : 0 < a .k = omega (arith, c .before .if1 .left) in
-    omega (arith, e, over (a .m / a .d) (a .k) p (c .if2 .taken))
+    omega (arith, parts s, over (a .m / a .d) (a .k) p (c .if2 .taken))
 
 mul-n : tie.Need-mul-n
 mul-n c = record { fits = omega (arith, whole c) }
@@ -68,15 +72,13 @@ add-n-2 c =
 
 returns-3 : tie.Need-returns-3
 returns-3 c =
-    let start : tie.Start = search in
-    let a = start .args in
-    omega (arith, apart (a .m) (a .k) (a .h) (a .d) (start .pre), c .if3 .taken)
+    let s : tie.Start = search in
+    omega (arith, parts s, c .if3 .taken)
 
 returns-4 : tie.Need-returns-4
 returns-4 c =
-    let start : tie.Start = search in
-    let a = start .args in
-    omega (arith, apart (a .m) (a .k) (a .h) (a .d) (start .pre), c .if3 .left)
+    let s : tie.Start = search in
+    omega (arith, parts s, c .if3 .left)
 
 pub ratio-spec : {M : Type 1} → statement M
 ratio-spec =

@@ -1,33 +1,32 @@
 -- `job_records::records::margins_at` meets its contract. Assumes nothing.
+use Prim.Native.Nat.{ℕ, _≤_}
+use lib.Dec.{T, leb}
+use lib.ListN.{length}
 use Rattle.job_records.proofs.NumberLaws.{within}
 use Rattle.job_records.proofs.records.margins_at.Statement.{statement}
 use Rattle.job_records.proofs.records.margins_at.Tie as tie
 
+-- what ends within the record's 50 bytes is there
+upto : (s : tie.Start) (k : ℕ) → T (leb k 50) → k ≤ length (s .args .s .now)
+upto s k t = within k 50 _ t (s .pre)
+
 u64-at-requires : tie.Need-u64-at-requires
-u64-at-requires c κs = within _ 50 _ tt (c .before .pre)
+u64-at-requires c κs = upto (search) _ tt
 
 u64-at-requires-2 : tie.Need-u64-at-requires-2
-u64-at-requires-2 c κs = within _ 50 _ tt (c .before .before .pre)
+u64-at-requires-2 c κs = upto (search) _ tt
 
 u64-at-requires-3 : tie.Need-u64-at-requires-3
-u64-at-requires-3 c κs =
-    let start : tie.Start = search in
-    within _ 50 _ tt (start .pre)
+u64-at-requires-3 c κs = upto (search) _ tt
 
 u64-at-requires-4 : tie.Need-u64-at-requires-4
-u64-at-requires-4 c κs =
-    let start : tie.Start = search in
-    within _ 50 _ tt (start .pre)
+u64-at-requires-4 c κs = upto (search) _ tt
 
 u64-at-requires-5 : tie.Need-u64-at-requires-5
-u64-at-requires-5 c κs =
-    let start : tie.Start = search in
-    within _ 50 _ tt (start .pre)
+u64-at-requires-5 c κs = upto (search) _ tt
 
 u64-at-requires-6 : tie.Need-u64-at-requires-6
-u64-at-requires-6 c κs =
-    let start : tie.Start = search in
-    within _ 50 _ tt (start .pre)
+u64-at-requires-6 c κs = upto (search) _ tt
 
 returns : tie.Need-returns
 returns c =

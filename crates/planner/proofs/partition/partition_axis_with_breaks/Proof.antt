@@ -36,8 +36,7 @@ all-yes : (d : tie.After-partition-refusal) → d .partition-refusal .result ≤
     (d .partition-refusal .result) (first-no d)
 all-yes d h =
     let a = start d .args in
-    is-asked (limitOf (a .axis)) (a .setup) (a .indexes .now) (a .sizes .now) (a .merge-firsts .now) (a .merge-lasts .now) (a .breaks .now) (a .list .now)
-    (d .partition-refusal .result) (first-no d) h (grid (a .axis))
+    is-asked _ _ _ _ _ _ _ _ _ (first-no d) h (grid (a .axis))
 
 limit-requires : tie.Need-limit-requires
 limit-requires c κs = search needs
@@ -50,9 +49,7 @@ returns c =
     let d : tie.After-partition-refusal = search in
     let a = start d .args in
     refuses _ (bodyRuns (a .setup) (a .indexes .now) (a .sizes .now) (a .merge-firsts .now) (a .merge-lasts .now) (a .breaks .now))
-    (d .partition-refusal .result) (a .list .now)
-    (is-refused (limitOf (a .axis)) (a .setup) (a .indexes .now) (a .sizes .now) (a .merge-firsts .now) (a .merge-lasts .now) (a .breaks .now) (a .list .now)
-    (d .partition-refusal .result) (first-no d) (c .if1 .taken))
+    (d .partition-refusal .result) (a .list .now) (is-refused _ _ _ _ _ _ _ _ _ (first-no d) (c .if1 .taken))
 
 partition-body-requires : tie.Need-partition-body-requires
 partition-body-requires c κs =

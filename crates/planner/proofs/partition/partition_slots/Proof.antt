@@ -2,6 +2,7 @@
 -- nothing.
 use mathlib.Core.Path.{_≡_, sym, ap, _∙_}
 use mathlib.Core.List.{List}
+use Prim.Native.Nat.{_≤_}
 use lib.ListN.{length}
 use Rattle.units.specs.Outcome.{given}
 use Rattle.planner_rules.specs.declared.runs.Tally.{Tally}
@@ -26,12 +27,22 @@ tally s =
     let a = s .args in
     axisTally (a .frame) (a .merge-firsts .now) (a .merge-lasts .now) (a .indexes .now) (a .sizes .now) (a .breaks .now)
 
--- the tally's number of runs
-counted : (d : tie.After-count-axis) →
-    let start : tie.Start = search in
-    d .count-axis .result .runs ≡ length (all start)
+-- once the room was asked: the way back, the number of runs, and that there is room, where the list is not too short
+abbrev start : tie.After-room-in → tie.Start
+start d = search
+
+abbrev counting : tie.After-room-in → tie.After-count-axis
+counting d = search
+
+counted : (d : tie.After-room-in) → counting d .count-axis .result .runs ≡ length (all (start d))
 unfolding axisTally
-counted d = ap (λ (t : Tally). t .runs) (d .count-axis .ensures .0)
+counted d = ap (λ (t : Tally). t .runs) (counting d .count-axis .ensures .0)
+
+abbrev asked : tie.Else1 → tie.After-room-in
+asked e = search
+
+fits : (e : tie.Else1) → length (all (start (asked e))) ≤ roomIn (start (asked e) .args .list .now)
+fits e = omega (arith, e .if1 .left, asked e .room-in .ensures, counted (asked e))
 
 count-axis-requires : tie.Need-count-axis-requires
 count-axis-requires c κs = search needs
@@ -41,35 +52,30 @@ room-in-requires c κs = search needs
 
 returns : tie.Need-returns
 returns c =
-    let start : tie.Start = search in
-    let d : tie.After-count-axis = search in
-    let after-room-in : tie.After-room-in = search in
-    let l = start .args .list .now in
-    refuses _ (all start) 11 l (no-room (all start) (tally start) (roomIn l) (omega (arith, c .if1 .taken, after-room-in .room-in .ensures, counted d)))
+    let d : tie.After-room-in = search in
+    let s = start d in
+    let l = s .args .list .now in
+    refuses _ (all s) 11 l (no-room (all s) (tally s) (roomIn l) (omega (arith, c .if1 .taken, d .room-in .ensures, counted d)))
 
 write-axis-requires : tie.Need-write-axis-requires
 write-axis-requires c κs =
-    let start : tie.Start = search in
-    let d : tie.After-count-axis = search in
-    let after-room-in : tie.After-room-in = search in
-    let else1 : tie.Else1 = search in
-    (start .pre, room-runs (all start) (start .args .list .now) (omega (arith, else1 .if1 .left, after-room-in .room-in .ensures, counted d)))
+    let e : tie.Else1 = search in
+    let s = start (asked e) in
+    (s .pre, room-runs (all s) (s .args .list .now) (fits e))
 
 same-length : tie.Need-same-length
 same-length c = search needs
 
 returns-2 : tie.Need-returns-2
 returns-2 c =
-    let start : tie.Start = search in
-    let d : tie.After-count-axis = search in
-    let after-room-in : tie.After-room-in = search in
-    let else1 : tie.Else1 = search in
+    let e : tie.Else1 = search in
     let w : tie.After-write-axis = search in
-    let l = start .args .list .now in
-    let few = room-enough (all start) (tally start) (roomIn l) (omega (arith, else1 .if1 .left, after-room-in .room-in .ensures, counted d)) in
-    let e : roomFor (all start) (tally start) (roomIn l) ≡ given (d .count-axis .result) = few ∙ ap (λ (x : Tally). given x)
-    (sym (d .count-axis .ensures .0)) in
-    answers _ (all start) (d .count-axis .result) _ l _ e (w .write-axis .ensures)
+    let s = start (asked e) in
+    let n = counting (asked e) .count-axis in
+    let l = s .args .list .now in
+    let r : roomFor (all s) (tally s) (roomIn l) ≡ given (n .result) =
+    room-enough (all s) (tally s) (roomIn l) (fits e) ∙ ap (λ (x : Tally). given x) (sym (n .ensures .0)) in
+    answers _ (all s) (n .result) _ l _ r (w .write-axis .ensures)
 
 pub partition-slots-spec : {M : Type 1} → statement M
 partition-slots-spec =

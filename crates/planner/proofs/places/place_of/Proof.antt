@@ -1,7 +1,7 @@
 -- `planner::places::place_of` meets its contract. The loop's invariant: the place that is searched for lies from `low` on, no further than `size`.
 -- Assumes nothing.
-use lib.ListN.{length}
-use Prim.Native.Nat.{_+_, _/_, _≤_}
+use lib.ListN.{length, getD}
+use Prim.Native.Nat.{ℕ, _+_, _/_, _≤_, _<_}
 use borrow.Author.Needs.{needs}
 use native.Mathlib.Omega.{arith}
 use Rattle.planner_rules.specs.Slots.{below}
@@ -15,6 +15,20 @@ Inv-loop indexes limit low₀ size₀ low size = (low ≤ below limit indexes) �
 
 abbrev μ-loop : tie.MeasureT-loop
 μ-loop indexes limit low₀ size₀ low size = size
+
+-- a slot under the limit lies before the place that is searched for, and one that is not does not
+abbrev start : tie.At-loop Inv-loop μ-loop → tie.Start Inv-loop μ-loop
+start l = search
+
+after : (l : tie.At-loop Inv-loop μ-loop) (m : ℕ) →
+    let a = start l .args in
+    m < length (a .indexes .now) → getD (a .indexes .now) m 0 < a .limit → m < below (a .limit) (a .indexes .now)
+after l m h k = below-past-it _ _ (start l .pre) m h k
+
+up-to : (l : tie.At-loop Inv-loop μ-loop) (m : ℕ) →
+    let a = start l .args in
+    m < length (a .indexes .now) → a .limit ≤ getD (a .indexes .now) m 0 → below (a .limit) (a .indexes .now) ≤ m
+up-to l m h k = below-up-to _ _ m h k
 
 loop-holds : tie.Need-loop-holds Inv-loop μ-loop
 loop-holds c = let a = c .before .args in (omega arith, omega (arith, below-le (a .limit) (a .indexes .now)), omega arith)
@@ -39,23 +53,16 @@ loop-less c = search needs
 
 loop-again : tie.Need-loop-again Inv-loop μ-loop
 loop-again c =
-    let s : tie.Start Inv-loop μ-loop = search in
-    let at-loop : tie.At-loop Inv-loop μ-loop = search in
-    let l = at-loop .loop in
-    let m = l .low + l .size / 2 in
-    (omega (arith, below-past-it (s .args .limit) (s .args .indexes .now) (s .pre) m (omega arith) (omega arith)), omega arith, omega arith)
+    let l : tie.At-loop Inv-loop μ-loop = search in
+    (omega (arith, after l (l .loop .low + l .loop .size / 2) (omega arith) (omega arith)), omega arith, omega arith)
 
 loop-less-2 : tie.Need-loop-less-2 Inv-loop μ-loop
 loop-less-2 c = search needs
 
 loop-again-2 : tie.Need-loop-again-2 Inv-loop μ-loop
 loop-again-2 c =
-    let start : tie.Start Inv-loop μ-loop = search in
-    let at-loop : tie.At-loop Inv-loop μ-loop = search in
-    let l = at-loop .loop in
-    let a = start .args in
-    let m = l .low + l .size / 2 in
-    (omega arith, omega (arith, below-up-to (a .limit) (a .indexes .now) m (omega arith) (omega arith)), omega arith)
+    let l : tie.At-loop Inv-loop μ-loop = search in
+    (omega arith, omega (arith, up-to l (l .loop .low + l .loop .size / 2) (omega arith) (omega arith)), omega arith)
 
 mul-wide-2 : tie.Need-mul-wide-2 Inv-loop μ-loop
 mul-wide-2 c = search needs
@@ -71,19 +78,14 @@ add-result c = search needs
 
 returns : tie.Need-returns Inv-loop μ-loop
 returns c =
-    let s : tie.Start Inv-loop μ-loop = search in
-    let at-loop : tie.At-loop Inv-loop μ-loop = search in
-    let l = at-loop .loop in
-    let after = below-past-it (s .args .limit) (s .args .indexes .now) (s .pre) (l .low) (omega arith) (omega arith) in
-    (omega (arith, after), omega (arith, after))
+    let l : tie.At-loop Inv-loop μ-loop = search in
+    let past = after l (l .loop .low) (omega arith) (omega arith) in
+    (omega (arith, past), omega (arith, past))
 
 returns-2 : tie.Need-returns-2 Inv-loop μ-loop
 returns-2 c =
-    let start : tie.Start Inv-loop μ-loop = search in
-    let at-loop : tie.At-loop Inv-loop μ-loop = search in
-    let l = at-loop .loop in
-    let a = start .args in
-    (omega (arith, below-up-to (a .limit) (a .indexes .now) (l .low) (omega arith) (omega arith)), omega arith)
+    let l : tie.At-loop Inv-loop μ-loop = search in
+    (omega (arith, up-to l (l .loop .low) (omega arith) (omega arith)), omega arith)
 
 returns-3 : tie.Need-returns-3 Inv-loop μ-loop
 returns-3 c = (omega arith, omega arith)

@@ -58,9 +58,7 @@ first-no d =
 all-yes : (d : tie.After-plan-refusal) → d .plan-refusal .result ≤ 0 →
     let a = start d .args in
     Asked (a .settings) (rows d) (columns d) (a .row-runs .now) (a .column-runs .now) (d .plan-refusal .result) (first-no d)
-all-yes d h =
-    let a = start d .args in
-    is-asked (a .settings) (rows d) (columns d) (a .row-runs .now) (a .column-runs .now) (d .plan-refusal .result) (first-no d) h
+all-yes d h = is-asked _ _ _ _ _ _ (first-no d) h
 
 -- the four clauses from the first
 four : (d : tie.After-plan-refusal) (r : Planning) (row-runs column-runs : List ℕ) →
@@ -70,9 +68,7 @@ four : (d : tie.After-plan-refusal) (r : Planning) (row-runs column-runs : List 
     lent → lent × (CoversPairs r (rows d) (columns d) row-runs column-runs
     × (FewestPlan r (a .settings) (rows d) (columns d) row-runs column-runs × LargestPlan r (a .settings) (rows d) (columns d)))
 unfolding limitOf
-four d r row-runs column-runs p =
-    let a = start d .args in
-    clauses (a .settings) (rows d) (columns d) (a .row-runs .now) (a .column-runs .now) row-runs column-runs r (omega arith) (omega arith) p
+four d r row-runs column-runs p = clauses _ (rows d) (columns d) _ _ _ _ r (omega arith) (omega arith) p
 
 -- the ways back from later places
 abbrev asked : tie.After-content-sides → tie.After-plan-refusal
@@ -103,7 +99,7 @@ returns : tie.Need-returns
 returns c =
     let d : tie.After-plan-refusal = search in
     let a = start d .args in
-    let no = is-refused (a .settings) (rows d) (columns d) (a .row-runs .now) (a .column-runs .now) (d .plan-refusal .result) (first-no d) (c .if1 .taken) in
+    let no = is-refused (a .settings) _ _ (a .row-runs .now) (a .column-runs .now) _ (first-no d) (c .if1 .taken) in
     four d _ _ _ (refuses-plan _ (d .plan-refusal .result) (a .row-runs .now) (a .column-runs .now) no)
 
 content-sides-requires : tie.Need-content-sides-requires
@@ -151,12 +147,8 @@ plan-axes-requires c κs =
     let d = asked s in
     let a = start d .args in
     let y = all-yes d (s .before .if1 .left) in (
-      rows-fine (row-axis d .row-range .result) (a .settings) (a .range) (a .row-title) (a .row-indexes .now) (a .row-sizes .now) (a .merge-first-rows .now)
-          (a .merge-last-rows .now)
-          (a .row-breaks .now) (row-axis d .row-range .ensures) (y .rows-yes),
-      columns-fine (column-axis d .column-range .result) (a .settings) (a .range) (a .column-title) (a .column-indexes .now) (a .column-sizes .now)
-          (a .merge-first-columns .now) (a .merge-last-columns .now)
-          (a .column-breaks .now) (column-axis d .column-range .ensures) (y .columns-yes),
+      rows-fine _ (a .settings) (a .range) _ _ _ _ _ (a .row-breaks .now) (row-axis d .row-range .ensures) (y .rows-yes),
+      columns-fine _ (a .settings) (a .range) _ _ _ _ _ (a .column-breaks .now) (column-axis d .column-range .ensures) (y .columns-yes),
     )
 
 same-length : tie.Need-same-length

@@ -1,17 +1,19 @@
--- `planner::runs::count_axis` meets its contract. Assumes nothing.
-use Rattle.planner_rules.proofs.AxisLaws.{stretch-length, stretch-expansions, axis-more, axis-end, shifts-more, shifts-end, expansions-append}
-use Rattle.planner_rules.proofs.Laws.{length-mid, slots-mid}
-use Rattle.planner_rules.specs.declared.runs.Counted.{Counted}
-use lib.ListN.{length, drop, length-append}
 -- `planner::runs::count_axis` meets its contract. The loop's invariant: what is counted, and what the axis has from the last kept cut on, is all.
 -- Assumes nothing.
-use Prim.Native.Nat.{_+_, _-_, _≤_}
-use mathlib.Core.Path.{_≡_, ap}
-use borrow.Author.Needs.{needs}
+use mathlib.Core.Path.{_≡_, sym, ap, _∙_}
+use mathlib.Core.List.{List, _++_}
+use Prim.Native.Nat.{ℕ, _+_, _-_, _≤_}
 use native.Mathlib.Omega.{arith}
+use lib.ListN.{length, drop, length-append}
+use Rattle.planner_rules.specs.declared.runs.Counted.{Counted}
+use Rattle.planner_rules.specs.Runs.{Run, axisRuns, shifts, stretch, axisTally, tallies, runs, expansions}
+use Rattle.planner_rules.specs.Slots.{mid}
+use Rattle.planner_rules.specs.Lent.{counted}
+use Rattle.planner_rules.proofs.AxisLaws.{stretch-length, stretch-expansions, axis-more, axis-end, shifts-more, shifts-end, expansions-append}
+use Rattle.planner_rules.proofs.Laws.{length-mid, slots-mid}
+use borrow.Author.Needs.{needs}
 use Rattle.planner.proofs.runs.count_axis.Statement.{statement}
 use Rattle.planner.proofs.runs.count_axis.Tie as tie
-use Rattle.planner_rules.specs.Runs.{axisRuns, shifts, stretch, axisTally, tallies, runs, expansions}
 
 abbrev Inv-loop : tie.InvT-loop
 Inv-loop k mfirsts mlasts breaks indexes sizes end₀ prev₀ count₀ grown₀ shifted₀ j₀ prev count grown shifted j =
@@ -22,6 +24,56 @@ Inv-loop k mfirsts mlasts breaks indexes sizes end₀ prev₀ count₀ grown₀ 
 
 abbrev μ-loop : tie.MeasureT-loop
 μ-loop k mfirsts mlasts breaks indexes sizes end₀ prev₀ count₀ grown₀ shifted₀ j₀ prev count grown shifted j = length breaks - j
+
+-- the runs from a cut on and their shifts, and the runs between two cuts, as they were counted
+abbrev from : tie.Start Inv-loop μ-loop → ℕ → List ℕ → List Run
+from s = let a = s .args in axisRuns (a .k) (a .mfirsts .now) (a .mlasts .now) (a .indexes .now) (a .sizes .now)
+
+abbrev shifts-from : tie.Start Inv-loop μ-loop → ℕ → List ℕ → ℕ
+shifts-from s = let a = s .args in shifts (a .k) (a .mfirsts .now) (a .mlasts .now) (a .indexes .now)
+
+abbrev between : tie.Start Inv-loop μ-loop → ℕ → ℕ → List Run
+between s = let a = s .args in stretch (a .k) (a .mfirsts .now) (a .mlasts .now) (a .indexes .now) (a .sizes .now)
+
+runs-between : (s : tie.Start Inv-loop μ-loop) (b e : ℕ) (t : Counted) →
+    let a = s .args in
+    t ≡ counted (runs (a .k) (a .mfirsts .now) (a .mlasts .now) (mid b e (a .indexes .now)) (mid b e (a .sizes .now)))
+    → (t .runs ≡ length (between s b e)) × (t .grown ≡ expansions (between s b e))
+runs-between s b e t h =
+    (ap (λ (r : Counted). r .runs) h ∙ sym (stretch-length _ _ _ _ _ b e), ap (λ (r : Counted). r .grown) h ∙ sym (stretch-expansions _ _ _ _ _ b e))
+
+-- once the next cut is known: it lies within, and what is left begins with the stretch up to it
+abbrev start : tie.After-next-cut Inv-loop μ-loop → tie.Start Inv-loop μ-loop
+start d = search
+
+abbrev turn : tie.After-next-cut Inv-loop μ-loop → tie.In-loop Inv-loop μ-loop
+turn d = search
+
+cut-in : (d : tie.After-next-cut Inv-loop μ-loop) → d .next-cut .result .place ≤ length (start d .args .sizes .now)
+cut-in d = omega (arith, d .next-cut .ensures .1 .1, start d .pre .even)
+
+turning : (d : tie.After-next-cut Inv-loop μ-loop) →
+    let s = start d in
+    let l = turn d .before .loop in
+    let bs = s .args .breaks .now in
+    let p = d .next-cut .result .place in
+    (from s (l .prev) (drop (l .j) bs) ≡ between s (l .prev) p ++ from s p (drop (l .j + 1) bs))
+    × (shifts-from s (l .prev) (drop (l .j) bs) ≡ d .next-cut .result .shifted + shifts-from s p (drop (l .j + 1) bs))
+turning d =
+    let taken = turn d .loop-test .taken in
+    let is = d .next-cut .ensures .0 in
+    (axis-more _ _ _ _ _ _ _ _ _ taken is, shifts-more _ _ _ _ (start d .args .sizes .now) _ _ _ _ taken is)
+
+-- after the loop: what is left is the stretch up to the end, and nothing is shifted
+abbrev begun : tie.After-loop Inv-loop μ-loop → tie.Start Inv-loop μ-loop
+begun e = search
+
+ending : (e : tie.After-loop Inv-loop μ-loop) →
+    let s = begun e in
+    let l = e .before .loop in
+    let left = drop (l .j) (s .args .breaks .now) in
+    (from s (l .prev) left ≡ between s (l .prev) (length (s .args .sizes .now))) × (shifts-from s (l .prev) left ≡ 0)
+ending e = (axis-end _ _ _ _ _ _ _ _ (e .loop-test .left), shifts-end _ _ _ _ (begun e .args .sizes .now) _ _ _ (e .loop-test .left))
 
 loop-holds : tie.Need-loop-holds Inv-loop μ-loop
 loop-holds c = search needs
@@ -63,11 +115,8 @@ part-count-runs-end-2 c = search needs
 
 count-runs-requires : tie.Need-count-runs-requires Inv-loop μ-loop
 count-runs-requires c κs =
-    let s : tie.Start Inv-loop μ-loop = search in
-    let at-loop : tie.At-loop Inv-loop μ-loop = search in
-    let cut = c .before .before .next-cut in
-    let l = at-loop .loop in
-    slots-mid (l .prev) (cut .result .place) (s .args .indexes .now) (s .args .sizes .now) (omega (arith, cut .ensures .1 .1, s .pre .even)) (s .pre)
+    let d : tie.After-next-cut Inv-loop μ-loop = search in
+    slots-mid (turn d .before .loop .prev) _ _ _ (cut-in d) (start d .pre)
 
 add-count : tie.Need-add-count Inv-loop μ-loop
 add-count c = search needs
@@ -77,78 +126,38 @@ add-grown c = search needs
 
 add-shifts : tie.Need-add-shifts Inv-loop μ-loop
 add-shifts c =
-    let start : tie.Start Inv-loop μ-loop = search in
-    let l : tie.At-loop Inv-loop μ-loop = search in
-    let in-loop : tie.In-loop Inv-loop μ-loop = search in
-    let after-next-cut : tie.After-next-cut Inv-loop μ-loop = search in
-    omega (
-      arith,
-      after-next-cut .next-cut .ensures .1 .2,
-      l .loop .inv .4,
-      in-loop .loop-test .taken,
-      start .good,
-    )
+    let d : tie.After-next-cut Inv-loop μ-loop = search in
+    omega (arith, d .next-cut .ensures .1 .2, turn d .before .loop .inv .4, turn d .loop-test .taken, start d .good)
 
 add-j : tie.Need-add-j Inv-loop μ-loop
 add-j c =
-    let start : tie.Start Inv-loop μ-loop = search in
-    let l : tie.At-loop Inv-loop μ-loop = search in
-    let in-loop : tie.In-loop Inv-loop μ-loop = search in
-    omega (arith, in-loop .loop-test .taken, start .good)
+    let d : tie.After-next-cut Inv-loop μ-loop = search in
+    omega (arith, turn d .loop-test .taken, start d .good)
 
 loop-less : tie.Need-loop-less Inv-loop μ-loop
 loop-less c = search needs
 
 loop-again : tie.Need-loop-again Inv-loop μ-loop
 loop-again c =
-    let s : tie.Start Inv-loop μ-loop = search in
-    let at-loop : tie.At-loop Inv-loop μ-loop = search in
-    let in-loop : tie.In-loop Inv-loop μ-loop = search in
-    let after-next-cut : tie.After-next-cut Inv-loop μ-loop = search in
-    let after-count-runs : tie.After-count-runs Inv-loop μ-loop = search in
-    let t = after-count-runs .count-runs in
-    let cut = after-next-cut .next-cut in
-    let taken = in-loop .loop-test .taken in
-    let l = at-loop .loop in
-    let a = s .args in
+    let d : tie.After-next-cut Inv-loop μ-loop = search in
+    let w : tie.After-count-runs Inv-loop μ-loop = search in
+    let s = start d in
+    let l = turn d .before .loop in
+    let t = w .count-runs in
+    let cut = d .next-cut in
     let p = cut .result .place in
-    let even = s .pre .even in
-    let more = axis-more (a .k) (a .mfirsts .now) (a .mlasts .now) (a .indexes .now) (a .sizes .now) (l .prev) (l .j) (a .breaks .now) (cut .result) taken
-    (cut .ensures .0) in
-    let runs-are = ap (λ (r : Counted). r .runs) (t .ensures .0) in
-    let grown-are = ap (λ (r : Counted). r .grown) (t .ensures .0) in
-    let here = stretch (a .k) (a .mfirsts .now) (a .mlasts .now) (a .indexes .now) (a .sizes .now) (l .prev) p in
-    let there = axisRuns (a .k) (a .mfirsts .now) (a .mlasts .now) (a .indexes .now) (a .sizes .now) p (drop (l .j + 1) (a .breaks .now)) in
-    let len = length-mid (l .prev) p (a .sizes .now) (omega (arith, cut .ensures .1 .1, even)) in (
-      omega (arith, taken),
-      omega (arith, cut .ensures .1 .1, even),
+    let counts = runs-between s (l .prev) p _ (t .ensures .0) in
+    let here = between s (l .prev) p in
+    let there = from s p (drop (l .j + 1) (s .args .breaks .now)) in
+    let len = length-mid (l .prev) p (s .args .sizes .now) (cut-in d) in (
+      omega (arith, turn d .loop-test .taken),
+      cut-in d,
       omega (arith, t .ensures .1 .0, len, cut .ensures .1 .0, l .inv .2),
       omega (arith, t .ensures .1 .1, len, cut .ensures .1 .0, l .inv .3),
       omega (arith, cut .ensures .1 .2, l .inv .4),
-      omega (
-        arith,
-        ap length more,
-        length-append here there,
-        stretch-length (a .k) (a .mfirsts .now) (a .mlasts .now) (a .indexes .now) (a .sizes .now)
-            (l .prev) p,
-        runs-are,
-        l .inv .5,
-      ),
-      omega (
-        arith,
-        ap expansions more,
-        expansions-append here there,
-        stretch-expansions (a .k) (a .mfirsts .now) (a .mlasts .now) (a .indexes .now)
-            (a .sizes .now) (l .prev) p,
-        grown-are,
-        l .inv .6,
-      ),
-      omega (
-        arith,
-        shifts-more (a .k) (a .mfirsts .now) (a .mlasts .now) (a .indexes .now) (a .sizes .now) (l .prev) (l .j) (a .breaks .now)
-            (cut .result) taken (cut .ensures .0),
-        l .inv .7,
-      ),
+      omega (arith, ap length (turning d .0), length-append here there, counts .0, l .inv .5),
+      omega (arith, ap expansions (turning d .0), expansions-append here there, counts .1, l .inv .6),
+      omega (arith, turning d .1, l .inv .7),
     )
 
 mul-count-runs-3 : tie.Need-mul-count-runs-3 Inv-loop μ-loop
@@ -178,9 +187,8 @@ part-count-runs-end-4 c = search needs
 count-runs-requires-2 : tie.Need-count-runs-requires-2 Inv-loop μ-loop
 count-runs-requires-2 c κs =
     let s : tie.Start Inv-loop μ-loop = search in
-    let at-loop : tie.At-loop Inv-loop μ-loop = search in
-    let l = at-loop .loop in
-    slots-mid (l .prev) (length (s .args .sizes .now)) (s .args .indexes .now) (s .args .sizes .now) (omega arith) (s .pre)
+    let l : tie.At-loop Inv-loop μ-loop = search in
+    slots-mid (l .loop .prev) (length (s .args .sizes .now)) _ _ (omega arith) (s .pre)
 
 add-t30 : tie.Need-add-t30 Inv-loop μ-loop
 add-t30 c = search needs
@@ -191,42 +199,17 @@ add-t40 c = search needs
 returns : tie.Need-returns Inv-loop μ-loop
 unfolding axisTally
 returns c =
-    let start : tie.Start Inv-loop μ-loop = search in
-    let at-loop : tie.At-loop Inv-loop μ-loop = search in
-    let after-loop : tie.After-loop Inv-loop μ-loop = search in
+    let e : tie.After-loop Inv-loop μ-loop = search in
+    let s = begun e in
     let t = c .before .before .count-runs2 in
-    let l = at-loop .loop in
-    let a = start .args in
-    let left = after-loop .loop-test .left in
-    let stop = axis-end (a .k) (a .mfirsts .now) (a .mlasts .now) (a .indexes .now) (a .sizes .now) (l .prev) (l .j) (a .breaks .now) left in
-    let len = length-mid (l .prev) (length (a .sizes .now)) (a .sizes .now) (omega arith) in (
-      (λ i. tallies
-          ((let p : l .count + t .result .runs
-          ≡ length (axisRuns (a .k) (a .mfirsts .now) (a .mlasts .now) (a .indexes .now) (a .sizes .now) 0 (a .breaks .now)) =
-          omega (
-            arith,
-            ap length stop,
-            stretch-length (a .k) (a .mfirsts .now) (a .mlasts .now) (a .indexes .now) (a .sizes .now) (l .prev)
-                (length (a .sizes .now)),
-            ap (λ (r : Counted). r .runs) (t .ensures .0),
-            l .inv .5,
-          ) in p) i)
-          ((let p : l .grown + t .result .grown
-          ≡ expansions (axisRuns (a .k) (a .mfirsts .now) (a .mlasts .now) (a .indexes .now) (a .sizes .now) 0 (a .breaks .now)) =
-          omega (
-            arith,
-            ap expansions stop,
-            stretch-expansions (a .k) (a .mfirsts .now) (a .mlasts .now) (a .indexes .now) (a .sizes .now) (l .prev)
-                (length (a .sizes .now)),
-            ap (λ (r : Counted). r .grown) (t .ensures .0),
-            l .inv .6,
-          ) in p) i)
-          ((let p : l .shifts ≡ shifts (a .k) (a .mfirsts .now) (a .mlasts .now) (a .indexes .now) 0 (a .breaks .now) =
-          omega (
-            arith,
-            shifts-end (a .k) (a .mfirsts .now) (a .mlasts .now) (a .indexes .now) (a .sizes .now) (l .prev) (l .j) (a .breaks .now) left,
-            l .inv .7,
-          ) in p) i)),
+    let l = e .before .loop in
+    let a = s .args in
+    let counts = runs-between s (l .prev) (length (a .sizes .now)) _ (t .ensures .0) in
+    let len = length-mid (l .prev) (length (a .sizes .now)) (a .sizes .now) (omega arith) in
+    let n : l .count + t .result .runs ≡ length (from s 0 (a .breaks .now)) = omega (arith, ap length (ending e .0), counts .0, l .inv .5) in
+    let g : l .grown + t .result .grown ≡ expansions (from s 0 (a .breaks .now)) = omega (arith, ap expansions (ending e .0), counts .1, l .inv .6) in
+    let m : l .shifts ≡ shifts-from s 0 (a .breaks .now) = omega (arith, ending e .1, l .inv .7) in (
+      (λ i. tallies (n i) (g i) (m i)),
       (
         omega (arith, l .inv .2, l .inv .1, t .ensures .1 .0, len),
         omega (arith, l .inv .3, l .inv .1, t .ensures .1 .1, len),

@@ -9,16 +9,10 @@ use Rattle.planner.proofs.runs.placed_cut.Tie as tie
 use Rattle.planner_rules.specs.Runs.{moved}
 
 returns : tie.Need-returns
-returns c =
-    let start : tie.Start = search in
-    let a = start .args in
-    placed-zero (a .k) (a .mfirsts .now) (a .mlasts .now) (a .indexes .now) (a .prev) (a .p) (omega arith)
+returns c = placed-zero _ _ _ _ _ _ (omega arith)
 
 returns-2 : tie.Need-returns-2
-returns-2 c =
-    let start : tie.Start = search in
-    let a = start .args in
-    placed-past (a .k) (a .mfirsts .now) (a .mlasts .now) (a .indexes .now) (a .prev) (a .p) (omega arith) (c .if2 .taken)
+returns-2 c = placed-past _ _ _ _ _ _ (omega arith) (c .if2 .taken)
 
 mul-b : tie.Need-mul-b
 mul-b c = search needs
@@ -30,11 +24,7 @@ title-holds-requires : tie.Need-title-holds-requires
 title-holds-requires c κs = search needs
 
 returns-3 : tie.Need-returns-3
-returns-3 c =
-    let start : tie.Start = search in
-    let a = start .args in
-    placed-title (a .k) (a .mfirsts .now) (a .mlasts .now) (a .indexes .now) (a .prev) (a .p) (omega arith) (omega arith)
-    (sym (c .before .title-holds .ensures) ∙ c .if3 .taken)
+returns-3 c = placed-title _ _ _ _ _ _ (omega arith) (omega arith) (sym (c .before .title-holds .ensures) ∙ c .if3 .taken)
 
 holding-merge-requires : tie.Need-holding-merge-requires
 holding-merge-requires c κs = search needs
@@ -49,7 +39,7 @@ returns-4 c =
     let a = start .args in
     c .moved-cut .ensures
     ∙ ap (λ (h : Held). moved h (a .prev) (a .p) (a .indexes .now)) (c .before .holding-merge .ensures)
-    ∙ placed-moved (a .k) (a .mfirsts .now) (a .mlasts .now) (a .indexes .now) (a .prev) (a .p) (omega arith) (omega arith)
+    ∙ placed-moved _ _ _ _ _ _ (omega arith) (omega arith)
     (sym (after-title-holds .title-holds .ensures) ∙ c .before .before .if3 .left)
 
 pub placed-cut-spec : {M : Type 1} → statement M

@@ -1,8 +1,8 @@
 -- `planner::runs::resumed_fill` meets its contract. The loop's invariant: what is taken, and what the definition still takes from here, is the whole.
 -- Assumes nothing.
 use Rattle.planner_rules.proofs.EndLaws.{again-fits, again-title, again-stops, again-end, resumed-start}
-use lib.ListN.{length, drop}
-use Prim.Native.Nat.{_+_, _*_, _-_, _≤_}
+use lib.ListN.{length, drop, getD}
+use Prim.Native.Nat.{_+_, _*_, _-_, _^_, _≤_, _<_}
 use mathlib.Core.Path.{_≡_}
 use borrow.Author.Needs.{needs}
 use native.Mathlib.Omega.{arith}
@@ -17,6 +17,16 @@ Inv-loop indexes sizes capacity last sum₀ n₀ sum n =
 
 abbrev μ-loop : tie.MeasureT-loop
 μ-loop indexes sizes capacity last sum₀ n₀ sum n = length sizes - n
+
+-- in a turn: a slot is left, and its size is small
+abbrev start : tie.In-loop Inv-loop μ-loop → tie.Start Inv-loop μ-loop
+start t = search
+
+here : (t : tie.In-loop Inv-loop μ-loop) →
+    let a = start t .args in
+    let n = t .before .loop .n in
+    (n < length (a .indexes .now)) × (n < length (a .sizes .now)) × (getD (a .sizes .now) n 0 < 2 ^ 30)
+here t = (search needs, search needs, start t .pre .0 .small .each (t .before .loop .n))
 
 shared-slice-read-sum : tie.Need-shared-slice-read-sum Inv-loop μ-loop
 shared-slice-read-sum c = search needs
@@ -38,8 +48,8 @@ shared-slice-read-size c = search needs
 
 add-next : tie.Need-add-next Inv-loop μ-loop
 add-next c =
-    let start : tie.Start Inv-loop μ-loop = search in
-    omega (arith, start .pre .0 .small .each (c .before .before .loop .n))
+    let t : tie.In-loop Inv-loop μ-loop = search in
+    omega (arith, here t .2)
 
 add-n : tie.Need-add-n Inv-loop μ-loop
 add-n c = search needs
@@ -49,17 +59,13 @@ loop-less c = search needs
 
 loop-again : tie.Need-loop-again Inv-loop μ-loop
 loop-again c =
-    let s : tie.Start Inv-loop μ-loop = search in
-    let at-loop : tie.At-loop Inv-loop μ-loop = search in
-    let l = at-loop .loop in (
+    let t : tie.In-loop Inv-loop μ-loop = search in
+    let a = start t .args in
+    let l = t .before .loop in (
       search needs,
       search needs,
-      omega (arith, s .pre .0 .small .each (l .n)),
-      omega (
-        arith,
-        again-fits (s .args .capacity) (s .args .last) (l .sum) (l .n) (s .args .indexes .now) (s .args .sizes .now) (search needs) (search needs)
-            (c .if1 .taken),
-      ),
+      omega (arith, here t .2),
+      omega (arith, again-fits (a .capacity) (a .last) (l .sum) (l .n) (a .indexes .now) (a .sizes .now) (here t .0) (here t .1) (c .if1 .taken)),
     )
 
 mul-if2 : tie.Need-mul-if2 Inv-loop μ-loop
@@ -70,12 +76,12 @@ shared-slice-read-if2 c = search needs
 
 returns : tie.Need-returns Inv-loop μ-loop
 returns c =
-    let s : tie.Start Inv-loop μ-loop = search in
-    let at-loop : tie.At-loop Inv-loop μ-loop = search in
-    let l = at-loop .loop in
+    let t : tie.In-loop Inv-loop μ-loop = search in
+    let a = start t .args in
+    let l = t .before .loop in
     omega (
       arith,
-      again-stops (s .args .capacity) (s .args .last) (l .sum) (l .n) (s .args .indexes .now) (s .args .sizes .now) (search needs) (search needs)
+      again-stops (a .capacity) (a .last) (l .sum) (l .n) (a .indexes .now) (a .sizes .now) (here t .0) (here t .1)
           (c .before .before .if1 .left) (c .if2 .taken),
     )
 
@@ -87,16 +93,16 @@ loop-less-2 c = search needs
 
 loop-again-2 : tie.Need-loop-again-2 Inv-loop μ-loop
 loop-again-2 c =
-    let s : tie.Start Inv-loop μ-loop = search in
-    let at-loop : tie.At-loop Inv-loop μ-loop = search in
-    let l = at-loop .loop in (
+    let t : tie.In-loop Inv-loop μ-loop = search in
+    let a = start t .args in
+    let l = t .before .loop in (
       search needs,
       search needs,
-      omega (arith, s .pre .0 .small .each (l .n)),
+      omega (arith, here t .2),
       omega (
         arith,
-        again-title (s .args .capacity) (s .args .last) (l .sum) (l .n) (s .args .indexes .now) (s .args .sizes .now) (search needs)
-            (search needs) (c .before .before .if1 .left) (c .if2 .left),
+        again-title (a .capacity) (a .last) (l .sum) (l .n) (a .indexes .now) (a .sizes .now) (here t .0) (here t .1)
+            (c .before .before .if1 .left) (c .if2 .left),
       ),
     )
 

@@ -1,6 +1,5 @@
 -- `planner::runs::title_end` meets its contract. Assumes nothing.
 use native.Mathlib.Omega.{arith}
--- `planner::runs::title_end` meets its contract. Assumes nothing.
 use Rattle.planner_rules.proofs.EndLaws.{title-holds, title-before, title-after}
 use Rattle.planner_rules.proofs.Laws.{slots-part, length-part}
 use Prim.Native.Nat.{ℕ, _+_}
@@ -63,31 +62,23 @@ add-result c = search needs
 returns-2 : tie.Need-returns-2
 returns-2 c =
     let s : tie.Start = search in
-    let after-title : tie.After-title = search in
+    let t : tie.After-title = search in
     let b : tie.Then1 = search in
     let then2 : tie.Then2 = search in
     let a = s .args in (
-      ap (λ (k : ℕ). a .n + k) (c .resumed-fill .ensures .0)
-          ∙ title-holds (a .title) _ _ (a .capacity) (a .n) (a .indexes .now) (a .sizes .now) (after-title .title .given .1) (b .if1 .taken)
-          (then2 .if2 .taken),
+      ap (λ (k : ℕ). a .n + k) (c .resumed-fill .ensures .0) ∙ title-holds _ _ _ _ _ _ _ (t .title .given .1) (b .if1 .taken) (then2 .if2 .taken),
       omega (arith, c .resumed-fill .ensures .1, length-part (a .n) (a .sizes .now), s .pre .1),
     )
 
 returns-3 : tie.Need-returns-3
 returns-3 c =
-    let start : tie.Start = search in
-    let after-title : tie.After-title = search in
-    let s = start .args in (
-      title-after (s .title) _ _ (s .capacity) (s .n) (s .indexes .now) (s .sizes .now) (after-title .title .given .1) (c .before .if1 .taken) (c .if2 .left),
-      search needs,
-    )
+    let t : tie.After-title = search in
+    (title-after _ _ _ _ _ _ _ (t .title .given .1) (c .before .if1 .taken) (c .if2 .left), search needs)
 
 returns-4 : tie.Need-returns-4
 returns-4 c =
-    let start : tie.Start = search in
-    let after-title : tie.After-title = search in
-    let s = start .args in
-    (title-before (s .title) _ _ (s .capacity) (s .n) (s .indexes .now) (s .sizes .now) (after-title .title .given .1) (c .if1 .left), search needs)
+    let t : tie.After-title = search in
+    (title-before _ _ _ _ _ _ _ (t .title .given .1) (c .if1 .left), search needs)
 
 pub title-end-spec : {M : Type 1} → statement M
 title-end-spec =

@@ -48,12 +48,9 @@ turning : (d : tie.After-next-cut Inv-loop μ-loop) →
     All-but (start d) (l .at) (between (start d) (l .prev) p ++ from (start d) p (drop (l .j + 1) (start d .args .breaks .now))) (l .list)
 turning d =
     let s = start d in
-    let a = s .args in
     let l = turn d .before .loop in
     subst (λ (left : List Run). All-but s (l .at) left (l .list))
-    (axis-more (a .k) (a .mfirsts .now) (a .mlasts .now) (a .indexes .now) (a .sizes .now) (l .prev) (l .j) (a .breaks .now) (d .next-cut .result)
-    (turn d .loop-test .taken) (d .next-cut .ensures .0))
-    (l .inv .2)
+    (axis-more _ _ _ _ _ _ _ _ _ (turn d .loop-test .taken) (d .next-cut .ensures .0)) (l .inv .2)
 
 room : (d : tie.After-next-cut Inv-loop μ-loop) →
     let l = turn d .before .loop in
@@ -72,7 +69,7 @@ ending e =
     let a = s .args in
     let l = e .before .loop in
     subst (λ (left : List Run). All-but s (l .at) left (l .list))
-    (axis-end (a .k) (a .mfirsts .now) (a .mlasts .now) (a .indexes .now) (a .sizes .now) (l .prev) (l .j) (a .breaks .now) (e .loop-test .left)
+    (axis-end _ _ _ _ _ _ _ _ (e .loop-test .left)
     ∙ sym (append-nil (between s (l .prev) (length (a .sizes .now)))))
     (l .inv .2)
 

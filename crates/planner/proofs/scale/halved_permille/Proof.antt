@@ -24,6 +24,33 @@ Inv-loop rows columns rfirsts rlasts rindexes rsizes cfirsts clasts cindexes csi
 abbrev μ-loop : tie.MeasureT-loop
 μ-loop rows columns rfirsts rlasts rindexes rsizes cfirsts clasts cindexes csizes low₀ high₀ low high = high - low
 
+-- the test and the whole answer, of what was given
+abbrev passes : tie.Start Inv-loop μ-loop → ℕ → Bool
+passes s =
+    let a = s .args in
+    test (a .rows) (a .columns) (a .rfirsts .now) (a .rlasts .now) (a .rindexes .now) (a .rsizes .now) (a .cfirsts .now) (a .clasts .now)
+    (a .cindexes .now) (a .csizes .now)
+
+abbrev all : tie.Start Inv-loop μ-loop → ℕ
+all s = halve (passes s) 10 100 1000
+
+-- once the middle was asked: the way back, and that it lies above low and not above high
+abbrev start : tie.After-both-pass Inv-loop μ-loop → tie.Start Inv-loop μ-loop
+start d = search
+
+abbrev turn : tie.After-both-pass Inv-loop μ-loop → tie.In-loop Inv-loop μ-loop
+turn d = search
+
+between : (d : tie.After-both-pass Inv-loop μ-loop) →
+    let l = turn d .before .loop in
+    let m = d .before .middle-of .result in
+    (l .low < m) × (m ≤ l .high)
+unfolding middle
+between d =
+    let l = turn d .before .loop in
+    let m : d .before .middle-of .result ≡ l .low + (l .high - l .low + 1) / 2 = d .before .middle-of .ensures in
+    (omega (arith, turn d .loop-test .taken), omega (arith, turn d .loop-test .taken))
+
 loop-holds : tie.Need-loop-holds Inv-loop μ-loop
 loop-holds c = (omega arith, omega arith, omega arith, record { turns = 10; enough = lit< tt; same = refl })
 
@@ -34,84 +61,43 @@ both-pass-requires : tie.Need-both-pass-requires Inv-loop μ-loop
 both-pass-requires c κs = search needs
 
 loop-less : tie.Need-loop-less Inv-loop μ-loop
-unfolding middle
-loop-less c =
-    let at-loop : tie.At-loop Inv-loop μ-loop = search in
-    let in-loop : tie.In-loop Inv-loop μ-loop = search in
-    let l = at-loop .loop in
-    let m : c .before .before .middle-of .result ≡ l .low + (l .high - l .low + 1) / 2 = c .before .before .middle-of .ensures in
-    omega (arith, m, in-loop .loop-test .taken)
+loop-less c = omega (arith, between (c .before))
 
 loop-again : tie.Need-loop-again Inv-loop μ-loop
-unfolding middle
 loop-again c =
-    let start : tie.Start Inv-loop μ-loop = search in
-    let at-loop : tie.At-loop Inv-loop μ-loop = search in
-    let in-loop : tie.In-loop Inv-loop μ-loop = search in
-    let l = at-loop .loop in
-    let a = start .args in
-    let taken = in-loop .loop-test .taken in
-    let e = c .before .before .middle-of .ensures in
-    let m : c .before .before .middle-of .result ≡ l .low + (l .high - l .low + 1) / 2 = e in (
-      omega (arith, taken, m, l .inv .0),
+    let d = c .before in
+    let s = start d in
+    let l = turn d .before .loop in (
+      omega (arith, between d, l .inv .0),
       l .inv .1,
-      omega (arith, taken, m),
-      up-at (test (a .rows) (a .columns) (a .rfirsts .now) (a .rlasts .now) (a .rindexes .now) (a .rsizes .now) (a .cfirsts .now) (a .clasts .now)
-          (a .cindexes .now) (a .csizes .now))
-          (halve (test (a .rows) (a .columns) (a .rfirsts .now) (a .rlasts .now) (a .rindexes .now) (a .rsizes .now) (a .cfirsts .now) (a .clasts .now)
-          (a .cindexes .now) (a .csizes .now)) 10 100 1000) (l .low) (l .high) _ taken e (l .inv .3)
-          (sym (c .before .both-pass .ensures) ∙ c .if1 .taken),
+      between d .1,
+      up-at (passes s) (all s) (l .low) (l .high) _ (turn d .loop-test .taken) (d .before .middle-of .ensures) (l .inv .3)
+          (sym (d .both-pass .ensures) ∙ c .if1 .taken),
     )
 
 sub-high : tie.Need-sub-high Inv-loop μ-loop
-unfolding middle
-sub-high c =
-    let at-loop : tie.At-loop Inv-loop μ-loop = search in
-    let in-loop : tie.In-loop Inv-loop μ-loop = search in
-    let l = at-loop .loop in
-    let m : c .before .before .middle-of .result ≡ l .low + (l .high - l .low + 1) / 2 = c .before .before .middle-of .ensures in
-    omega (arith, m, in-loop .loop-test .taken)
+sub-high c = omega (arith, between (c .before))
 
 loop-less-2 : tie.Need-loop-less-2 Inv-loop μ-loop
-unfolding middle
-loop-less-2 c =
-    let at-loop : tie.At-loop Inv-loop μ-loop = search in
-    let in-loop : tie.In-loop Inv-loop μ-loop = search in
-    let l = at-loop .loop in
-    let m : c .before .before .middle-of .result ≡ l .low + (l .high - l .low + 1) / 2 = c .before .before .middle-of .ensures in
-    omega (arith, m, in-loop .loop-test .taken)
+loop-less-2 c = omega (arith, between (c .before))
 
 loop-again-2 : tie.Need-loop-again-2 Inv-loop μ-loop
-unfolding middle
 loop-again-2 c =
-    let start : tie.Start Inv-loop μ-loop = search in
-    let at-loop : tie.At-loop Inv-loop μ-loop = search in
-    let in-loop : tie.In-loop Inv-loop μ-loop = search in
-    let l = at-loop .loop in
-    let a = start .args in
-    let taken = in-loop .loop-test .taken in
-    let e = c .before .before .middle-of .ensures in
-    let m : c .before .before .middle-of .result ≡ l .low + (l .high - l .low + 1) / 2 = e in (
+    let d = c .before in
+    let s = start d in
+    let l = turn d .before .loop in (
       l .inv .0,
-      omega (arith, taken, m, l .inv .1),
-      omega (arith, taken, m),
-      down-at (test (a .rows) (a .columns) (a .rfirsts .now) (a .rlasts .now) (a .rindexes .now) (a .rsizes .now) (a .cfirsts .now) (a .clasts .now)
-          (a .cindexes .now) (a .csizes .now))
-          (halve (test (a .rows) (a .columns) (a .rfirsts .now) (a .rlasts .now) (a .rindexes .now) (a .rsizes .now) (a .cfirsts .now) (a .clasts .now)
-          (a .cindexes .now) (a .csizes .now)) 10 100 1000) (l .low) (l .high) _ taken e (l .inv .3)
-          (sym (c .before .both-pass .ensures) ∙ c .if1 .left),
+      omega (arith, between d, l .inv .1),
+      omega (arith, between d),
+      down-at (passes s) (all s) (l .low) (l .high) _ (turn d .loop-test .taken) (d .before .middle-of .ensures) (l .inv .3)
+          (sym (d .both-pass .ensures) ∙ c .if1 .left),
     )
 
 returns : tie.Need-returns Inv-loop μ-loop
 returns c =
-    let start : tie.Start Inv-loop μ-loop = search in
+    let s : tie.Start Inv-loop μ-loop = search in
     let l = c .before .loop in
-    let a = start .args in
-    halving-stop
-    (test (a .rows) (a .columns) (a .rfirsts .now) (a .rlasts .now) (a .rindexes .now) (a .rsizes .now) (a .cfirsts .now) (a .clasts .now)
-    (a .cindexes .now) (a .csizes .now))
-    (halve (test (a .rows) (a .columns) (a .rfirsts .now) (a .rlasts .now) (a .rindexes .now) (a .rsizes .now) (a .cfirsts .now) (a .clasts .now)
-    (a .cindexes .now) (a .csizes .now)) 10 100 1000) (l .low) (l .high) (c .loop-test .left) (l .inv .3)
+    halving-stop (passes s) (all s) (l .low) (l .high) (c .loop-test .left) (l .inv .3)
 
 pub halved-permille-spec : {M : Type 1} → statement M
 halved-permille-spec =

@@ -1,10 +1,15 @@
 -- `planner::scale::printed` meets its contract. Assumes nothing.
+use Prim.Native.Nat.{_+_, _^_, _≤_}
 use native.Mathlib.Omega.{arith}
 use Rattle.planner_rules.specs.Scale.{spaceOf}
 use Rattle.planner_rules.proofs.ScaleLaws.{printed-empty, printed-absent, printed-past, printed-before}
 use borrow.Author.Needs.{needs}
 use Rattle.planner.proofs.scale.printed.Statement.{statement}
 use Rattle.planner.proofs.scale.printed.Tie as tie
+
+-- the slots and both bands are small
+low : (s : tie.Start) → let a = s .args in a .size + a .page .titles + a .page .headings ≤ 2 ^ 53
+low s = omega (arith, s .pre .0 .titles-low, s .pre .0 .headings-low, s .pre .1)
 
 add-result : tie.Need-add-result
 add-result c = search needs
@@ -15,10 +20,7 @@ add-result-2 c = search needs
 returns : tie.Need-returns
 returns c =
     let s : tie.Start = search in
-    let a = s .args in (
-      printed-empty (spaceOf (a .page)) (a .title) (a .empty) (a .first) (a .size) (c .before .before .if1 .taken),
-      omega (arith, s .pre .0 .titles-low, s .pre .0 .headings-low, s .pre .1),
-    )
+    (printed-empty (spaceOf (s .args .page)) (s .args .title) _ (s .args .first) _ (c .before .before .if1 .taken), low s)
 
 enum-known-title : tie.Need-enum-known-title
 enum-known-title c = search needs
@@ -33,10 +35,7 @@ returns-2 : tie.Need-returns-2
 returns-2 c =
     let s : tie.Start = search in
     let else1 : tie.Else1 = search in
-    let a = s .args in (
-      printed-absent (spaceOf (a .page)) (a .title) (a .empty) (a .first) (a .size) (else1 .if1 .left) (c .before .enum-told .given .1),
-      omega (arith, s .pre .0 .headings-low, s .pre .1),
-    )
+    (printed-absent (spaceOf (s .args .page)) _ _ (s .args .first) _ (else1 .if1 .left) (c .before .enum-told .given .1), omega (arith, low s))
 
 wide-requires : tie.Need-wide-requires
 wide-requires c κs = search needs
@@ -53,11 +52,8 @@ returns-3 c =
     let else1 : tie.Else1 = search in
     let after-title : tie.After-title = search in
     let after-wide : tie.After-wide = search in
-    let a = s .args in (
-      printed-past (spaceOf (a .page)) (a .title) (a .empty) (a .first) (a .size) (else1 .if1 .left) _ _ (after-title .title .given .1)
-          (rw (after-wide .wide .ensures) at (c .before .before .if2 .taken)),
-      omega (arith, s .pre .0 .titles-low, s .pre .0 .headings-low, s .pre .1),
-    )
+    let at = rw (after-wide .wide .ensures) at (c .before .before .if2 .taken) in
+    (printed-past (spaceOf (s .args .page)) _ _ _ _ (else1 .if1 .left) _ _ (after-title .title .given .1) at, omega (arith, low s))
 
 add-result-6 : tie.Need-add-result-6
 add-result-6 c = search needs
@@ -68,11 +64,8 @@ returns-4 c =
     let else1 : tie.Else1 = search in
     let after-title : tie.After-title = search in
     let after-wide : tie.After-wide = search in
-    let a = s .args in (
-      printed-before (spaceOf (a .page)) (a .title) (a .empty) (a .first) (a .size) (else1 .if1 .left) _ _ (after-title .title .given .1)
-          (rw (after-wide .wide .ensures) at (c .before .if2 .left)),
-      omega (arith, s .pre .0 .headings-low, s .pre .1),
-    )
+    let at = rw (after-wide .wide .ensures) at (c .before .if2 .left) in
+    (printed-before (spaceOf (s .args .page)) _ _ _ _ (else1 .if1 .left) _ _ (after-title .title .given .1) at, omega (arith, low s))
 
 pub printed-spec : {M : Type 1} → statement M
 printed-spec =

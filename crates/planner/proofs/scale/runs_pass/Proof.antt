@@ -1,16 +1,16 @@
 -- `planner::scale::runs_pass` meets its contract. The loop's invariant: the runs so far fit and meet the target, and the answer for those
 -- of the slots that are left is the whole answer. Assumes nothing.
 use mathlib.Core.Path.{_≡_, sym, ap, _∙_}
-use mathlib.Core.Bool.{true, false, _&&_}
-use mathlib.Core.List.{_∷_}
-use Prim.Native.Nat.{_+_, _≤_}
+use mathlib.Core.Bool.{Bool, true, false, _&&_}
+use mathlib.Core.List.{List, _∷_}
+use Prim.Native.Nat.{ℕ, _+_, _≤_}
 use native.Mathlib.Omega.{arith}
 use lib.ListN.{length, getD, take}
 use lib.Seq.{length-take-le}
 use borrow.Author.Tests.{not-true, not-false}
 use Rattle.planner_rules.specs.declared.runs.RunEnd.{RunEnd}
 use Rattle.planner_rules.specs.Slots.{Slots, sum}
-use Rattle.planner_rules.specs.Runs.{run, runs}
+use Rattle.planner_rules.specs.Runs.{Run, run, runs}
 use Rattle.planner_rules.specs.Scale.{fitsSide, allFit, meets, printed, rendered, spaceOf, titled}
 use Rattle.planner_rules.proofs.Laws.{part, length-part, slots-part, small-take, turn, none, some}
 use Rattle.planner_rules.proofs.TitleLaws.{small-sum}
@@ -29,44 +29,60 @@ Inv-loop page frame target permille mfirsts mlasts indexes sizes title is₀ ss�
 abbrev μ-loop : tie.MeasureT-loop
 μ-loop page frame target permille mfirsts mlasts indexes sizes title is₀ ss₀ count₀ is ss count = length ss
 
--- the runs that were left are that of this turn and those after it
-turned : (e : tie.After-run-end Inv-loop μ-loop) →
-    let start : tie.Start Inv-loop μ-loop = search in
-    let at-loop : tie.At-loop Inv-loop μ-loop = search in
-    let l = at-loop .loop in let a = start .args in let n = e .run-end .result .slots in
-    runs (a .frame) (a .mfirsts .now) (a .mlasts .now) (l .is .now) (l .ss .now) ≡ run (a .frame) (a .mfirsts .now) (a .mlasts .now) (l .is .now)
-    (l .ss .now) ∷ runs (a .frame) (a .mfirsts .now) (a .mlasts .now) (part n (l .is .now)) (part n (l .ss .now))
-unfolding runs run
-turned e =
-    let start : tie.Start Inv-loop μ-loop = search in
-    let at-loop : tie.At-loop Inv-loop μ-loop = search in
-    let in-loop : tie.In-loop Inv-loop μ-loop = search in
-    let l = at-loop .loop in
-    let a = start .args in
-    turn (run (a .frame) (a .mfirsts .now) (a .mlasts .now)) (e .run-end .result .slots) (l .is .now) (l .ss .now) (l .inv .0) (in-loop .loop-test .taken)
-    (ap (λ (r : RunEnd). r .slots) (e .run-end .ensures .0)) (e .run-end .ensures .1 .0)
+-- of what was given: the run at the head of slots, all their runs, whether those pass beside so many, and the whole answer
+abbrev head : tie.Start Inv-loop μ-loop → List ℕ → List ℕ → Run
+head s = let a = s .args in run (a .frame) (a .mfirsts .now) (a .mlasts .now)
 
--- the way back to where its end was found
+abbrev all : tie.Start Inv-loop μ-loop → List ℕ → List ℕ → List Run
+all s = let a = s .args in runs (a .frame) (a .mfirsts .now) (a .mlasts .now)
+
+abbrev passing : tie.Start Inv-loop μ-loop → ℕ → List Run → Bool
+passing s = let a = s .args in passFrom (spaceOf (a .page)) (titled (a .frame .title)) (a .target) (a .permille)
+
+abbrev answer : tie.Start Inv-loop μ-loop → Bool
+answer s =
+    let a = s .args in
+    let rs = all s (a .indexes .now) (a .sizes .now) in
+    allFit (spaceOf (a .page)) (titled (a .frame .title)) (a .permille) rs && meets (a .target) (length rs)
+
+-- once a run's end was found: the runs that were left are this turn's and those after it, and they give the whole answer
+abbrev start : tie.After-run-end Inv-loop μ-loop → tie.Start Inv-loop μ-loop
+start e = search
+
+abbrev turning : tie.After-run-end Inv-loop μ-loop → tie.In-loop Inv-loop μ-loop
+turning e = search
+
+whole : (e : tie.After-run-end Inv-loop μ-loop) →
+    let s = start e in
+    let l = turning e .before .loop in
+    let n = e .run-end .result .slots in
+    passing s (l .count) (head s (l .is .now) (l .ss .now) ∷ all s (part n (l .is .now)) (part n (l .ss .now))) ≡ answer s
+unfolding runs run
+whole e =
+    let s = start e in
+    let l = turning e .before .loop in
+    ap (passing s (l .count))
+    (sym (turn (head s) (e .run-end .result .slots) (l .is .now) (l .ss .now) (l .inv .0) (turning e .loop-test .taken)
+    (ap (λ (r : RunEnd). r .slots) (e .run-end .ensures .0))
+    (e .run-end .ensures .1 .0))) ∙ l .inv .1
+
+-- what was asked of this turn's run
 abbrev ended : tie.After-fits-side Inv-loop μ-loop → tie.After-run-end Inv-loop μ-loop
 ended f = search
 
--- what was asked of this turn's run
 fits-here : (f : tie.After-fits-side Inv-loop μ-loop) →
-    let start : tie.Start Inv-loop μ-loop = search in
-    let at-loop : tie.At-loop Inv-loop μ-loop = search in
-    let l = at-loop .loop in
-    let a = start .args in
+    let s = start (ended f) in
+    let a = s .args in
+    let l = turning (ended f) .before .loop in
     f .fits-side .result ≡ fitsSide (spaceOf (a .page)) (a .permille)
-    (rendered (spaceOf (a .page)) (titled (a .frame .title)) (run (a .frame) (a .mfirsts .now) (a .mlasts .now) (l .is .now) (l .ss .now)))
+    (rendered (spaceOf (a .page)) (titled (a .frame .title)) (head s (l .is .now) (l .ss .now)))
 unfolding run
 fits-here f =
-    let start : tie.Start Inv-loop μ-loop = search in
-    let at-loop : tie.At-loop Inv-loop μ-loop = search in
-    let e : tie.After-run-end Inv-loop μ-loop = search in
     let after-total : tie.After-total Inv-loop μ-loop = search in
     let after-wide : tie.After-wide Inv-loop μ-loop = search in
-    let l = at-loop .loop in
-    let a = start .args in
+    let e = ended f in
+    let l = turning e .before .loop in
+    let a = start e .args in
     let size-is = after-total .total .ensures ∙ ap (λ (r : RunEnd). sum (take (r .slots) (l .ss .now))) (e .run-end .ensures .0) in
     f .fits-side .ensures ∙ ap (fitsSide (spaceOf (a .page)) (a .permille))
     (rw (after-wide .wide .ensures) at (f .before .printed .ensures .0)
@@ -87,12 +103,11 @@ meets-target-requires c κs = search needs
 returns : tie.Need-returns Inv-loop μ-loop
 unfolding runs
 returns c =
-    let start : tie.Start Inv-loop μ-loop = search in
+    let s : tie.Start Inv-loop μ-loop = search in
     let t = c .before .before in
     let l = t .before .loop in
-    let a = start .args in
-    too-many (spaceOf (a .page)) (titled (a .frame .title)) (a .target) (a .permille) (l .count) _
-    (some (run (a .frame) (a .mfirsts .now) (a .mlasts .now)) (l .is .now) (l .ss .now) (t .loop-test .taken) (l .inv .0 .even))
+    too-many _ _ (s .args .target) _ (l .count) (all s (l .is .now) (l .ss .now))
+    (some (head s) (l .is .now) (l .ss .now) (t .loop-test .taken) (l .inv .0 .even))
     (sym (c .before .meets-target .ensures) ∙ not-true _ (c .if1 .taken)) ∙ l .inv .1
 
 run-end-requires : tie.Need-run-end-requires Inv-loop μ-loop
@@ -114,13 +129,11 @@ wide-requires c κs = search needs
 
 printed-requires : tie.Need-printed-requires Inv-loop μ-loop
 printed-requires c κs =
-    let start : tie.Start Inv-loop μ-loop = search in
-    let at-loop : tie.At-loop Inv-loop μ-loop = search in
     let e : tie.After-run-end Inv-loop μ-loop = search in
+    let after-total : tie.After-total Inv-loop μ-loop = search in
     let n = e .run-end .result .slots in
-    let l = at-loop .loop in
-    let after-total : tie.After-total Inv-loop μ-loop = search in (
-      start .pre .0,
+    let l = turning e .before .loop in (
+      start e .pre .0,
       omega (
         arith,
         after-total .total .ensures,
@@ -133,13 +146,9 @@ fits-side-requires c κs = c .printed .ensures .1
 
 returns-2 : tie.Need-returns-2 Inv-loop μ-loop
 returns-2 c =
-    let start : tie.Start Inv-loop μ-loop = search in
-    let at-loop : tie.At-loop Inv-loop μ-loop = search in
-    let e : tie.After-run-end Inv-loop μ-loop = search in
-    let l = at-loop .loop in
-    let a = start .args in
-    one-out (spaceOf (a .page)) (titled (a .frame .title)) (a .target) (a .permille) (l .count) _ _ (sym (fits-here (c .before)) ∙ not-true _ (c .if2 .taken))
-    ∙ ap (passFrom (spaceOf (a .page)) (titled (a .frame .title)) (a .target) (a .permille) (l .count)) (sym (turned e)) ∙ l .inv .1
+    let f = c .before in
+    let e = ended f in
+    one-out _ _ (start e .args .target) _ (turning e .before .loop .count) _ _ (sym (fits-here f) ∙ not-true _ (c .if2 .taken)) ∙ whole e
 
 mul-is : tie.Need-mul-is Inv-loop μ-loop
 mul-is c = search needs
@@ -170,17 +179,12 @@ loop-less c = search needs
 
 loop-again : tie.Need-loop-again Inv-loop μ-loop
 loop-again c =
-    let start : tie.Start Inv-loop μ-loop = search in
-    let at-loop : tie.At-loop Inv-loop μ-loop = search in
     let f : tie.After-fits-side Inv-loop μ-loop = search in
     let e = ended f in
     let n = e .run-end .result .slots in
-    let l = at-loop .loop in
-    let a = start .args in (
+    let l = turning e .before .loop in (
       slots-part n (l .is .now) (l .ss .now) (l .inv .0),
-      one-in (spaceOf (a .page)) (titled (a .frame .title)) (a .target) (a .permille) (l .count) _ _
-          (sym (fits-here f) ∙ not-false _ (c .before .before .if2 .left))
-          ∙ ap (passFrom (spaceOf (a .page)) (titled (a .frame .title)) (a .target) (a .permille) (l .count)) (sym (turned e)) ∙ l .inv .1,
+      one-in _ _ (start e .args .target) _ (l .count) _ _ (sym (fits-here f) ∙ not-false _ (c .before .before .if2 .left)) ∙ whole e,
       sym (e .before .before .meets-target .ensures) ∙ not-false _ (e .before .if1 .left),
       omega (arith, length-part n (l .ss .now), e .run-end .ensures .1 .0, e .run-end .ensures .1 .1, l .inv .3),
     )
@@ -188,12 +192,10 @@ loop-again c =
 returns-3 : tie.Need-returns-3 Inv-loop μ-loop
 unfolding runs
 returns-3 c =
-    let start : tie.Start Inv-loop μ-loop = search in
+    let s : tie.Start Inv-loop μ-loop = search in
     let l = c .before .loop in
-    let a = start .args in
-    all-in (spaceOf (a .page)) (titled (a .frame .title)) (a .target) (a .permille) (l .count) (l .inv .2)
-    ∙ ap (passFrom (spaceOf (a .page)) (titled (a .frame .title)) (a .target) (a .permille) (l .count))
-    (sym (none (run (a .frame) (a .mfirsts .now) (a .mlasts .now)) (l .is .now) (l .ss .now) (c .loop-test .left))) ∙ l .inv .1
+    all-in _ _ (s .args .target) _ (l .count) (l .inv .2)
+    ∙ ap (passing s (l .count)) (sym (none (head s) (l .is .now) (l .ss .now) (c .loop-test .left))) ∙ l .inv .1
 
 pub runs-pass-spec : {M : Type 1} → statement M
 runs-pass-spec =

@@ -7,6 +7,7 @@ use lib.ListN.{length, drop}
 use Prim.Native.Nat.{_≤_}
 use borrow.Author.Needs.{needs}
 use native.Mathlib.Omega.{arith}
+use Rattle.planner_rules.specs.declared.runs.Held.{Held}
 use Rattle.planner_rules.specs.Slots.{mid}
 use Rattle.planner_rules.specs.Runs.{holding, holdingOnto}
 use Rattle.planner_cuts.proofs.merges.holding_merge.Statement.{statement}
@@ -18,6 +19,26 @@ Inv-loop firsts lasts lo hi b i₀ held₀ i held =
 
 abbrev μ-loop : tie.MeasureT-loop
 μ-loop firsts lasts lo hi b i₀ held₀ i held = i
+
+-- what a part does to what was found behind it
+abbrev start : tie.After-part-before Inv-loop μ-loop → tie.Start Inv-loop μ-loop
+start d = search
+
+abbrev onto : tie.After-part-before Inv-loop μ-loop → Held → Held
+onto d =
+    let a = start d .args in
+    let n = d .part-before .result in
+    let i = d .before .before .loop .i in
+    holdingOnto (a .lo) (a .hi) (a .b) (mid n i (a .firsts .now)) (mid n i (a .lasts .now))
+
+part : (d : tie.After-part-before Inv-loop μ-loop) →
+    let a = start d .args in
+    let n = d .part-before .result in
+    onto d (d .before .before .loop .held) ≡ holding (a .lo) (a .hi) (a .b) (drop n (a .firsts .now)) (drop n (a .lasts .now))
+part d =
+    let a = start d .args in
+    let l = d .before .before .loop in
+    ap (onto d) (l .inv .2) ∙ holding-part (a .lo) (a .hi) (a .b) _ (l .i) _ _ (omega (arith, d .part-before .ensures)) (l .inv .0) (l .inv .1)
 
 shorter-requires : tie.Need-shorter-requires Inv-loop μ-loop
 shorter-requires c κs = search needs
@@ -61,21 +82,6 @@ part-l-end c = search needs
 none-holds-requires : tie.Need-none-holds-requires Inv-loop μ-loop
 none-holds-requires c κs = search needs
 
--- what a part does to what was found behind it
-part : (d : tie.After-part-before Inv-loop μ-loop) →
-    let start : tie.Start Inv-loop μ-loop = search in
-    let a = start .args in let l = d .before .before .loop in
-    holdingOnto (a .lo) (a .hi) (a .b) (mid (d .part-before .result) (l .i) (a .firsts .now)) (mid (d .part-before .result) (l .i) (a .lasts .now)) (l .held)
-    ≡ holding (a .lo) (a .hi) (a .b) (drop (d .part-before .result) (a .firsts .now)) (drop (d .part-before .result) (a .lasts .now))
-part d =
-    let start : tie.Start Inv-loop μ-loop = search in
-    let a = start .args in
-    let l = d .before .before .loop in
-    ap (holdingOnto (a .lo) (a .hi) (a .b) (mid (d .part-before .result) (l .i) (a .firsts .now)) (mid (d .part-before .result) (l .i) (a .lasts .now)))
-    (l .inv .2)
-    ∙ holding-part (a .lo) (a .hi) (a .b) (d .part-before .result) (l .i) (a .firsts .now) (a .lasts .now) (omega (arith, d .part-before .ensures))
-    (l .inv .0) (l .inv .1)
-
 earliest-of-requires : tie.Need-earliest-of-requires Inv-loop μ-loop
 earliest-of-requires c κs = search needs
 
@@ -92,9 +98,8 @@ loop-less-2 c = search needs
 
 loop-again-2 : tie.Need-loop-again-2 Inv-loop μ-loop
 loop-again-2 c =
-    let start : tie.Start Inv-loop μ-loop = search in
     let d : tie.After-part-before Inv-loop μ-loop = search in
-    let a = start .args in
+    let a = start d .args in
     let n = c .before .none-holds in (
       omega (arith, d .part-before .ensures),
       omega (arith, d .part-before .ensures),
