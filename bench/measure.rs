@@ -145,17 +145,16 @@ struct Case {
 }
 
 fn case(size: u32, bytes: Vec<u8>) -> Case {
-    let job = read_by_rust(&bytes);
+    let job = read_by_rust(&bytes, ROOM);
     Case { size, bytes: Some(bytes), job }
 }
 
 /// As a small job, but with so many rows.
 fn more_rows(small: Vec<u8>, count: u32, size: i64) -> Case {
-    let mut job = read_by_rust(&small);
+    let mut job = read_by_rust(&small, ROOM);
     job.last_row = count - 1;
     job.row_indexes = (0..count).collect();
     job.row_sizes = vec![size as u64; count as usize];
-    job.lent_rows = Lent::zeros(ROOM);
     Case { size: count, bytes: None, job }
 }
 
@@ -241,8 +240,9 @@ fn lists_of(job: &Job) -> Lists {
     }
 }
 
-fn read_by_rust(bytes: &[u8]) -> Job {
-    questioned(bytes).ok().expect("a job").job()
+/// The job, read by the oracle, with lists that have room for so many runs.
+fn read_by_rust(bytes: &[u8], runs: usize) -> Job {
+    questioned(bytes).ok().expect("a job").job(runs)
 }
 
 fn planned_by_rust(job: &Job) -> (Area, PrintWarnings) {
@@ -302,7 +302,8 @@ struct Times {
     lists: Pair,
 }
 
-/// The medians of rounds that take each time in turn. The Rust's chain ends with a list of pages, whose time is taken off.
+/// The medians of rounds that take each time in turn. The Rust's chain ends with a list of pages, whose time is taken off; a job is read
+/// for it with no lists for its runs, as ours has its own from the start.
 fn times(case: &Case, ours: &mut Ours) -> Times {
     let (job, request, lists) = (&case.job, request_of(&case.job), lists_of(&case.job));
     let bytes = case.bytes.as_deref();
@@ -313,7 +314,7 @@ fn times(case: &Case, ours: &mut Ours) -> Times {
         calls_for(|| drop(planned_by_rust(job))),
         calls_for(|| drop(list())),
         bytes.map_or(0, |bytes| calls_for(|| ours.plan(bytes))),
-        bytes.map_or(0, |bytes| calls_for(|| drop(read_by_rust(bytes)))),
+        bytes.map_or(0, |bytes| calls_for(|| drop(read_by_rust(bytes, 0)))),
     ];
     let mut taken = [const { Vec::new() }; 5];
     for _ in 0..ROUNDS {
@@ -322,7 +323,7 @@ fn times(case: &Case, ours: &mut Ours) -> Times {
         taken[2].push(timed(calls[2], || drop(black_box(list()))));
         if let Some(bytes) = bytes {
             taken[3].push(timed(calls[3], || ours.plan(black_box(bytes))));
-            taken[4].push(timed(calls[4], || drop(black_box(read_by_rust(black_box(bytes))))));
+            taken[4].push(timed(calls[4], || drop(black_box(read_by_rust(black_box(bytes), 0)))));
         }
     }
     let [by_lists, chain, listing] = [0, 1, 2].map(|at| median(taken[at].clone()));
@@ -337,7 +338,7 @@ fn compare(case: &Case, ours: &mut Ours) {
     agree(ours, planned_by_rust(&case.job));
     if let Some(bytes) = &case.bytes {
         ours.plan(bytes);
-        agree(ours, planned_by_rust(&read_by_rust(bytes)));
+        agree(ours, planned_by_rust(&read_by_rust(bytes, ROOM)));
     }
 }
 

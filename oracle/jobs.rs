@@ -242,7 +242,8 @@ impl Read<'_> {
         }
     }
 
-    fn job(&self) -> Job {
+    /// The job, with lists that have room for so many runs.
+    fn job(&self, runs: usize) -> Job {
         let Cells(first_row, first_column, last_row, last_column) = self.cells("AR")[0];
         let merges = self.cells("MR");
         let (row_indexes, row_sizes) = self.rows().into_iter().map(|(index, size)| (index, size as u64)).unzip();
@@ -266,8 +267,8 @@ impl Read<'_> {
             merge_last_columns: merges.iter().map(|merge| u32::from(merge.3)).collect(),
             row_breaks: self.all("BR").map(|mut body| body.u32()).collect(),
             column_breaks: self.all("BC").map(|mut body| u32::from(body.u16())).collect(),
-            lent_rows: Lent::zeros(RUN_ENTRIES),
-            lent_columns: Lent::zeros(RUN_ENTRIES),
+            lent_rows: Lent::zeros(runs),
+            lent_columns: Lent::zeros(runs),
         }
     }
 }
@@ -281,7 +282,7 @@ fn page_text(number: usize, slot: &PageSlot) -> String {
 
 /// What `plan` prints for a job that is not refused.
 fn planned(bytes: &[u8]) -> Result<String, Refused> {
-    let job = questioned(bytes)?.job();
+    let job = questioned(bytes)?.job(RUN_ENTRIES);
     let mut warnings = PrintWarnings::default();
     let area = prepared(&job, &mut warnings)?;
     let mut text = format!("plan {} {}\n", area.scale_permille, area.logical_pages);
