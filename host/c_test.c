@@ -173,7 +173,8 @@ static int a_block_from_the_middle(void) {
     static uint8_t out[65536];
     struct lent planned = first();
     uint64_t told[2] = {0, 0};
-    return block(&planned, 3, ROOM, told, out) == 0 && told[0] == 2 && told[1] == sizeof lines - 1 && memcmp(out, lines, sizeof lines - 1) == 0;
+    return block(&planned, 3, ROOM, told, out) == 0 && told[0] == 2 && told[1] == sizeof lines - 1
+           && memcmp(out, lines, sizeof lines - 1) == 0;
 }
 
 static int a_refused_block_writes_nothing(void) {
