@@ -4,33 +4,40 @@
     examples.py            says which differ
     examples.py --write    writes them anew
 
-Needs rustc.
+Needs rustc. The exit status is 1 on a difference, and 2 where there is no answer to compare with.
 """
 
-import pathlib
+import argparse
 import subprocess
 import sys
 
+from driver import ROOT, built, started, stop
 from jobs import line
 
-ROOT = pathlib.Path(__file__).resolve().parent.parent
-DRIVER = ROOT / "target/oracle/jobs"
+
+def said(program, *words, given=b""):
+    """What a program writes."""
+    done = subprocess.run([program, *words], input=given, stdout=subprocess.PIPE)
+    if done.returncode:
+        stop(f"{program} ends with {done.returncode}")
+    return done.stdout
 
 
-def answered(example):
+def answered(driver, example):
     """What the driver prints for a job, without the empty line behind it."""
-    job = subprocess.run([ROOT / "tools/job", example], check=True, capture_output=True).stdout
-    told = subprocess.run([DRIVER], input=line(job).encode(), check=True, capture_output=True)
-    return told.stdout.decode().removesuffix("\n")
+    job = said(ROOT / "tools/job", example)
+    return said(driver, given=line(job).encode()).decode().removesuffix("\n")
 
 
 def main():
-    DRIVER.parent.mkdir(parents=True, exist_ok=True)
-    subprocess.run(["rustc", "-O", "--edition", "2021", "-o", DRIVER, ROOT / "oracle/jobs.rs"], check=True)
+    words = argparse.ArgumentParser(description=__doc__, formatter_class=argparse.RawDescriptionHelpFormatter)
+    words.add_argument("--write", action="store_true")
+    chosen = words.parse_args()
+    driver = built("jobs")
     different = 0
     for example in sorted((ROOT / "examples").glob("*.txt")):
-        out, answer = example.with_suffix(".out"), answered(example)
-        if sys.argv[1:] == ["--write"]:
+        out, answer = example.with_suffix(".out"), answered(driver, example)
+        if chosen.write:
             out.write_text(answer, encoding="ascii")
         elif not out.is_file() or out.read_text(encoding="ascii") != answer:
             different += 1
@@ -40,4 +47,4 @@ def main():
 
 
 if __name__ == "__main__":
-    main()
+    started(main)

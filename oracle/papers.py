@@ -4,15 +4,16 @@
     papers.py PAPER_LIST
 
 PAPER_LIST is a Markdown table of ECMA-376's paper sizes, pairs of cells `code | size` with sizes such as `8.5 x 11 in`
-or `210 x 297 mm`. The Rust's list is read out of taken.rs.
+or `210 x 297 mm`. The Rust's list is read out of taken.rs. Without a table of sizes nothing is written, and the exit status is 2.
 """
 
+import argparse
 import math
 import pathlib
 import re
-import sys
 
-ROOT = pathlib.Path(__file__).resolve().parent.parent
+from driver import ROOT, started, stop
+
 UNITS_PER_INCH = (96.0, 1024.0)
 
 
@@ -29,7 +30,9 @@ def standard_sizes(text):
     for line in text.splitlines():
         cells = [cell.strip() for cell in line.strip().strip("|").split("|")]
         for code, size in zip(cells[::2], cells[1::2]):
-            found = re.fullmatch(r"([0-9.]+) x ([0-9.]+) (in|mm)", size)
+            found = re.fullmatch(r"([0-9]{1,5}(?:\.[0-9]+)?) x ([0-9]{1,5}(?:\.[0-9]+)?) (in|mm)", size)
+            if found and not re.fullmatch("[0-9]{1,5}", code):
+                stop(f"a size and no code: {code} | {size}")
             if found:
                 unit = 1.0 if found[3] == "in" else 25.4
                 sizes[int(code)] = tuple(units(float(side) / unit) for side in found.group(1, 2))
@@ -65,14 +68,17 @@ def lines(here, standard):
     yield f"{agree} agree, {other} of another size, {missing} not here, {alone} here only"
 
 
-def main(words):
-    if len(words) != 1:
-        sys.exit(__doc__)
-    standard = standard_sizes(pathlib.Path(words[0]).read_text(encoding="utf-8"))
+def main():
+    words = argparse.ArgumentParser(description=__doc__, formatter_class=argparse.RawDescriptionHelpFormatter)
+    words.add_argument("paper_list", metavar="PAPER_LIST", type=pathlib.Path)
+    chosen = words.parse_args()
+    standard = standard_sizes(chosen.paper_list.read_text(encoding="utf-8", errors="replace"))
+    if not standard:
+        stop(f"{chosen.paper_list} has no sizes")
     here = rust_sizes((ROOT / "oracle/taken.rs").read_text(encoding="utf-8"))
     text = "".join(line + "\n" for line in lines(here, standard))
     (ROOT / "crates/paper_list/stdout").write_text(text, encoding="utf-8")
 
 
 if __name__ == "__main__":
-    main(sys.argv[1:])
+    started(main)

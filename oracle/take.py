@@ -4,12 +4,16 @@
     take.py SRC           write taken.rs
     take.py --check SRC   say whether taken.rs is what would be written
 
-SRC is the folder that holds render/src/print.rs and src/model/print.rs.
+SRC is the folder that holds render/src/print.rs and src/model/print.rs. The exit status is 1 where taken.rs is not that, and 2
+where an item is not found.
 """
 
+import argparse
 import pathlib
 import re
 import sys
+
+from driver import started, stop
 
 COMMIT = "04f9f004cc"
 
@@ -81,7 +85,7 @@ def first_line(lines, item):
     head = re.compile(r"(pub(\([a-z]+\))? )?((const|async|unsafe) )*" + re.escape(item) + r"(?![A-Za-z0-9_])")
     found = [i for i, line in enumerate(lines) if head.match(line)]
     if len(found) != 1:
-        sys.exit(f"take.py: `{item}` stands {len(found)} times")
+        stop(f"`{item}` stands {len(found)} times")
     return found[0]
 
 
@@ -92,7 +96,7 @@ def last_line(lines, first):
     for i in range(first + 1, len(lines)):
         if lines[i] in ("}\n", "];\n", ");\n"):
             return i
-    sys.exit(f"take.py: no end after line {first + 1}")
+    stop(f"no end after line {first + 1}")
 
 
 def taken(source, item):
@@ -114,13 +118,13 @@ def text(folder):
     return "".join(parts)
 
 
-def main(words):
-    check = words[:1] == ["--check"]
-    folders = words[1:] if check else words
-    if len(folders) != 1:
-        sys.exit(__doc__)
-    wanted = text(pathlib.Path(folders[0])).encode("utf-8")
-    if not check:
+def main():
+    words = argparse.ArgumentParser(description=__doc__, formatter_class=argparse.RawDescriptionHelpFormatter)
+    words.add_argument("--check", action="store_true")
+    words.add_argument("src", metavar="SRC", type=pathlib.Path)
+    chosen = words.parse_args()
+    wanted = text(chosen.src).encode("utf-8")
+    if not chosen.check:
         TARGET.write_bytes(wanted)
     elif TARGET.read_bytes() == wanted:
         print(f"taken.rs: {len(ITEMS)} items, unchanged")
@@ -129,4 +133,4 @@ def main(words):
 
 
 if __name__ == "__main__":
-    main(sys.argv[1:])
+    started(main)
