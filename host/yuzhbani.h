@@ -8,7 +8,7 @@
  *
  * What a caller must see to (host/README.md has the whole list): no pointer is null, also of a slice of no elements; an array has as
  * many elements as stand in its brackets; all elements are written before the call, also those that the call only fills; nothing
- * that a call writes overlaps with anything else it is handed; 1 MB of stack is left; the machine is x86-64 Linux.
+ * that a call writes overlaps with anything else it is handed; 512 KB of stack are left; the machine is x86-64 Linux.
  */
 #ifndef YUZHBANI_H
 #define YUZHBANI_H
