@@ -19,11 +19,12 @@ use Rattle.job_records.specs.Records.{records}
 use Rattle.job_questions.specs.Verdict.{inOrder, questions, itemsOf, verdictLent, verdict}
 use Rattle.job.specs.PlanJob.{jobSettings, jobRows, jobColumns, planJob}
 use Rattle.job_report.specs.declared.blocks.Block.{Block}
-use Rattle.job_report.specs.Blocks.{BlockOf}
+use Rattle.job_report.specs.declared.blocks.BlockAnswer.{BlockAnswer}
+use Rattle.job_report.specs.Blocks.{blockLines, pageBlock, blockOutcome, BlockPut}
 use Rattle.yuzhbani_answers.specs.Numbers.{planNumbers, told}
 use Rattle.yuzhbani_answers.specs.Answers.{answerTo, answerOf, numbersOf, HadBack, PageHanded}
 use Rattle.yuzhbani_request.specs.declared.Request.{Request}
-use Rattle.yuzhbani.specs.Calls.{planIn, PlanHanded}
+use Rattle.yuzhbani.specs.Calls.{planIn, PlanHanded, blockIn, BlockHanded}
 
 -- ---- no refusal has the number 0, so that 0 says that a plan was given
 
@@ -124,6 +125,13 @@ pub page-handed : {p q : Plan} → p ≡ q → (rows columns : List ℕ) (n : �
     → (r : ℕ) (old ns : List ℕ) → PageHanded (pageOutcome a) r old ns → PageHanded (pageNumbered q rows columns n) r old ns
 page-handed e rows columns n a i r old ns w = rw (← e, ← i) w
 
-pub block-handed : {p q : Plan} → p ≡ q → (rows columns : List ℕ) (from : ℕ) (r : Block) (out : List ℕ)
-    → BlockOf p rows columns from r out → BlockOf q rows columns from r out
-block-handed e rows columns from r out w = rw (← e) w
+pub block-handed : {p q : Plan} → p ≡ q → (rows columns : List ℕ) (from : ℕ) (a : BlockAnswer) (out₀ out : List ℕ) → BlockPut p rows columns from a out₀ out
+    → (r : ℕ) (block₀ block : List ℕ) → r ≡ answerTo (blockOutcome a) → block ≡ blockIn (blockOutcome a) block₀
+    → BlockHanded (pageBlock q rows columns from) (blockLines q rows columns from) r block₀ out₀ block out
+block-handed e rows columns from a out₀ out v r block₀ block i j =
+    rw (← e)
+    (record {
+      answer = i ∙ ap answerTo (v .answer);
+      block-is = j ∙ ap (λ (o : Outcome Block). blockIn o block₀) (v .answer);
+      out-is = v .array-is;
+    })

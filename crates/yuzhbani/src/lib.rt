@@ -2,6 +2,7 @@
 // can link. A plan is handed over as sixteen numbers and a page as twelve, in the order that `specs/Numbers.antt` of `yuzhbani_answers` says;
 // what is asked of a plan as thirty, in the order that `specs/Request.antt` of `yuzhbani_request` says.
 use job::plan_job;
+use job_report::BlockAnswer;
 use job_report::head_lines;
 use job_report::page_block;
 use planner::plan_pages;
@@ -12,18 +13,16 @@ use yuzhbani_answers::put_planning;
 use yuzhbani_answers::told;
 use yuzhbani_request::request_from;
 ghost use mathlib.Core.Path.{_≡_};
-ghost use Prim.Native.Nat.{_≤_};
-ghost use lib.ListN.{length, take};
 ghost use Rattle.planner_rules.specs.Pages.{pageNumbered};
 ghost use Rattle.planner_rules.specs.Plan.{planned, planOutcome};
 ghost use Rattle.planner_rules.specs.Demand.{CoversPairs, FewestPlan, LargestPlan};
 ghost use Rattle.job.specs.PlanJob as job;
-ghost use Rattle.job_report.specs.Lines.{headLines};
-ghost use Rattle.job_report.specs.Blocks.{BlockOf};
+ghost use Rattle.job_report.specs.Lines.{headLines, LinesPut};
+ghost use Rattle.job_report.specs.Blocks.{blockLines, pageBlock, blockOutcome};
 ghost use Rattle.yuzhbani_answers.specs.Numbers as section;
-ghost use Rattle.yuzhbani_answers.specs.Answers.{PageHanded};
+ghost use Rattle.yuzhbani_answers.specs.Answers.{answerTo, PageHanded};
 ghost use Rattle.yuzhbani_request.specs.Request.{settingsFrom, rowsRequested, columnsRequested};
-ghost use Rattle.yuzhbani.specs.Calls.{PlanHanded, blockTo};
+ghost use Rattle.yuzhbani.specs.Calls.{PlanHanded, blockIn, BlockHanded};
 
 // Plans the pages of a job: 0, with the plan's numbers in `numbers` and its runs at the fronts of two lent lists; or the number of a
 // refusal, and nothing is written.
@@ -179,33 +178,50 @@ pub extern "C" fn yuzhbani_page(
 // of `out`; it answers how many bytes.
 #[no_mangle]
 pub extern "C" fn yuzhbani_head(answer: u8, numbers: &[u64; 16], out: &mut [u8; 256]) -> usize
-    ensures { λ r. ⌜ take r (now (out .exit)) ≡ headLines (planOutcome (section.told answer (now (numbers .entry)))) ⌝ }
-    ensures { λ r. ⌜ r ≤ length (now (out .exit)) ⌝ }
+    ensures { λ r. ⌜
+        LinesPut (headLines (planOutcome (section.told answer (now (numbers .entry)))))
+        r (now (out .entry)) (now (out .exit))
+        ⌝ }
 {
     let planning = told(answer, numbers);
     head_lines(planning, out)
 }
 
-// Puts the lines of the pages from the number `next` on at the start of `out`, as long as there is a page and 256 bytes are left. It answers
-// how many bytes, and leaves in `next` the number of the first page that is not among them.
+// Puts the two numbers of a block, or nothing, and answers 0, or the number of the refusal.
+fn put_block(answer: BlockAnswer, block: &mut [u64; 2]) -> u8
+    ensures { λ r. ⌜ r ≡ answerTo (blockOutcome answer) ⌝ }
+    ensures { λ _. ⌜ now (block .exit) ≡ blockIn (blockOutcome answer) (now (block .entry)) ⌝ }
+{
+    match answer {
+        BlockAnswer::Value(held) => {
+            *block = [held.pages, held.bytes as u64];
+            0
+        }
+        BlockAnswer::Refused(number) => number,
+    }
+}
+
+// The lines of the pages from a number on, as long as there is a page and 256 of the bytes are left, of the plan's numbers and the lists that
+// were lent to it: 0, with how many pages and how many bytes in `block`, and the lines at the start of `out`; or the number of a refusal, and
+// nothing is written.
 #[no_mangle]
 pub extern "C" fn yuzhbani_block(
     numbers: &[u64; 16],
-    next: &mut u64,
+    from: u64,
     row_runs: &[u64],
     column_runs: &[u64],
+    block: &mut [u64; 2],
     out: &mut [u8; 65536],
-) -> usize
+) -> u8
     ensures { λ r. ⌜
-        BlockOf (section.planFrom (now (numbers .entry)))
-        (now («row_runs» .entry))
-        (now («column_runs» .entry))
-        (now (next .entry)) (blockTo (now (next .exit)) r) (now (out .exit))
+        (let plan = section.planFrom (now (numbers .entry)) in
+        let rows = now («row_runs» .entry) in
+        let columns = now («column_runs» .entry) in
+        BlockHanded (pageBlock plan rows columns from) (blockLines plan rows columns from)
+        r (now (block .entry)) (now (out .entry)) (now (block .exit)) (now (out .exit)))
         ⌝ }
 {
     let plan = plan_from(numbers);
-    let from = *next;
-    let block = page_block(plan, from, row_runs, column_runs, out);
-    *next = block.next;
-    block.end
+    let answer = page_block(plan, from, row_runs, column_runs, out);
+    put_block(answer, block)
 }
