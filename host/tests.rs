@@ -563,6 +563,32 @@ fn refusals_of_lists_write_nothing() {
     refused(12, |request, _| request.page_limit = 3);
 }
 
+/// A fit or an order that is neither 0 nor 1 is refused as the same in bytes is, before all else is asked.
+#[test]
+fn flags_of_lists() {
+    let refused = |numbers: [u64; 30], lists: &Lists| {
+        let (mut out, mut rows, mut columns) = ([77; 16], marked(2), marked(2));
+        let answer = plan_lists_into(&numbers, lists, &mut out, &mut rows, &mut columns);
+        assert_eq!(answer, Err(Refusal(5)), "{numbers:?}");
+        assert_eq!((out, rows, columns), ([77; 16], marked(2), marked(2)));
+    };
+    for (mark, at) in [("FT", 12), ("OD", 17)] {
+        let (mut request, mut lists) = first_lists();
+        assert_eq!(told(&three_by_two(&[record(mark, &[&[2]])], &[])), "no 5\n");
+        for flag in [2, 3, 255, 256, 1 << 32, u64::MAX] {
+            let mut numbers = request.numbers();
+            numbers[at] = flag;
+            refused(numbers, &lists);
+        }
+        (request.first_row, request.last_column, request.page_limit) = (3, u32::MAX, 0);
+        lists.row_sizes.push(u64::MAX);
+        let mut numbers = request.numbers();
+        numbers[at] = 2;
+        refused(numbers, &lists);
+    }
+    refused([u64::MAX; 30], &Lists::default());
+}
+
 #[test]
 fn run_lists_too_short_for_lists() {
     let (request, lists) = first_lists();
@@ -577,7 +603,7 @@ fn run_lists_too_short_for_lists() {
     assert_eq!(planned(11, 9), Ok(()));
 }
 
-/// What thirty numbers stand for that no `Request` has: any mark above 0 is set, a number too large is the largest of its kind.
+/// What thirty numbers stand for that no `Request` has: any other mark above 0 is set, a number too large is the largest of its kind.
 #[test]
 fn request_by_any_numbers() {
     let (request, lists) = first_lists();
@@ -605,7 +631,7 @@ fn request_by_any_numbers() {
     };
     let numbers = whole.numbers();
     let most = u64::MAX;
-    let marks = [0, 2, 3, 10, 13, 15, 17, 18, 24, 27].map(|at| (at, most));
+    let marks = [0, 2, 3, 10, 13, 15, 18, 24, 27].map(|at| (at, most));
     let large = [(11, 65_536), (16, most), (29, 4_294_967_296)];
     for (fit, numbers) in [(0, numbers), (1, changed(numbers, &[(12, 1)]))] {
         let plain = planned(numbers);
@@ -621,7 +647,7 @@ fn request_by_any_numbers() {
     assert_eq!(planned(changed(numbers, &[(22, 4_294_967_298)])).0, Err(Refusal(7)));
     assert_eq!(planned(changed(numbers, &[(20, most), (22, most)])).0, Err(Refusal(7)));
     assert_eq!(planned(changed(numbers, &[(20, 4_294_967_296)])).0, Err(Refusal(6)));
-    assert_eq!(planned([most; 30]).0, Err(Refusal(7)));
+    assert_eq!(planned(changed([most; 30], &[(12, 1), (17, 0)])).0, Err(Refusal(7)));
     assert_eq!(planned([0; 30]).0, Err(Refusal(12)));
 }
 

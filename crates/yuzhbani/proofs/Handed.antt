@@ -10,6 +10,7 @@ use Rattle.planner_rules.specs.declared.pages.Plan.{Plan}
 use Rattle.planner_rules.specs.declared.planning.Settings.{Settings}
 use Rattle.planner_rules.specs.declared.planning.Planning.{Planning}
 use Rattle.planner_rules.specs.declared.planning.Planning.the-variants.{Value, Refused}
+use Rattle.planner_rules.specs.Questions.{ask}
 use Rattle.planner_rules.specs.Pages.{pageNumbered, pageOutcome}
 use Rattle.planner_rules.specs.Plan.{AxisInput, Layout, Planned, rowsOf, columnsOf, planned, planOutcome}
 use Rattle.planner_rules.specs.Demand.{CoversPairs, FewestPlan, LargestPlan}
@@ -101,6 +102,18 @@ handed o never s rs cs rows₀ columns₀ rows columns p old r numbers w (a, (n,
         columns-are = w .0 .columns-are;
       },
       rw t (w .1),
+    )
+
+-- the same where 5 is no, and nothing was written: the three sentences are of a finished plan
+pub handed-five : {b : Bool} → b ≡ false → (o : Outcome Layout) (s : Settings) (rs cs : AxisInput) (rows columns old : List ℕ)
+    → PlanHanded (ask 5 b o) 5 old old rows columns rows columns × Demands (told 5 old) s rs cs rows columns
+handed-five e o s rs cs rows columns old =
+    let never : (p : Plan) → refused 5 ≡ given p → ⊥ = λ p f. not-given p 5 (sym f) in (
+      rw e (record { answer = refl; numbers-are = refl; stands = refl; rows-are = refl; columns-are = refl }),
+      (
+        record { covered = λ p f. absurd (never p f) },
+        (record { fewest = λ p f. absurd (never p f) }, record { largest = λ p f. absurd (never p f) }),
+      ),
     )
 
 -- ---- what is asked by numbers

@@ -11,8 +11,10 @@ use yuzhbani_answers::plan_from;
 use yuzhbani_answers::put_page;
 use yuzhbani_answers::put_planning;
 use yuzhbani_answers::told;
+use yuzhbani_request::flags_hold;
 use yuzhbani_request::request_from;
 ghost use mathlib.Core.Path.{_≡_};
+ghost use Rattle.planner_rules.specs.Questions.{ask};
 ghost use Rattle.planner_rules.specs.Pages.{pageNumbered};
 ghost use Rattle.planner_rules.specs.Plan.{planned, planOutcome};
 ghost use Rattle.planner_rules.specs.Demand.{CoversPairs, FewestPlan, LargestPlan};
@@ -21,7 +23,7 @@ ghost use Rattle.job_report.specs.Lines.{headLines, LinesPut};
 ghost use Rattle.job_report.specs.Blocks.{blockLines, pageBlock, blockOutcome};
 ghost use Rattle.yuzhbani_answers.specs.Numbers as section;
 ghost use Rattle.yuzhbani_answers.specs.Answers.{answerTo, PageHanded};
-ghost use Rattle.yuzhbani_request.specs.Request.{settingsFrom, rowsRequested, columnsRequested};
+ghost use Rattle.yuzhbani_request.specs.Request.{settingsFrom, rowsRequested, columnsRequested, flagsHold};
 ghost use Rattle.yuzhbani.specs.Calls.{PlanHanded, blockIn, BlockHanded};
 
 // Plans the pages of a job: 0, with the plan's numbers in `numbers` and its runs at the fronts of two lent lists; or the number of a
@@ -34,30 +36,24 @@ pub extern "C" fn yuzhbani_plan(
     column_runs: &mut [u64],
 ) -> u8
     ensures planned { λ r. ⌜
-        PlanHanded
-        (job.planJob (now (bytes .entry))
-        (now («row_runs» .entry))
-        (now («column_runs» .entry)))
-        r (now (numbers .entry)) (now (numbers .exit))
-        (now («row_runs» .entry))
-        (now («column_runs» .entry))
-        (now («row_runs» .exit))
-        (now («column_runs» .exit))
+        (let rows₀ = now («row_runs» .entry) in
+        let columns₀ = now («column_runs» .entry) in
+        PlanHanded (job.planJob (now (bytes .entry)) rows₀ columns₀)
+        r (now (numbers .entry)) (now (numbers .exit)) rows₀ columns₀ (now («row_runs» .exit)) (now («column_runs» .exit)))
         ⌝ }
     ensures covered { λ r. ⌜
-        CoversPairs (section.told r (now (numbers .exit))) (job.jobRows (now (bytes .entry))) (job.jobColumns (now (bytes .entry)))
-        (now («row_runs» .exit))
-        (now («column_runs» .exit))
+        (let asked = now (bytes .entry) in
+        CoversPairs (section.told r (now (numbers .exit))) (job.jobRows asked) (job.jobColumns asked)
+        (now («row_runs» .exit)) (now («column_runs» .exit)))
         ⌝ }
     ensures fewest { λ r. ⌜
-        FewestPlan (section.told r (now (numbers .exit))) (job.jobSettings (now (bytes .entry))) (job.jobRows (now (bytes .entry)))
-        (job.jobColumns (now (bytes .entry)))
-        (now («row_runs» .exit))
-        (now («column_runs» .exit))
+        (let asked = now (bytes .entry) in
+        FewestPlan (section.told r (now (numbers .exit))) (job.jobSettings asked) (job.jobRows asked) (job.jobColumns asked)
+        (now («row_runs» .exit)) (now («column_runs» .exit)))
         ⌝ }
     ensures largest { λ r. ⌜
-        LargestPlan (section.told r (now (numbers .exit))) (job.jobSettings (now (bytes .entry))) (job.jobRows (now (bytes .entry)))
-        (job.jobColumns (now (bytes .entry)))
+        (let asked = now (bytes .entry) in
+        LargestPlan (section.told r (now (numbers .exit))) (job.jobSettings asked) (job.jobRows asked) (job.jobColumns asked))
         ⌝ }
 {
     let planning = plan_job(bytes, row_runs, column_runs);
@@ -65,7 +61,7 @@ pub extern "C" fn yuzhbani_plan(
 }
 
 // Plans the pages of lists: what is asked as thirty numbers, the measured slots, merges and breaks as ten lists. It answers and writes as
-// `yuzhbani_plan` does.
+// `yuzhbani_plan` does. A fit or an order that is neither 0 nor 1 is refused with 5, before anything else is asked.
 #[no_mangle]
 pub extern "C" fn yuzhbani_plan_lists(
     request: &[u64; 30],
@@ -84,46 +80,45 @@ pub extern "C" fn yuzhbani_plan_lists(
     column_runs: &mut [u64],
 ) -> u8
     ensures planned { λ r. ⌜
-        PlanHanded
-        (planned (settingsFrom (now (request .entry)))
-        (rowsRequested (now (request .entry)) (now («row_indexes» .entry)) (now («row_sizes» .entry))
-        (now («merge_first_rows» .entry)) (now («merge_last_rows» .entry)) (now («row_breaks» .entry)))
-        (columnsRequested (now (request .entry)) (now («column_indexes» .entry)) (now («column_sizes» .entry))
-        (now («merge_first_columns» .entry)) (now («merge_last_columns» .entry)) (now («column_breaks» .entry)))
-        (now («row_runs» .entry))
-        (now («column_runs» .entry)))
-        r (now (numbers .entry)) (now (numbers .exit))
-        (now («row_runs» .entry))
-        (now («column_runs» .entry))
-        (now («row_runs» .exit))
-        (now («column_runs» .exit))
+        (let asked = now (request .entry) in
+        let rows = rowsRequested asked (now («row_indexes» .entry)) (now («row_sizes» .entry)) (now («merge_first_rows» .entry))
+        (now («merge_last_rows» .entry)) (now («row_breaks» .entry)) in
+        let columns = columnsRequested asked (now («column_indexes» .entry)) (now («column_sizes» .entry)) (now («merge_first_columns» .entry))
+        (now («merge_last_columns» .entry)) (now («column_breaks» .entry)) in
+        let rows₀ = now («row_runs» .entry) in
+        let columns₀ = now («column_runs» .entry) in
+        PlanHanded (ask 5 (flagsHold asked) (planned (settingsFrom asked) rows columns rows₀ columns₀))
+        r (now (numbers .entry)) (now (numbers .exit)) rows₀ columns₀ (now («row_runs» .exit)) (now («column_runs» .exit)))
         ⌝ }
     ensures covered { λ r. ⌜
-        CoversPairs (section.told r (now (numbers .exit)))
-        (rowsRequested (now (request .entry)) (now («row_indexes» .entry)) (now («row_sizes» .entry)) (now («merge_first_rows» .entry))
-        (now («merge_last_rows» .entry)) (now («row_breaks» .entry)))
-        (columnsRequested (now (request .entry)) (now («column_indexes» .entry)) (now («column_sizes» .entry))
-        (now («merge_first_columns» .entry)) (now («merge_last_columns» .entry)) (now («column_breaks» .entry)))
-        (now («row_runs» .exit))
-        (now («column_runs» .exit))
+        (let asked = now (request .entry) in
+        let rows = rowsRequested asked (now («row_indexes» .entry)) (now («row_sizes» .entry)) (now («merge_first_rows» .entry))
+        (now («merge_last_rows» .entry)) (now («row_breaks» .entry)) in
+        let columns = columnsRequested asked (now («column_indexes» .entry)) (now («column_sizes» .entry)) (now («merge_first_columns» .entry))
+        (now («merge_last_columns» .entry)) (now («column_breaks» .entry)) in
+        CoversPairs (section.told r (now (numbers .exit))) rows columns (now («row_runs» .exit)) (now («column_runs» .exit)))
         ⌝ }
     ensures fewest { λ r. ⌜
-        FewestPlan (section.told r (now (numbers .exit))) (settingsFrom (now (request .entry)))
-        (rowsRequested (now (request .entry)) (now («row_indexes» .entry)) (now («row_sizes» .entry)) (now («merge_first_rows» .entry))
-        (now («merge_last_rows» .entry)) (now («row_breaks» .entry)))
-        (columnsRequested (now (request .entry)) (now («column_indexes» .entry)) (now («column_sizes» .entry))
-        (now («merge_first_columns» .entry)) (now («merge_last_columns» .entry)) (now («column_breaks» .entry)))
-        (now («row_runs» .exit))
-        (now («column_runs» .exit))
+        (let asked = now (request .entry) in
+        let rows = rowsRequested asked (now («row_indexes» .entry)) (now («row_sizes» .entry)) (now («merge_first_rows» .entry))
+        (now («merge_last_rows» .entry)) (now («row_breaks» .entry)) in
+        let columns = columnsRequested asked (now («column_indexes» .entry)) (now («column_sizes» .entry)) (now («merge_first_columns» .entry))
+        (now («merge_last_columns» .entry)) (now («column_breaks» .entry)) in
+        FewestPlan (section.told r (now (numbers .exit))) (settingsFrom asked) rows columns
+        (now («row_runs» .exit)) (now («column_runs» .exit)))
         ⌝ }
     ensures largest { λ r. ⌜
-        LargestPlan (section.told r (now (numbers .exit))) (settingsFrom (now (request .entry)))
-        (rowsRequested (now (request .entry)) (now («row_indexes» .entry)) (now («row_sizes» .entry)) (now («merge_first_rows» .entry))
-        (now («merge_last_rows» .entry)) (now («row_breaks» .entry)))
-        (columnsRequested (now (request .entry)) (now («column_indexes» .entry)) (now («column_sizes» .entry))
-        (now («merge_first_columns» .entry)) (now («merge_last_columns» .entry)) (now («column_breaks» .entry)))
+        (let asked = now (request .entry) in
+        let rows = rowsRequested asked (now («row_indexes» .entry)) (now («row_sizes» .entry)) (now («merge_first_rows» .entry))
+        (now («merge_last_rows» .entry)) (now («row_breaks» .entry)) in
+        let columns = columnsRequested asked (now («column_indexes» .entry)) (now («column_sizes» .entry)) (now («merge_first_columns» .entry))
+        (now («merge_last_columns» .entry)) (now («column_breaks» .entry)) in
+        LargestPlan (section.told r (now (numbers .exit))) (settingsFrom asked) rows columns)
         ⌝ }
 {
+    if !flags_hold(request) {
+        return 5;
+    }
     let what = request_from(request);
     let settings = what.settings;
     let range = what.range;
@@ -162,10 +157,7 @@ pub extern "C" fn yuzhbani_page(
 ) -> u8
     ensures { λ r. ⌜
         PageHanded
-        (pageNumbered (section.planFrom (now (numbers .entry)))
-        (now («row_runs» .entry))
-        (now («column_runs» .entry))
-        number)
+        (pageNumbered (section.planFrom (now (numbers .entry))) (now («row_runs» .entry)) (now («column_runs» .entry)) number)
         r (now (page .entry)) (now (page .exit))
         ⌝ }
 {
