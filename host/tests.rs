@@ -1,7 +1,7 @@
 //! Tests of the static library through `yuzhbani.rs`. They run at the root of the repository (`host/test`).
 
 use std::path::PathBuf;
-use std::process::Command;
+use std::process::{Command, Stdio};
 use yuzhbani::{block_into, head_into, head_of, page_of, plan_into, plan_lists_into, Lists, Page, Plan, Refusal, Request, Run};
 use yuzhbani::{BLOCK, HEAD, MOST_BYTES, MOST_RUNS};
 
@@ -675,6 +675,32 @@ fn a_million_rows() {
     let fitted = Plan::of_lists(&Request { fit: true, fit_height: Some(3_000), ..request }, &lists).expect("a plan");
     assert!(fitted.pages() <= 3_000, "{} pages", fitted.pages());
     assert_eq!(fitted.notes(), [0; 9]);
+}
+
+// ---- the program over the library (`plan.rs`, which `host/test` builds)
+
+/// The status, what was printed and what was said of an error, for a job in a file and a standard output.
+fn ran(file: &str, out: Stdio) -> (Option<i32>, String, String) {
+    let child = Command::new("target/host/plan").arg(file).stdout(out).stderr(Stdio::piped()).spawn().expect("the program runs");
+    let ran = child.wait_with_output().expect("the program ends");
+    let text = |bytes: &[u8]| String::from_utf8_lossy(bytes).into_owned();
+    (ran.status.code(), text(&ran.stdout), text(&ran.stderr))
+}
+
+#[test]
+fn what_failed_is_said_and_is_the_status() {
+    let (planned, refused) = ("target/host/planned.job", "target/host/refused.job");
+    std::fs::write(planned, first()).expect("a file");
+    std::fs::write(refused, b"ZZ").expect("a file");
+    let nothing = String::new;
+    assert_eq!(ran(planned, Stdio::piped()), (Some(0), FIRST_TEXT.to_string(), nothing()));
+    assert_eq!(ran(refused, Stdio::piped()), (Some(1), "no 2\n".to_string(), nothing()));
+    for (file, full) in [("target/host", false), ("target/host/no such file", false), (planned, true), (refused, true)] {
+        let out = if full { std::fs::File::create("/dev/full").expect("a full device").into() } else { Stdio::piped() };
+        let (status, printed, said) = ran(file, out);
+        assert_eq!((status, printed), (Some(2), nothing()), "{file}");
+        assert!(said.contains(if full { "could not be written" } else { "could not be read" }), "{file}: {said}");
+    }
 }
 
 /// The plan call needs room on the stack; a thread as Rust makes it has enough.
