@@ -3,7 +3,6 @@ use mathlib.Core.Path.{_≡_, refl, sym, ap, _∙_}
 use mathlib.Core.Bool.{Bool, true, false, _&&_}
 use mathlib.Core.List.{List, [], _∷_, _++_, append-assoc, append-nil}
 use Prim.Native.Nat.{ℕ, zero, suc, _+_, _-_, _≤_, _<_}
-use native.Mathlib.Numerals.{add-one}
 use native.Mathlib.Omega.{arith}
 use lib.Dec.{leb}
 use lib.ListN.{length, take, drop, length-drop, drop-of-length-le}
@@ -133,7 +132,7 @@ held-full bytes n [] h = refl
 held-full bytes n (p ∷ pages) h = rw (lt-leb (bytes + 256) 65536 h)
 
 -- the lines of pages, then those of the pages after them, are the lines of all
-pub lines-then : (n : ℕ) (a b : List Page) → linesFrom n (a ++ b) ≡ linesFrom n a ++ linesFrom (n + length a) b
+lines-then : (n : ℕ) (a b : List Page) → linesFrom n (a ++ b) ≡ linesFrom n a ++ linesFrom (n + length a) b
 unfolding linesFrom
 lines-then n [] b = let e : n + 0 ≡ n = omega arith in rw e
 lines-then n (p ∷ a) b =
@@ -161,15 +160,7 @@ open-told bytes last pages most e =
 
 pub shut-told : {X : Type 0} (bytes last pages most : ℕ) → (leb bytes last && leb pages most) ≡ false → (last < bytes → X) → (most < pages → X) → X
 shut-told bytes last pages most e f g =
-    split bytes last
-    (λ h.
-    split pages most
-    (λ l.
-    let yes : (leb bytes last && leb pages most) ≡ true = rw (le-leb bytes last h, le-leb pages most l) in
-    let no : true ≡ false = sym yes ∙ e in
-    let z : _≡_ {A = ℕ} 0 1 = cc in
-    absurd (omega arith)) g)
-    f
+    split bytes last (λ h. split pages most (λ l. absurd (never (rw (le-leb bytes last h, le-leb pages most l)) e)) g) f
 
 module _ (p : Plan) (rows columns : List ℕ) (from : ℕ) where
   abbrev rest : List Page
@@ -227,7 +218,7 @@ module _ (p : Plan) (rows columns : List ℕ) (from : ℕ) where
         none-left (omega (arith, w .from-one, w .to-count, all-within p rows columns, length-drop (from - 1) (pagesOf p rows columns)))
 
     module _ (o : Outcome Page) (asked : o ≡ pageNumbered p rows columns (from + k)) where
-      abbrev number-is : suc (from + k - 1) ≡ from + k
+      number-is : suc (from + k - 1) ≡ from + k
       number-is = omega (arith, w .from-one)
 
       is : o ≡ numbered (pagesOf p rows columns) (suc (from + k - 1))
@@ -243,9 +234,10 @@ module _ (p : Plan) (rows columns : List ℕ) (from : ℕ) where
       pub holding-more : (page : Page) (newer : List ℕ) (more : ℕ) → o ≡ given page → bytes ≤ 65280 → bytes ≤ length old
           → PutAt (pageLine (from + k) page) bytes more new newer → length newer ≡ length new → Holding old newer (k + 1) more
       holding-more page newer more e room inside put s =
+          let low = w .from-one in
+          let follow : suc (from + k - 1) ≡ from + (k + 1) - 1 = omega arith in
           let here : drop k rest ≡ page ∷ drop (k + 1) rest =
-          after k (w .from-one) ∙ there-is (pagesOf p rows columns) (from + k - 1) page (sym is ∙ e)
-          ∙ ap (λ (l : List Page). page ∷ l) (let z : suc (from + k - 1) ≡ from + (k + 1) - 1 = omega (arith, w .from-one) in rw z (sym (after (k + 1) (w .from-one)))) in
+          rw (after (k + 1) low, ← follow) (after k low ∙ there-is (pagesOf p rows columns) (from + k - 1) page (sym is ∙ e)) in
           let line : linesFrom (from + k) (take 1 (drop k rest)) ≡ pageLine (from + k) page = rw here (one-line (from + k) page (drop (k + 1) rest)) in
           let place : bytes + length (pageLine (from + k) page) ≡ more = omega (arith, put .after) in
           let next : suc (from + k) ≡ from + (k + 1) = omega arith in

@@ -12,7 +12,6 @@ use Rattle.planner_rules.specs.Pages.{pagesOf, pageNumbered}
 use Rattle.io.specs.Counts.{Counts}
 use Rattle.planner_rules.proofs.NoTen.{not-given}
 use Rattle.job_report.specs.declared.blocks.Block.{Block}
-use Rattle.job_report.specs.declared.blocks.BlockAnswer.{BlockAnswer}
 use Rattle.job_report.specs.declared.blocks.BlockAnswer.the-variants.{Value}
 use Rattle.job_report.specs.Blocks.{linesFrom, pagesFrom, pagesHeld, blockLines, blockFrom, pageBlock, isThere, BlockPut}
 use Rattle.job_report.proofs.TextLaws.{lines-within}
