@@ -1,9 +1,9 @@
 //! Tests of the static library through `yuzhbani.rs`. They run at the root of the repository (`host/test`).
 
 use std::path::PathBuf;
-use std::process::Command;
-use yuzhbani::{block_of, head_of, page_of, plan_into, plan_lists_into, Lists, Page, Plan, Refusal, Request, Run};
-use yuzhbani::{MOST_BYTES, MOST_RUNS};
+use std::process::{Command, Stdio};
+use yuzhbani::{block_into, head_into, head_of, page_of, plan_into, plan_lists_into, Lists, Page, Plan, Refusal, Request, Run};
+use yuzhbani::{BLOCK, HEAD, MOST_BYTES, MOST_RUNS};
 
 // ---- jobs, written after document 01, section "Jobs"
 
@@ -317,27 +317,81 @@ fn pages_of_lists_that_were_changed() {
         assert_eq!(runs(&columns, &rows), (column, expected), "{changed:?}");
     }
     rows[4..].copy_from_slice(&[1 << 32, u64::MAX, 33, 0]);
-    let mut next = 4;
-    let text = block_of(&numbers, &mut next, &rows, &columns);
-    assert_eq!(String::from_utf8_lossy(&text), "page 4 1 1 4294967295 4294967295 1 1 33 400000\n");
+    let line = "page 4 1 1 4294967295 4294967295 1 1 33 400000\n".to_string();
+    assert_eq!(block(&numbers, 4, &rows, &columns), Ok((1, line)));
 }
 
 #[test]
 fn lines_of_any_numbers() {
     let most = u64::MAX;
-    let head = head_of(0, &[most; 16]);
-    assert_eq!(head, format!("plan 65535 {most}\nnotes{}\n", format!(" {most}").repeat(9)));
-    assert_eq!(head_of(255, &[most; 16]), "no 255\n");
-    let lists = marked(3);
-    for (from, numbers) in [(0, [1; 16]), (2, [1; 16]), (most, [most; 16]), (1, [0; 16])] {
-        let mut next = from;
-        assert!(block_of(&numbers, &mut next, &lists, &lists).is_empty());
-        assert_eq!(next, from);
+    for (answer, lines) in [
+        (0, format!("plan 65535 {most}\nnotes{}\n", format!(" {most}").repeat(9))),
+        (255, "no 255\n".to_string()),
+    ] {
+        let mut out = [UNPUT; HEAD];
+        assert_eq!(head_into(answer, &[most; 16], &mut out), lines.len());
+        assert_eq!(out[..lines.len()], *lines.as_bytes());
+        assert!(out[lines.len()..].iter().all(|&byte| byte == UNPUT), "behind the lines of {answer}");
+        assert_eq!(head_of(answer, &[most; 16]), lines);
     }
-    let mut next = 1;
-    let one = block_of(&[1; 16], &mut next, &lists, &lists);
-    assert_eq!(String::from_utf8_lossy(&one), "page 1 0 0 11 22 11 22 33 33\n");
-    assert_eq!(next, 2);
+}
+
+/// A byte that stands in no line.
+const UNPUT: u8 = 200;
+
+/// How many pages a block holds, and its lines. What stands behind the lines stays, and a refusal writes nothing.
+fn block(numbers: &[u64; 16], from: u64, rows: &[u64], columns: &[u64]) -> Result<(u64, String), Refusal> {
+    let (mut block, mut out) = ([77; 2], Box::new([UNPUT; BLOCK]));
+    let answer = block_into(numbers, from, rows, columns, &mut block, &mut out);
+    let [pages, bytes] = if answer.is_ok() { block } else { [0, 0] };
+    assert!(out[bytes as usize..].iter().all(|&byte| byte == UNPUT), "behind {bytes} bytes from page {from} on");
+    answer.map(|()| (pages, String::from_utf8_lossy(&out[..bytes as usize]).into_owned())).inspect_err(|_| assert_eq!(block, [77; 2]))
+}
+
+#[test]
+fn blocks_refused() {
+    let most = u64::MAX;
+    let lists = marked(3);
+    let refused = |number: u8, numbers: [u64; 16], from: u64, rows: usize, columns: usize| {
+        assert_eq!(block(&numbers, from, &lists[..rows], &lists[..columns]), Err(Refusal(number)), "{numbers:?} from {from}");
+    };
+    // 14: no page has the number; a plan of no runs; more pages than the runs make
+    for from in [0, 2, 3, most] {
+        refused(14, [1; 16], from, 12, 12);
+    }
+    refused(14, [0; 16], 1, 12, 12);
+    refused(14, [3; 16], 4, 12, 12);
+    let mut numbers = [2; 16];
+    numbers[5] = most;
+    for from in [5, most] {
+        refused(14, numbers, from, 12, 12);
+    }
+    // 11 comes before 14: more runs than the lists have room for
+    for from in [0, 1, 2, most] {
+        refused(11, [most; 16], from, 12, 12);
+        refused(11, [4; 16], from, 12, 12);
+        refused(11, [2; 16], from, 7, 8);
+        refused(11, [2; 16], from, 8, 7);
+    }
+    assert_eq!(block(&[1; 16], 1, &lists, &lists), Ok((1, "page 1 0 0 11 22 11 22 33 33\n".to_string())));
+    assert_eq!(block(&numbers, 3, &lists, &lists).map(|(pages, _)| pages), Ok(2));
+}
+
+/// A block ends where there is no page, or where fewer than 256 bytes are left.
+#[test]
+fn blocks_one_after_another() {
+    let lists = marked(64);
+    let mut numbers = [0; 16];
+    (numbers[1], numbers[2], numbers[5]) = (64, 64, 4_096);
+    let mut from = 1;
+    while from <= 4_096 {
+        let (pages, lines) = block(&numbers, from, &lists, &lists).expect("a block");
+        let by_number = |number| page_line(number, &page_of(&numbers, number, &lists, &lists).expect("a page"));
+        assert_eq!(lines, (from..from + pages).map(by_number).collect::<String>());
+        assert!(from + pages > 4_096 || lines.len() > BLOCK - 256, "{pages} pages from {from} on");
+        from += pages;
+    }
+    assert_eq!(from, 4_097);
 }
 
 // ---- plans of lists
@@ -509,6 +563,32 @@ fn refusals_of_lists_write_nothing() {
     refused(12, |request, _| request.page_limit = 3);
 }
 
+/// A fit or an order that is neither 0 nor 1 is refused as the same in bytes is, before all else is asked.
+#[test]
+fn flags_of_lists() {
+    let refused = |numbers: [u64; 30], lists: &Lists| {
+        let (mut out, mut rows, mut columns) = ([77; 16], marked(2), marked(2));
+        let answer = plan_lists_into(&numbers, lists, &mut out, &mut rows, &mut columns);
+        assert_eq!(answer, Err(Refusal(5)), "{numbers:?}");
+        assert_eq!((out, rows, columns), ([77; 16], marked(2), marked(2)));
+    };
+    for (mark, at) in [("FT", 12), ("OD", 17)] {
+        let (mut request, mut lists) = first_lists();
+        assert_eq!(told(&three_by_two(&[record(mark, &[&[2]])], &[])), "no 5\n");
+        for flag in [2, 3, 255, 256, 1 << 32, u64::MAX] {
+            let mut numbers = request.numbers();
+            numbers[at] = flag;
+            refused(numbers, &lists);
+        }
+        (request.first_row, request.last_column, request.page_limit) = (3, u32::MAX, 0);
+        lists.row_sizes.push(u64::MAX);
+        let mut numbers = request.numbers();
+        numbers[at] = 2;
+        refused(numbers, &lists);
+    }
+    refused([u64::MAX; 30], &Lists::default());
+}
+
 #[test]
 fn run_lists_too_short_for_lists() {
     let (request, lists) = first_lists();
@@ -523,7 +603,7 @@ fn run_lists_too_short_for_lists() {
     assert_eq!(planned(11, 9), Ok(()));
 }
 
-/// What thirty numbers stand for that no `Request` has: any mark above 0 is set, a number too large is the largest of its kind.
+/// What thirty numbers stand for that no `Request` has: any other mark above 0 is set, a number too large is the largest of its kind.
 #[test]
 fn request_by_any_numbers() {
     let (request, lists) = first_lists();
@@ -551,7 +631,7 @@ fn request_by_any_numbers() {
     };
     let numbers = whole.numbers();
     let most = u64::MAX;
-    let marks = [0, 2, 3, 10, 13, 15, 17, 18, 24, 27].map(|at| (at, most));
+    let marks = [0, 2, 3, 10, 13, 15, 18, 24, 27].map(|at| (at, most));
     let large = [(11, 65_536), (16, most), (29, 4_294_967_296)];
     for (fit, numbers) in [(0, numbers), (1, changed(numbers, &[(12, 1)]))] {
         let plain = planned(numbers);
@@ -567,7 +647,7 @@ fn request_by_any_numbers() {
     assert_eq!(planned(changed(numbers, &[(22, 4_294_967_298)])).0, Err(Refusal(7)));
     assert_eq!(planned(changed(numbers, &[(20, most), (22, most)])).0, Err(Refusal(7)));
     assert_eq!(planned(changed(numbers, &[(20, 4_294_967_296)])).0, Err(Refusal(6)));
-    assert_eq!(planned([most; 30]).0, Err(Refusal(7)));
+    assert_eq!(planned(changed([most; 30], &[(12, 1), (17, 0)])).0, Err(Refusal(7)));
     assert_eq!(planned([0; 30]).0, Err(Refusal(12)));
 }
 
@@ -595,6 +675,32 @@ fn a_million_rows() {
     let fitted = Plan::of_lists(&Request { fit: true, fit_height: Some(3_000), ..request }, &lists).expect("a plan");
     assert!(fitted.pages() <= 3_000, "{} pages", fitted.pages());
     assert_eq!(fitted.notes(), [0; 9]);
+}
+
+// ---- the program over the library (`plan.rs`, which `host/test` builds)
+
+/// The status, what was printed and what was said of an error, for a job in a file and a standard output.
+fn ran(file: &str, out: Stdio) -> (Option<i32>, String, String) {
+    let child = Command::new("target/host/plan").arg(file).stdout(out).stderr(Stdio::piped()).spawn().expect("the program runs");
+    let ran = child.wait_with_output().expect("the program ends");
+    let text = |bytes: &[u8]| String::from_utf8_lossy(bytes).into_owned();
+    (ran.status.code(), text(&ran.stdout), text(&ran.stderr))
+}
+
+#[test]
+fn what_failed_is_said_and_is_the_status() {
+    let (planned, refused) = ("target/host/planned.job", "target/host/refused.job");
+    std::fs::write(planned, first()).expect("a file");
+    std::fs::write(refused, b"ZZ").expect("a file");
+    let nothing = String::new;
+    assert_eq!(ran(planned, Stdio::piped()), (Some(0), FIRST_TEXT.to_string(), nothing()));
+    assert_eq!(ran(refused, Stdio::piped()), (Some(1), "no 2\n".to_string(), nothing()));
+    for (file, full) in [("target/host", false), ("target/host/no such file", false), (planned, true), (refused, true)] {
+        let out = if full { std::fs::File::create("/dev/full").expect("a full device").into() } else { Stdio::piped() };
+        let (status, printed, said) = ran(file, out);
+        assert_eq!((status, printed), (Some(2), nothing()), "{file}");
+        assert!(said.contains(if full { "could not be written" } else { "could not be read" }), "{file}: {said}");
+    }
 }
 
 /// The plan call needs room on the stack; a thread as Rust makes it has enough.

@@ -1,7 +1,7 @@
 //! Page plans of measured worksheets: a safe face of the static library `yuzhbani`.
 //!
 //! A job's bytes are planned by [`Plan::of`], lists of measured slots by [`Plan::of_lists`]. Whoever keeps run lists of his own calls
-//! [`plan_into`], [`plan_lists_into`] and [`page_of`].
+//! [`plan_into`], [`plan_lists_into`], [`page_of`], [`head_into`] and [`block_into`].
 
 use std::fmt;
 use std::io::{self, Write};
@@ -21,8 +21,14 @@ pub type Numbers = [u64; 16];
 /// What is asked of a plan of lists, as numbers; [`Request::numbers`] has their order. Any numbers have an answer.
 pub type RequestNumbers = [u64; 30];
 
-/// The bytes that a block of page lines has room for.
-const BLOCK: usize = 65_536;
+/// The bytes that the first lines of a plan, or the line of a refusal, have room in.
+pub const HEAD: usize = 256;
+
+/// The bytes that a block of page lines has room in.
+pub const BLOCK: usize = 65_536;
+
+/// The numbers of a block: how many pages have their lines in it, and how many bytes the lines are.
+pub type BlockNumbers = [u64; 2];
 
 mod raw {
     // A slice of Rattle is a pointer and a length here, an array or a number that is lent a pointer.
@@ -80,13 +86,14 @@ mod raw {
 
         pub fn yuzhbani_block(
             numbers: *const [u64; 16],
-            next: *mut u64,
+            from: u64,
             row_runs: *const u64,
             row_runs_len: usize,
             column_runs: *const u64,
             column_runs_len: usize,
+            block: *mut [u64; 2],
             out: *mut [u8; 65_536],
-        ) -> usize;
+        ) -> u8;
     }
 }
 
@@ -326,31 +333,43 @@ pub fn page_of(numbers: &Numbers, number: u64, row_runs: &[u64], column_runs: &[
     Ok(Page { vertical: page[0], horizontal: page[1], rows: run(2), columns: run(7) })
 }
 
-/// The first lines that program `plan` prints, of the answer of a plan call and the plan's numbers.
-pub fn head_of(answer: u8, numbers: &Numbers) -> String {
-    let mut out = [0; 256];
+/// Puts the first lines that program `plan` prints, of the answer of a plan call and the plan's numbers, at the start of `out`, and
+/// answers how many bytes they are. What stands behind them stays.
+pub fn head_into(answer: u8, numbers: &Numbers, out: &mut [u8; HEAD]) -> usize {
     // Safe: as in `plan_into`.
-    let end = unsafe { raw::yuzhbani_head(answer, numbers, &mut out) };
-    String::from_utf8_lossy(&out[..end]).into_owned()
+    unsafe { raw::yuzhbani_head(answer, numbers, out) }
 }
 
-/// Lines of pages from the number `next` on, as many as a block of bytes has room for, and moves `next` past them. No lines: there
-/// is no page with that number.
-pub fn block_of(numbers: &Numbers, next: &mut u64, row_runs: &[u64], column_runs: &[u64]) -> Vec<u8> {
-    let mut out = Box::new([0; BLOCK]);
+/// The same as a string.
+pub fn head_of(answer: u8, numbers: &Numbers) -> String {
+    let mut out = [0; HEAD];
+    let bytes = head_into(answer, numbers, &mut out);
+    String::from_utf8_lossy(&out[..bytes]).into_owned()
+}
+
+/// Puts the lines of the pages from the number `from` on at the start of `out`, as many as have room there, and how many pages and bytes
+/// they are into `block`. What stands behind the lines stays. A refusal (11, 14) writes nothing; else there is at least one page.
+pub fn block_into(
+    numbers: &Numbers,
+    from: u64,
+    row_runs: &[u64],
+    column_runs: &[u64],
+    block: &mut BlockNumbers,
+    out: &mut [u8; BLOCK],
+) -> Result<(), Refusal> {
     // Safe: as in `plan_into`.
-    let end = unsafe {
+    answered(unsafe {
         raw::yuzhbani_block(
             numbers,
-            next,
+            from,
             row_runs.as_ptr(),
             row_runs.len(),
             column_runs.as_ptr(),
             column_runs.len(),
-            &mut *out,
+            block,
+            out,
         )
-    };
-    out[..end].to_vec()
+    })
 }
 
 /// A finished plan with its runs.
@@ -414,13 +433,15 @@ impl Plan {
     /// Writes what program `plan` prints.
     pub fn print(&self, out: &mut impl Write) -> io::Result<()> {
         out.write_all(head_of(0, &self.numbers).as_bytes())?;
-        let mut next = 1;
-        loop {
-            let block = block_of(&self.numbers, &mut next, &self.rows, &self.columns);
-            if block.is_empty() {
-                return Ok(());
-            }
-            out.write_all(&block)?;
+        let (mut block, mut lines) = ([0; 2], Box::new([0; BLOCK]));
+        let mut done = 0;
+        while done < self.pages() {
+            // No block of a plan that was planned is refused.
+            block_into(&self.numbers, done + 1, &self.rows, &self.columns, &mut block, &mut lines).map_err(io::Error::other)?;
+            let [pages, bytes] = block;
+            out.write_all(&lines[..bytes as usize])?;
+            done += pages;
         }
+        Ok(())
     }
 }

@@ -1,15 +1,15 @@
 // A worked figure as a line, and floats that no constant can hold.
 use crate::text::word;
 
-pub fn nan() -> f64 {
+pub(crate) fn nan() -> f64 {
     0.0 / 0.0
 }
 
-pub fn infinity() -> f64 {
+pub(crate) fn infinity() -> f64 {
     1.0 / 0.0
 }
 
-pub fn say(figure: &[u8], ok: bool) {
+pub(crate) fn say(figure: &[u8], ok: bool) {
     word(figure);
     if ok {
         word(b" ok\n");

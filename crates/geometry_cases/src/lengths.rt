@@ -117,7 +117,7 @@ fn scale_figures() {
     say(b"scale min 1001", refuses(scaled(i64::MIN, 1001)));
 }
 
-pub fn all_figures() {
+pub(crate) fn all_figures() {
     inches_figures();
     capacity_figures();
     overflow_figures();

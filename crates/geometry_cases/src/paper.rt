@@ -184,7 +184,7 @@ fn below_zero() -> bool {
     box_is(answer, 14863, 0, -1, 572795) & holds(answer)
 }
 
-pub fn all_figures() {
+pub(crate) fn all_figures() {
     paper_figures();
     let absent = geometry::content_geometry(letter(), MarginSetting::Absent);
     say(

@@ -2,15 +2,15 @@
 use libc::STDOUT_FILENO;
 use units::Fixed;
 
-pub fn word(bytes: &[u8]) {
+pub(crate) fn word(bytes: &[u8]) {
     io::write_all(STDOUT_FILENO, bytes);
 }
 
-pub fn count(n: u64) {
+pub(crate) fn count(n: u64) {
     io::print_decimal(STDOUT_FILENO, n);
 }
 
-pub fn number(length: Fixed) {
+pub(crate) fn number(length: Fixed) {
     if length.raw() < 0 {
         word(b"-");
     }

@@ -15,7 +15,7 @@ fn byte(block: &mut [u8; BLOCK], at: usize, b: u8) -> usize {
 }
 
 // Puts bytes from the place `at` on, and returns the place after them. What does not fit is left out.
-pub fn text(block: &mut [u8; BLOCK], at: usize, bytes: &[u8]) -> usize {
+pub(crate) fn text(block: &mut [u8; BLOCK], at: usize, bytes: &[u8]) -> usize {
     let mut next = at;
     let mut i = 0;
     while i < bytes.len() {
@@ -26,7 +26,7 @@ pub fn text(block: &mut [u8; BLOCK], at: usize, bytes: &[u8]) -> usize {
 }
 
 // Puts the first n bytes of a line.
-pub fn line(block: &mut [u8; BLOCK], at: usize, bytes: &[u8; LINE], n: usize) -> usize {
+pub(crate) fn line(block: &mut [u8; BLOCK], at: usize, bytes: &[u8; LINE], n: usize) -> usize {
     if n > LINE {
         return at;
     }
@@ -35,7 +35,7 @@ pub fn line(block: &mut [u8; BLOCK], at: usize, bytes: &[u8; LINE], n: usize) ->
 }
 
 // Writes the bytes before a place.
-pub fn write(block: &[u8; BLOCK], end: usize) {
+pub(crate) fn write(block: &[u8; BLOCK], end: usize) {
     if end > BLOCK {
         return;
     }
@@ -44,7 +44,7 @@ pub fn write(block: &[u8; BLOCK], end: usize) {
 }
 
 // The place for another line: as it is, or the first after the block was written.
-pub fn room(block: &[u8; BLOCK], at: usize) -> usize {
+pub(crate) fn room(block: &[u8; BLOCK], at: usize) -> usize {
     if at < BLOCK - LINE {
         return at;
     }

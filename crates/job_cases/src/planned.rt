@@ -68,7 +68,7 @@ fn put_answer(
 }
 
 // Prints what `plan` prints for a job's bytes, and an empty line.
-pub fn print_plan(bytes: &[u8]) {
+pub(crate) fn print_plan(bytes: &[u8]) {
     let mut row_runs = [0u64; NUMBERS];
     let mut column_runs = [0u64; NUMBERS];
     let planning = plan_job(bytes, &mut row_runs, &mut column_runs);

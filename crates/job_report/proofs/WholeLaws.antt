@@ -1,100 +1,111 @@
--- Blocks one after another tell all pages of a plan. Assumes nothing.
+-- What a block that is given holds, and that blocks one after another tell all pages of a plan. Assumes nothing.
 use mathlib.Core.Path.{_≡_, refl, sym, ap, _∙_}
-use mathlib.Core.Bool.{true, false}
-use mathlib.Core.List.{List, [], _∷_, _++_}
-use Prim.Native.Nat.{ℕ, zero, suc, _+_, _-_, _≤_, _<_}
+use mathlib.Core.List.{List, [], _++_}
+use Prim.Native.Nat.{ℕ, _+_, _-_, _≤_, _<_}
 use native.Mathlib.Omega.{arith}
-use lib.ListN.{length, take}
-use Rattle.units.specs.Outcome.{given}
+use lib.ListN.{length, take, drop, length-drop}
+use lib.Seq.{take-all, take-append-seam, drop-drop}
+use Rattle.units.specs.Outcome.{Outcome, given, refused, andThen}
 use Rattle.planner_rules.specs.declared.pages.Page.{Page}
 use Rattle.planner_rules.specs.declared.pages.Plan.{Plan}
-use Rattle.planner_rules.specs.Pages.{holdsRuns, pagesOf, pageNumbered, numbered}
-use Rattle.planner_rules.proofs.PageLaws.{numbered-past}
+use Rattle.planner_rules.specs.Pages.{pagesOf, pageNumbered}
+use Rattle.io.specs.Counts.{Counts}
+use Rattle.planner_rules.proofs.NoTen.{not-given}
 use Rattle.job_report.specs.declared.blocks.Block.{Block}
-use Rattle.job_report.specs.Blocks.{pageLines, linesFrom, isThere, BlockOf}
-use Rattle.job_report.proofs.BlockLaws.{lines-then}
-use Rattle.planner_rules.proofs.Laws.{split}
+use Rattle.job_report.specs.declared.blocks.BlockAnswer.the-variants.{Value}
+use Rattle.job_report.specs.Blocks.{linesFrom, pagesFrom, pagesHeld, blockLines, blockFrom, pageBlock, isThere, BlockPut}
+use Rattle.job_report.proofs.TextLaws.{lines-within}
+use Rattle.job_report.proofs.BlockLaws.{block-of-page, all-within, first-there, held-within, held-some, lines-add}
 
 module _ (p : Plan) (rows columns : List ℕ) where
-  joined : (from middle next : ℕ) (bytes : List ℕ) → from ≤ middle → middle ≤ next → bytes ≡ pageLines p rows columns from (middle - from)
-      → bytes ++ pageLines p rows columns middle (next - middle) ≡ pageLines p rows columns from (next - from)
-  joined from middle next bytes f g e =
-      let sum : next - from ≡ (middle - from) + (next - middle) = omega arith in
-      let place : from + (middle - from) ≡ middle = omega arith in
-      rw (sum, lines-then p rows columns from (middle - from) (next - middle), place, e)
+  abbrev pages : List Page
+  pages = pagesOf p rows columns
 
-  lines-of : (pages : List Page) (j : ℕ) → ((n : ℕ) → pageNumbered p rows columns (suc n + j) ≡ numbered pages (suc n))
-      → pageLines p rows columns (suc j) (length pages) ≡ linesFrom (suc j) pages
-  unfolding pageLines linesFrom numbered
-  lines-of [] j f = refl
-  lines-of (x ∷ pages) j f =
-      let e : suc zero + j ≡ suc j = omega arith in
-      let first : pageNumbered p rows columns (suc j) ≡ given x = rw e at (f zero) in
-      rw (first, lines-of pages (suc j) (λ n. let z : suc n + suc j ≡ suc (suc n) + j = omega arith in rw z (f (suc n))))
+  -- ---- one block
 
-  -- "it takes pages one by one by number": the lines from number 1 on, as many as there are pages, are the lines of all pages in their order
-  pub all-told : holdsRuns p rows columns ≡ true → pageLines p rows columns 1 (length (pagesOf p rows columns)) ≡ linesFrom 1 (pagesOf p rows columns)
-  unfolding pageNumbered
-  all-told eleven = lines-of (pagesOf p rows columns) 0 (λ n. let z : suc n + 0 ≡ suc n = omega arith in rw (z, eleven))
+  -- a block that is given holds at least one page, and none past the last
+  pub record Holds (from : ℕ) (b : Block) : Type 0 where
+    pub from-one : 1 ≤ from
+    pub some : 1 ≤ b .pages
+    pub to-last : from + b .pages ≤ length pages + 1
+    pub to-count : from + b .pages ≤ p .pages + 1
+    pub is : b ≡ blockFrom p rows columns from
 
-  -- ---- blocks up to the end
+  pub block-holds : (from : ℕ) (b : Block) → pageBlock p rows columns from ≡ given b → Holds from b
+  unfolding pagesHeld
+  block-holds from b e = go (pageNumbered p rows columns from) refl (sym (block-of-page p rows columns from) ∙ e)
+    where
+      go : (o : Outcome Page) → pageNumbered p rows columns from ≡ o → andThen o (λ _. given (blockFrom p rows columns from)) ≡ given b → Holds from b
+      go (refused n) i j = absurd (not-given b n (sym j))
+      go (given page) i j =
+          let first = first-there p rows columns from (ap isThere i) in
+          let low = first .from-one in
+          let high = first .to-count in
+          let rest : length (pagesFrom p rows columns from) ≡ length pages - (from - 1) = length-drop (from - 1) pages in
+          let is : b ≡ blockFrom p rows columns from = cc in
+          let count : b .pages ≡ pagesHeld p rows columns from = ap (λ (x : Block). x .pages) is in
+          let within = held-within 0 from (pagesFrom p rows columns from) in
+          let some = held-some from (pagesFrom p rows columns from) (omega arith) in
+          record {
+            from-one = low;
+            some = omega arith;
+            to-last = omega arith;
+            to-count = omega (arith, all-within p rows columns);
+            is = is;
+          }
+
+  -- what a caller has: the block, and its bytes at the start of the array, which are its lines
+  pub record Got (from : ℕ) (b : Block) (new : List ℕ) : Type 0 where
+    pub holds : Holds from b
+    pub counts : Counts (b .bytes) new
+    pub lines-are : take (b .bytes) new ≡ blockLines p rows columns from
+
+  pub block-got : (from : ℕ) (b : Block) (old new : List ℕ) → BlockPut p rows columns from (Value b) old new → Got from b new
+  block-got from b old new v =
+      let holds = block-holds from b (sym (v .answer)) in
+      let lines = blockLines p rows columns from in
+      let count : b .bytes ≡ length lines = ap (λ (x : Block). x .bytes) (holds .is) in
+      let array : new ≡ lines ++ drop (length lines) old = rw (← (v .answer)) at (v .array-is) in
+      record {
+        holds = holds;
+        counts = lines-within lines (b .bytes) old new (record { count = count; array-is = array });
+        lines-are = rw (count, array) (take-append-seam lines (drop (length lines) old));
+      }
+
+  -- ---- blocks up to the last page
 
   -- blocks one after another, from a number up to the next, and their bytes
   pub data Blocks : ℕ → ℕ → List ℕ → Type 0 where
     none : {n : ℕ} → Blocks n n []
-    another : {from next : ℕ} {bytes : List ℕ} (a : Block) (x : List ℕ) → BlockOf p rows columns from a x → Blocks (a .next) next bytes
-        → Blocks from next (take (a .end) x ++ bytes)
+    another : {from next : ℕ} {bytes : List ℕ} (b : Block) (old new : List ℕ) → BlockPut p rows columns from (Value b) old new
+        → Blocks (from + b .pages) next bytes → Blocks from next (take (b .bytes) new ++ bytes)
 
-  -- they hold the lines of all pages between
-  pub record Between (from next : ℕ) (bytes : List ℕ) : Type 0 where
-    pub onward : from ≤ next
-    pub there : (n : ℕ) → from ≤ n → n < next → isThere (pageNumbered p rows columns n) ≡ true
-    pub lines-are : bytes ≡ pageLines p rows columns from (next - from)
+  -- they are the lines of the pages between
+  record Between (from next : ℕ) (bytes : List ℕ) : Type 0 where
+    onward : from ≤ next
+    lines-are : bytes ≡ linesFrom from (take (next - from) (pagesFrom p rows columns from))
 
-  pub between : {from next : ℕ} {bytes : List ℕ} → Blocks from next bytes → Between from next bytes
-  unfolding pageLines
-  between {from} none = record { onward = omega arith; there = λ n a b. absurd (omega arith); lines-are = let e : from - from ≡ 0 = omega arith in rw e }
-  between {from} {next} (another {bytes = bytes} a x v rest) =
-      let w = between rest in
-      let f = v .onward in
-      let g = w .onward in
+  between : {from next : ℕ} {bytes : List ℕ} → Blocks from next bytes → Between from next bytes
+  unfolding linesFrom blockLines pagesHeld
+  between {from} none = record { onward = omega arith; lines-are = let e : from - from ≡ 0 = omega arith in rw e }
+  between {from} {next} (another {bytes = bytes} b old new v blocks) =
+      let w = between blocks in
+      let on = w .onward in
+      let got = block-got from b old new v in
+      let h = got .holds in
+      let rest = pagesFrom p rows columns from in
+      let k = pagesHeld p rows columns from in
+      let count : b .pages ≡ k = ap (λ (x : Block). x .pages) (h .is) in
+      let sum : next - from ≡ k + (next - (from + k)) = omega arith in
+      let place : from + k - 1 ≡ from - 1 + k = omega (arith, h .from-one) in
+      let after : pagesFrom p rows columns (from + k) ≡ drop k rest = rw place (sym (drop-drop k (from - 1) pages)) in
+      let more : bytes ≡ linesFrom (from + k) (take (next - (from + k)) (drop k rest)) = rw (count, after) at (w .lines-are) in
       record {
         onward = omega arith;
-        there = λ n b c. split (a .next) n (λ d. w .there n d c) (λ d. v .there n b d);
-        lines-are = rw (w .lines-are) (joined from (a .next) next (take (a .end) x) (v .onward) (w .onward) (v .lines-are));
+        lines-are = rw (got .lines-are, more, sum) (sym (lines-add from k (next - (from + k)) rest (held-within 0 from rest)));
       }
 
-  module _ (eleven : holdsRuns p rows columns ≡ true) where
-    abbrev pages : List Page
-    pages = pagesOf p rows columns
-
-    asked : (n : ℕ) → pageNumbered p rows columns n ≡ numbered pages n
-    unfolding pageNumbered
-    asked n = rw eleven
-
-    some : (xs : List Page) (n : ℕ) → 1 ≤ n → n ≤ length xs → isThere (numbered xs n) ≡ true
-    unfolding numbered
-    some [] n h l = absurd (omega arith)
-    some (x ∷ xs) zero h l = absurd (omega arith)
-    some (x ∷ xs) (suc zero) h l = refl
-    some (x ∷ xs) (suc (suc n)) h l = some xs (suc n) (omega arith) (omega arith)
-
-    past : (n : ℕ) → length pages < n → isThere (pageNumbered p rows columns n) ≡ false
-    past n h = ap isThere (asked n ∙ numbered-past pages n h)
-
-    never : (n : ℕ) → isThere (pageNumbered p rows columns n) ≡ true → isThere (pageNumbered p rows columns n) ≡ false → ⊥
-    never n a b = let e : true ≡ false = sym a ∙ b in let z : _≡_ {A = ℕ} 0 1 = cc in omega arith
-
-    -- blocks from 1 on up to a number that has no page hold the lines of all pages, in order
-    pub blocks-tell-all : (next : ℕ) (bytes : List ℕ) → Blocks 1 next bytes → isThere (pageNumbered p rows columns next) ≡ false → bytes ≡ linesFrom 1 pages
-    blocks-tell-all next bytes b no-page =
-        let w = between b in
-        let f = w .onward in
-        let all : next - 1 ≡ length pages =
-        split next (length pages)
-        (λ h. absurd (never next (ap isThere (asked next) ∙ some pages next (omega arith) h) no-page))
-        (λ h.
-        split next (suc (length pages))
-        (λ l. omega arith)
-        (λ l. absurd (never (next - 1) (w .there (next - 1) (omega arith) (omega arith)) (past (next - 1) (omega arith))))) in
-        w .lines-are ∙ ap (pageLines p rows columns 1) all ∙ all-told eleven
+  -- "it takes pages one by one by number": blocks from page 1 on, up to a number past the last page, are the lines of all pages, once and
+  -- in order
+  pub blocks-tell-all : (next : ℕ) (bytes : List ℕ) → Blocks 1 next bytes → length pages < next → bytes ≡ linesFrom 1 pages
+  blocks-tell-all next bytes b past = between b .lines-are ∙ ap (linesFrom 1) (take-all (next - 1) pages (omega arith))

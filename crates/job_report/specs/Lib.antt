@@ -1,4 +1,4 @@
--- What the contracts of `report` cite.
+-- What the contracts of `job_report` cite.
 pub mod Lines
 pub mod Blocks
 pub mod Figures

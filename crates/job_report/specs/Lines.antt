@@ -1,12 +1,15 @@
--- What a plan is told by: document 01, section "Jobs", in bytes of ASCII. Assumes nothing.
+-- What a plan is told by: document 01, section "Jobs", in bytes of ASCII; and text in a lent array. Assumes nothing.
+use mathlib.Core.Path.{_≡_}
 use mathlib.Core.Bool.{cond}
 use mathlib.Core.List.{List, [], _∷_, _++_}
 use Prim.Native.Nat.{ℕ, zero, suc, _+_, _/_, _%_}
 use lib.Dec.{ltb}
+use lib.ListN.{length, take, drop}
 use Rattle.units.specs.Outcome.{Outcome, given, refused}
 use Rattle.planner_rules.specs.declared.pages.Notes.{Notes}
 use Rattle.planner_rules.specs.declared.pages.Page.{Page}
 use Rattle.planner_rules.specs.declared.pages.Plan.{Plan}
+use Rattle.planner_rules.specs.Slots.{written}
 
 -- ---- a line
 
@@ -64,3 +67,20 @@ unfoldable pub headLines : Outcome Plan → List ℕ
 unfolding planLine notesLine refusalLine
 headLines (given p) = planLine p ++ notesLine (p .notes)
 headLines (refused n) = refusalLine n
+
+-- ---- text in a lent array
+
+-- the answer r of a call that puts lines at the start of an array, which was `old`: how many bytes; and the array, the lines followed by
+-- what stood there before
+pub record LinesPut (lines : List ℕ) (r : ℕ) (old new : List ℕ) : Type 0 where
+  pub count : r ≡ length lines
+  pub array-is : new ≡ written lines old
+
+-- an array that was `old`, with a text in it from the place `at` on: what stood before that place, the text, and what stood behind it
+abbrev pub put : ℕ → List ℕ → List ℕ → List ℕ
+put at text old = take at old ++ written text (drop at old)
+
+-- the same of a text from a place on, where r is the place after it (for the private functions)
+pub record PutAt (text : List ℕ) (at r : ℕ) (old new : List ℕ) : Type 0 where
+  pub after : r ≡ at + length text
+  pub array-is : new ≡ put at text old

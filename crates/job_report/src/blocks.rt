@@ -1,37 +1,75 @@
 // Blocks of page lines (document 01, section "Jobs"), for a program that writes many at a time.
 use crate::lines::page_at;
+use planner_pages::page_numbered;
 use planner_rules::PageAnswer;
 use planner_rules::Plan;
-ghost use Rattle.job_report.specs.Blocks.{BlockOf};
+ghost use mathlib.Core.Path.{_≡_};
+ghost use mathlib.Core.Bool.{true};
+ghost use Rattle.planner_rules.specs.Pages.{pageNumbered};
+ghost use Rattle.job_report.specs.Blocks.{BlockPut, LinesHeld, isThere};
 
 // The last place at which 256 bytes of a block are left.
 const LAST: usize = 65_280;
 
-// A block: the number of the first page that is not in it, and how many bytes it has.
+// A block: how many pages have their lines in it, and how many bytes the lines are. (A count, and not the next number: the number after the
+// last page of 2^64 - 1 is no u64.)
 pub struct Block {
-    pub next: u64,
-    pub end: usize,
+    pub pages: u64,
+    pub bytes: usize,
 }
 
-// Puts the lines of the pages from a number on at the start of `out`, as long as there is a page and 256 bytes are left.
-pub fn page_block(
+// What `page_block` answers: the block, or a refusal with its number.
+pub enum BlockAnswer {
+    Value(Block),
+    Refused(u8),
+}
+
+// Puts the lines of the pages from one that is there on. No number goes past the plan's count.
+fn lines_held(
     plan: Plan,
     from: u64,
     row_runs: &[u64],
     column_runs: &[u64],
     out: &mut [u8; 65536],
 ) -> Block
-    ensures { λ r. ⌜ BlockOf plan (now («row_runs» .entry)) (now («column_runs» .entry)) from r (now (out .exit)) ⌝ }
+    requires { ⌜ isThere (pageNumbered plan (now «row_runs») (now «column_runs») from) ≡ true ⌝ }
+    ensures { λ r. ⌜ LinesHeld plan (now («row_runs» .entry)) (now («column_runs» .entry)) from r (now (out .entry)) (now (out .exit)) ⌝ }
 {
-    let mut next = from;
-    let mut end = 0;
-    while (end <= LAST) & (next < u64::MAX) {
-        let answer = planner_pages::page_numbered(plan, next, row_runs, column_runs);
+    let most = plan.pages - from;
+    let mut pages = 0;
+    let mut bytes = 0;
+    while (bytes <= LAST) & (pages <= most) {
+        let number = from + pages;
+        let answer = page_numbered(plan, number, row_runs, column_runs);
         let PageAnswer::Value(page) = answer else {
-            return Block { next, end };
+            return Block { pages, bytes };
         };
-        end = page_at(out, end, next, page);
-        next += 1;
+        bytes = page_at(out, bytes, number, page);
+        pages += 1;
     }
-    Block { next, end }
+    Block { pages, bytes }
+}
+
+// Puts the lines of the pages from a number on at the start of `out`, as long as there is a page and 256 bytes are left, and answers how
+// many; or refuses and writes nothing.
+pub fn page_block(
+    plan: Plan,
+    from: u64,
+    row_runs: &[u64],
+    column_runs: &[u64],
+    out: &mut [u8; 65536],
+) -> BlockAnswer
+    ensures { λ r. ⌜ BlockPut plan (now («row_runs» .entry)) (now («column_runs» .entry)) from r (now (out .entry)) (now (out .exit)) ⌝ }
+{
+    let first = page_numbered(plan, from, row_runs, column_runs);
+    match first {
+        PageAnswer::Value(_) => BlockAnswer::Value(lines_held(
+            plan,
+            from,
+            row_runs,
+            column_runs,
+            out,
+        )),
+        PageAnswer::Refused(number) => BlockAnswer::Refused(number),
+    }
 }

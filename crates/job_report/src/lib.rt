@@ -4,6 +4,7 @@ mod lines;
 mod text;
 
 pub use blocks::Block;
+pub use blocks::BlockAnswer;
 pub use blocks::page_block;
 pub use lines::head_lines;
 pub use lines::page_line;

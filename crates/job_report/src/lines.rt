@@ -4,18 +4,15 @@ use planner_rules::Notes;
 use planner_rules::Page;
 use planner_rules::Plan;
 use planner_rules::Planning;
-ghost use mathlib.Core.Path.{_≡_};
-ghost use mathlib.Core.List.{_++_};
 ghost use Prim.Native.Nat.{_+_, _≤_};
-ghost use lib.ListN.{length, take};
-ghost use Rattle.io.specs.Counts.{Counts};
+ghost use lib.ListN.{length};
 ghost use Rattle.planner_rules.specs.Plan.{planOutcome};
 ghost use Rattle.job_report.specs.Lines as section;
 
 // The permille and the pages.
 fn plan_line(out: &mut [u8], at: usize, plan: Plan) -> usize
     requires { ⌜ at + 47 ≤ length (now out) ⌝ }
-    ensures { λ r. ⌜ take r (now (out .exit)) ≡ take at (now (out .entry)) ++ section.planLine plan ⌝ }
+    ensures { λ r. ⌜ section.PutAt (section.planLine plan) at r (now (out .entry)) (now (out .exit)) ⌝ }
     ensures { λ r. ⌜ r ≤ at + 47 ⌝ }
 {
     let list = [plan.permille as u64, plan.pages];
@@ -25,7 +22,7 @@ fn plan_line(out: &mut [u8], at: usize, plan: Plan) -> usize
 // The nine notes in order.
 fn notes_line(out: &mut [u8], at: usize, notes: Notes) -> usize
     requires { ⌜ at + 195 ≤ length (now out) ⌝ }
-    ensures { λ r. ⌜ take r (now (out .exit)) ≡ take at (now (out .entry)) ++ section.notesLine notes ⌝ }
+    ensures { λ r. ⌜ section.PutAt (section.notesLine notes) at r (now (out .entry)) (now (out .exit)) ⌝ }
     ensures { λ r. ⌜ r ≤ at + 195 ⌝ }
 {
     let list = [
@@ -45,7 +42,7 @@ fn notes_line(out: &mut [u8], at: usize, notes: Notes) -> usize
 // The number of a refusal.
 fn refusal_line(out: &mut [u8], at: usize, number: u8) -> usize
     requires { ⌜ at + 24 ≤ length (now out) ⌝ }
-    ensures { λ r. ⌜ take r (now (out .exit)) ≡ take at (now (out .entry)) ++ section.refusalLine number ⌝ }
+    ensures { λ r. ⌜ section.PutAt (section.refusalLine number) at r (now (out .entry)) (now (out .exit)) ⌝ }
     ensures { λ r. ⌜ r ≤ at + 24 ⌝ }
 {
     let list = [number as u64];
@@ -55,7 +52,7 @@ fn refusal_line(out: &mut [u8], at: usize, number: u8) -> usize
 // A page and its number.
 pub(crate) fn page_at(out: &mut [u8], at: usize, number: u64, page: Page) -> usize
     requires { ⌜ at + 194 ≤ length (now out) ⌝ }
-    ensures { λ r. ⌜ take r (now (out .exit)) ≡ take at (now (out .entry)) ++ section.pageLine number page ⌝ }
+    ensures { λ r. ⌜ section.PutAt (section.pageLine number page) at r (now (out .entry)) (now (out .exit)) ⌝ }
     ensures { λ r. ⌜ r ≤ at + 194 ⌝ }
 {
     let rows = page.rows;
@@ -76,8 +73,7 @@ pub(crate) fn page_at(out: &mut [u8], at: usize, number: u64, page: Page) -> usi
 
 // The first lines of what a plan is told by, or the line of a refusal, at the start of `out`; it answers how many bytes.
 pub fn head_lines(planning: Planning, out: &mut [u8; 256]) -> usize
-    ensures { λ r. ⌜ take r (now (out .exit)) ≡ section.headLines (planOutcome planning) ⌝ }
-    ensures { λ r. ⌜ Counts r (now (out .exit)) ⌝ }
+    ensures { λ r. ⌜ section.LinesPut (section.headLines (planOutcome planning)) r (now (out .entry)) (now (out .exit)) ⌝ }
 {
     match planning {
         Planning::Value(plan) => {
@@ -91,8 +87,7 @@ pub fn head_lines(planning: Planning, out: &mut [u8; 256]) -> usize
 
 // The line of a page, at the start of `out`; it answers how many bytes.
 pub fn page_line(number: u64, page: Page, out: &mut [u8; 256]) -> usize
-    ensures { λ r. ⌜ take r (now (out .exit)) ≡ section.pageLine number page ⌝ }
-    ensures { λ r. ⌜ Counts r (now (out .exit)) ⌝ }
+    ensures { λ r. ⌜ section.LinesPut (section.pageLine number page) r (now (out .entry)) (now (out .exit)) ⌝ }
 {
     page_at(out, 0, number, page)
 }

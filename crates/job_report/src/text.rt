@@ -1,15 +1,13 @@
 // Text in ASCII. Each function puts its text from the place `at` on, and returns the place after it.
-ghost use mathlib.Core.Path.{_≡_};
-ghost use mathlib.Core.List.{[], _∷_, _++_};
+ghost use mathlib.Core.List.{[], _∷_};
 ghost use Prim.Native.Nat.{_+_, _*_, _≤_, _<_};
-ghost use lib.ListN.{length, take};
+ghost use lib.ListN.{length};
 ghost use Rattle.job_report.specs.Lines as section;
 
 // One byte.
 fn byte(out: &mut [u8], at: usize, b: u8) -> usize
     requires { ⌜ at < length (now out) ⌝ }
-    ensures { λ r. ⌜ take r (now (out .exit)) ≡ take at (now (out .entry)) ++ (b ∷ []) ⌝ }
-    ensures { λ r. ⌜ r ≡ at + 1 ⌝ }
+    ensures { λ r. ⌜ section.PutAt (b ∷ []) at r (now (out .entry)) (now (out .exit)) ⌝ }
 {
     out[at] = b;
     at + 1
@@ -18,8 +16,7 @@ fn byte(out: &mut [u8], at: usize, b: u8) -> usize
 // Some bytes.
 fn text(out: &mut [u8], at: usize, bytes: &[u8]) -> usize
     requires { ⌜ at + length (now bytes) ≤ length (now out) ⌝ }
-    ensures { λ r. ⌜ take r (now (out .exit)) ≡ take at (now (out .entry)) ++ now (bytes .entry) ⌝ }
-    ensures { λ r. ⌜ r ≡ at + length (now (bytes .entry)) ⌝ }
+    ensures { λ r. ⌜ section.PutAt (now (bytes .entry)) at r (now (out .entry)) (now (out .exit)) ⌝ }
 {
     let mut i = 0;
     while i < bytes.len() {
@@ -32,7 +29,7 @@ fn text(out: &mut [u8], at: usize, bytes: &[u8]) -> usize
 // A number after a space.
 fn number(out: &mut [u8], at: usize, n: u64) -> usize
     requires { ⌜ at + 21 ≤ length (now out) ⌝ }
-    ensures { λ r. ⌜ take r (now (out .exit)) ≡ take at (now (out .entry)) ++ (32 ∷ section.decimal n) ⌝ }
+    ensures { λ r. ⌜ section.PutAt (32 ∷ section.decimal n) at r (now (out .entry)) (now (out .exit)) ⌝ }
     ensures { λ r. ⌜ r ≤ at + 21 ⌝ }
 {
     let mut digits = [0u8; 20];
@@ -44,7 +41,7 @@ fn number(out: &mut [u8], at: usize, n: u64) -> usize
 // Each number after a space.
 fn numbers(out: &mut [u8], at: usize, list: &[u64]) -> usize
     requires { ⌜ at + 21 * length (now list) ≤ length (now out) ⌝ }
-    ensures { λ r. ⌜ take r (now (out .exit)) ≡ take at (now (out .entry)) ++ section.numbers (now (list .entry)) ⌝ }
+    ensures { λ r. ⌜ section.PutAt (section.numbers (now (list .entry))) at r (now (out .entry)) (now (out .exit)) ⌝ }
     ensures { λ r. ⌜ r ≤ at + 21 * length (now (list .entry)) ⌝ }
 {
     let mut next = at;
@@ -59,7 +56,7 @@ fn numbers(out: &mut [u8], at: usize, list: &[u64]) -> usize
 // A word, its numbers, and a line end.
 pub(crate) fn line(out: &mut [u8], at: usize, word: &[u8], list: &[u64]) -> usize
     requires { ⌜ at + length (now word) + 21 * length (now list) + 1 ≤ length (now out) ⌝ }
-    ensures { λ r. ⌜ take r (now (out .exit)) ≡ take at (now (out .entry)) ++ section.line (now (word .entry)) (now (list .entry)) ⌝ }
+    ensures { λ r. ⌜ section.PutAt (section.line (now (word .entry)) (now (list .entry))) at r (now (out .entry)) (now (out .exit)) ⌝ }
     ensures { λ r. ⌜ r ≤ at + length (now (word .entry)) + 21 * length (now (list .entry)) + 1 ⌝ }
 {
     let after_word = text(out, at, word);

@@ -10,7 +10,7 @@ use planner_rules::Widening;
 pub const LINE: usize = 4096;
 
 // Each function puts its text from the place `at` on, and returns the place after it.
-pub fn byte(out: &mut [u8; LINE], at: usize, b: u8) -> usize {
+pub(crate) fn byte(out: &mut [u8; LINE], at: usize, b: u8) -> usize {
     if at >= LINE {
         return at;
     }
@@ -18,7 +18,7 @@ pub fn byte(out: &mut [u8; LINE], at: usize, b: u8) -> usize {
     at + 1
 }
 
-pub fn text(out: &mut [u8; LINE], at: usize, bytes: &[u8]) -> usize {
+pub(crate) fn text(out: &mut [u8; LINE], at: usize, bytes: &[u8]) -> usize {
     let mut next = at;
     let mut i = 0;
     while i < bytes.len() {
@@ -29,20 +29,20 @@ pub fn text(out: &mut [u8; LINE], at: usize, bytes: &[u8]) -> usize {
 }
 
 // A space and a number.
-pub fn number(out: &mut [u8; LINE], at: usize, n: u64) -> usize {
+pub(crate) fn number(out: &mut [u8; LINE], at: usize, n: u64) -> usize {
     let mut digits = [0u8; 20];
     let k = io::decimal(n, &mut digits);
     let next = byte(out, at, b' ');
     text(out, next, &digits[..k])
 }
 
-pub fn refusal(out: &mut [u8; LINE], at: usize, n: u8) -> usize {
+pub(crate) fn refusal(out: &mut [u8; LINE], at: usize, n: u8) -> usize {
     let next = text(out, at, b"no");
     number(out, next, wider(n))
 }
 
 // A title, and the notes of titles ignored and expanded.
-pub fn widening(out: &mut [u8; LINE], answer: Widening) -> usize {
+pub(crate) fn widening(out: &mut [u8; LINE], answer: Widening) -> usize {
     match answer {
         Widening::Value(widened) => {
             let title = widened.title;
@@ -79,7 +79,7 @@ fn partition(out: &mut [u8; LINE], answer: Partition) -> usize {
 }
 
 // The numbers of a list, after a `;`.
-pub fn list(out: &mut [u8; LINE], at: usize, numbers: &[u64]) -> usize {
+pub(crate) fn list(out: &mut [u8; LINE], at: usize, numbers: &[u64]) -> usize {
     let mut next = byte(out, at, b';');
     let mut i = 0;
     while i < numbers.len() {
@@ -90,13 +90,13 @@ pub fn list(out: &mut [u8; LINE], at: usize, numbers: &[u64]) -> usize {
 }
 
 // The answer to a cut: the counts, and the list of runs.
-pub fn axis(out: &mut [u8; LINE], answer: Partition, runs: &[u64]) -> usize {
+pub(crate) fn axis(out: &mut [u8; LINE], answer: Partition, runs: &[u64]) -> usize {
     let at = partition(out, answer);
     list(out, at, runs)
 }
 
 // Writes the text that ends at a place.
-pub fn write(out: &[u8; LINE], end: usize) {
+pub(crate) fn write(out: &[u8; LINE], end: usize) {
     if end > LINE {
         return;
     }

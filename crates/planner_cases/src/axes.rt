@@ -18,7 +18,7 @@ use crate::lists::runs;
 use crate::lists::sizes;
 
 // Reads a title and its merges, and answers it.
-pub fn read_title(out: &mut [u8; LINE]) -> usize {
+pub(crate) fn read_title(out: &mut [u8; LINE]) -> usize {
     let line = fields::read(HEAD);
     let firsts = read_numbers(length(&line, 2));
     let lasts = read_numbers(length(&line, 3));
@@ -57,7 +57,7 @@ fn cut(
 }
 
 // Reads an axis and its lists, and answers it.
-pub fn read_runs(out: &mut [u8; LINE]) -> usize {
+pub(crate) fn read_runs(out: &mut [u8; LINE]) -> usize {
     let line = fields::read(HEAD);
     let indexes = read_numbers(length(&line, 0));
     let measured = read_sizes(length(&line, 1));

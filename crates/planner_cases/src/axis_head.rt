@@ -27,13 +27,13 @@ fn index(head: &[u8; TEXT], k: usize) -> u32
 }
 
 // The length of the list with the number k.
-pub fn length(head: &[u8; TEXT], k: usize) -> usize
+pub(crate) fn length(head: &[u8; TEXT], k: usize) -> usize
     requires { ⌜ k < 6 ⌝ }
 {
     field(head, 0, 2, k + 2) as usize
 }
 
-pub fn axis(head: &[u8; TEXT]) -> Axis {
+pub(crate) fn axis(head: &[u8; TEXT]) -> Axis {
     if field(head, 0, 2, 0) == 0 {
         Axis::Rows
     } else {
@@ -41,7 +41,7 @@ pub fn axis(head: &[u8; TEXT]) -> Axis {
     }
 }
 
-pub fn title(head: &[u8; TEXT]) -> Title {
+pub(crate) fn title(head: &[u8; TEXT]) -> Title {
     if field(head, 0, 2, 1) == 0 {
         Title::Absent
     } else {
@@ -49,7 +49,7 @@ pub fn title(head: &[u8; TEXT]) -> Title {
     }
 }
 
-pub fn setup(head: &[u8; TEXT]) -> AxisSetup {
+pub(crate) fn setup(head: &[u8; TEXT]) -> AxisSetup {
     AxisSetup {
         first: index(head, 0),
         last: index(head, 1),

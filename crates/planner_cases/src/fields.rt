@@ -7,7 +7,7 @@ ghost use Prim.Native.Nat.{_+_, _*_, _≤_, _<_};
 pub const TEXT: usize = 408;
 
 // Reads so many bytes of a line.
-pub fn read(bytes: usize) -> [u8; TEXT]
+pub(crate) fn read(bytes: usize) -> [u8; TEXT]
     requires { ⌜ bytes ≤ 408 ⌝ }
 {
     let mut text = [b'0'; TEXT];
@@ -16,7 +16,7 @@ pub fn read(bytes: usize) -> [u8; TEXT]
 }
 
 // The field with the number k of those of so many digits that start at a place.
-pub fn field(text: &[u8; TEXT], start: usize, digits: usize, k: usize) -> u64
+pub(crate) fn field(text: &[u8; TEXT], start: usize, digits: usize, k: usize) -> u64
     requires { ⌜ start + k * (digits + 1) + digits < 408 ⌝ }
 {
     let whole = &text[..];
@@ -26,7 +26,7 @@ pub fn field(text: &[u8; TEXT], start: usize, digits: usize, k: usize) -> u64
 }
 
 // A number, or the most that it may be.
-pub fn capped(n: usize, most: usize) -> usize
+pub(crate) fn capped(n: usize, most: usize) -> usize
     ensures { λ r. ⌜ r ≤ most ⌝ }
 {
     if n < most { n } else { most }

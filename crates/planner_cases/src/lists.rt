@@ -17,7 +17,7 @@ pub const ROWS: u64 = 2_000_000;
 pub const COLUMNS: u64 = 2_500_000;
 
 // Reads so many fields of eight digits, as far as a list has room for them.
-pub fn read_numbers(n: usize) -> [u32; MOST] {
+pub(crate) fn read_numbers(n: usize) -> [u32; MOST] {
     let count = capped(n, MOST);
     let text = fields::read(9 * count);
     let mut out = [0u32; MOST];
@@ -30,7 +30,7 @@ pub fn read_numbers(n: usize) -> [u32; MOST] {
 }
 
 // The same of sixteen digits.
-pub fn read_sizes(n: usize) -> [u64; MOST] {
+pub(crate) fn read_sizes(n: usize) -> [u64; MOST] {
     let count = capped(n, MOST);
     let text = fields::read(17 * count);
     let mut out = [0u64; MOST];
@@ -43,26 +43,26 @@ pub fn read_sizes(n: usize) -> [u64; MOST] {
 }
 
 // The first n of a list that was read, or of a list of runs; all where there are no more.
-pub fn numbers(list: &[u32; MOST], n: usize) -> &[u32] {
+pub(crate) fn numbers(list: &[u32; MOST], n: usize) -> &[u32] {
     let end = capped(n, MOST);
     let whole = &list[..];
     &whole[0..end]
 }
 
-pub fn sizes(list: &[u64; MOST], n: usize) -> &[u64] {
+pub(crate) fn sizes(list: &[u64; MOST], n: usize) -> &[u64] {
     let end = capped(n, MOST);
     let whole = &list[..];
     &whole[0..end]
 }
 
-pub fn runs(list: &[u64; NUMBERS], n: usize) -> &[u64] {
+pub(crate) fn runs(list: &[u64; NUMBERS], n: usize) -> &[u64] {
     let end = capped(n, NUMBERS);
     let whole = &list[..];
     &whole[0..end]
 }
 
 // A list of runs before a call: from a number on, each place one more.
-pub fn numbers_from(first: u64) -> [u64; NUMBERS] {
+pub(crate) fn numbers_from(first: u64) -> [u64; NUMBERS] {
     let mut out = [first; NUMBERS];
     let mut i = 1;
     while i < NUMBERS {
@@ -73,7 +73,7 @@ pub fn numbers_from(first: u64) -> [u64; NUMBERS] {
 }
 
 // The same, but that the first run has the mark 0, and after so many others another has it again.
-pub fn marked_from(first: u64, others: usize) -> [u64; NUMBERS] {
+pub(crate) fn marked_from(first: u64, others: usize) -> [u64; NUMBERS] {
     let step = RUN_NUMBERS * (capped(others, MOST) + 1);
     let mut out = numbers_from(first);
     let mut i = RUN_NUMBERS - 1;

@@ -7,7 +7,7 @@ use crate::page_head::HEAD;
 use crate::page_text;
 
 // Reads a plan and a number, and answers the page.
-pub fn read_page(out: &mut [u8; LINE]) -> usize {
+pub(crate) fn read_page(out: &mut [u8; LINE]) -> usize {
     let line = fields::read(HEAD);
     let rows = head::list(&line, 0);
     let columns = head::list(&line, 1);

@@ -33,20 +33,20 @@ fn long(head: &[u8; TEXT], k: usize) -> u64
 }
 
 // The list of an axis, 0 rows or 1 columns, with as many numbers as a list can have.
-pub fn list(head: &[u8; TEXT], axis: usize) -> [u64; NUMBERS]
+pub(crate) fn list(head: &[u8; TEXT], axis: usize) -> [u64; NUMBERS]
     requires { ⌜ axis < 2 ⌝ }
 {
     marked_from(long(head, axis), short(head, axis + 3) as usize)
 }
 
 // How many of these the list has.
-pub fn length(head: &[u8; TEXT], axis: usize) -> usize
+pub(crate) fn length(head: &[u8; TEXT], axis: usize) -> usize
     requires { ⌜ axis < 2 ⌝ }
 {
     short(head, axis + 5) as usize
 }
 
-pub fn number(head: &[u8; TEXT]) -> u64 {
+pub(crate) fn number(head: &[u8; TEXT]) -> u64 {
     long(head, 5)
 }
 
@@ -72,7 +72,7 @@ fn nothing_noted() -> Notes {
     }
 }
 
-pub fn plan(head: &[u8; TEXT]) -> Plan {
+pub(crate) fn plan(head: &[u8; TEXT]) -> Plan {
     Plan {
         permille: 1000,
         row_runs: long(head, 2) as usize,

@@ -81,7 +81,7 @@ fn page(out: &mut [u8; LINE], at: usize, p: Page) -> usize {
     run(out, d, columns)
 }
 
-pub fn paged(out: &mut [u8; LINE], at: usize, answer: PageAnswer) -> usize {
+pub(crate) fn paged(out: &mut [u8; LINE], at: usize, answer: PageAnswer) -> usize {
     match answer {
         PageAnswer::Value(p) => page(out, at, p),
         PageAnswer::Refused(n) => refusal(out, at, n),
@@ -143,7 +143,7 @@ fn numbered(out: &mut [u8; LINE], at: usize, n: u64, answer: PageAnswer) -> usiz
 }
 
 // The answer of a plan, the lists that were lent to it, and pages.
-pub fn answered(
+pub(crate) fn answered(
     out: &mut [u8; LINE],
     answer: Planning,
     row_runs: &[u64],

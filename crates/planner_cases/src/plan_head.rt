@@ -40,13 +40,13 @@ fn index(head: &[u8; TEXT], k: usize) -> u32
 }
 
 // The length of the list with the number k.
-pub fn length(head: &[u8; TEXT], k: usize) -> usize
+pub(crate) fn length(head: &[u8; TEXT], k: usize) -> usize
     requires { ⌜ k < 12 ⌝ }
 {
     field(head, 0, 2, k + 11) as usize
 }
 
-pub fn margins_given(head: &[u8; TEXT]) -> bool {
+pub(crate) fn margins_given(head: &[u8; TEXT]) -> bool {
     flag(head, 10)
 }
 
@@ -70,7 +70,7 @@ fn order(head: &[u8; TEXT]) -> PageOrder {
     }
 }
 
-pub fn settings(head: &[u8; TEXT], margins: MarginSetting) -> Settings {
+pub(crate) fn settings(head: &[u8; TEXT], margins: MarginSetting) -> Settings {
     Settings {
         paper: setting(head, 0, 0),
         landscape: flag(head, 1),
@@ -85,7 +85,7 @@ pub fn settings(head: &[u8; TEXT], margins: MarginSetting) -> Settings {
     }
 }
 
-pub fn range(head: &[u8; TEXT]) -> PrintRange {
+pub(crate) fn range(head: &[u8; TEXT]) -> PrintRange {
     PrintRange {
         first_row: index(head, 4),
         first_column: index(head, 5),
@@ -106,10 +106,10 @@ fn title(head: &[u8; TEXT], given: usize, k: usize) -> Title
     }
 }
 
-pub fn row_title(head: &[u8; TEXT]) -> Title {
+pub(crate) fn row_title(head: &[u8; TEXT]) -> Title {
     title(head, 8, 8)
 }
 
-pub fn column_title(head: &[u8; TEXT]) -> Title {
+pub(crate) fn column_title(head: &[u8; TEXT]) -> Title {
     title(head, 9, 10)
 }

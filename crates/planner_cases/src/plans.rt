@@ -81,7 +81,7 @@ fn planned(
 }
 
 // Reads a plan and its lists, and answers it.
-pub fn read_plan(out: &mut [u8; LINE]) -> usize {
+pub(crate) fn read_plan(out: &mut [u8; LINE]) -> usize {
     let line = fields::read(HEAD);
     let settings = read_settings(&line);
     let row_indexes = read_numbers(length(&line, 0));

@@ -46,7 +46,7 @@ fn answer_next() -> bool {
 }
 
 // Nothing says that the input ends, so the loop counts its turns down, from a number that no run uses up.
-pub fn answer_all() {
+pub(crate) fn answer_all() {
     let mut turns = u64::MAX;
     while turns > 0 && answer_next() {
         turns -= 1;

@@ -1,6 +1,6 @@
 // Words on standard output.
 use libc::STDOUT_FILENO;
 
-pub fn word(bytes: &[u8]) {
+pub(crate) fn word(bytes: &[u8]) {
     io::write_all(STDOUT_FILENO, bytes);
 }

@@ -144,7 +144,7 @@ fn five_case() {
     )
 }
 
-pub fn all_cases() {
+pub(crate) fn all_cases() {
     text::word(b"three rows and two columns, down then over\n");
     example(PageOrder::DownThenOver);
     text::word(b"three rows and two columns, over then down\n");

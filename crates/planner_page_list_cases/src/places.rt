@@ -25,7 +25,7 @@ fn same_page(a: Page, b: Page) -> bool {
 }
 
 // What stands in each place before the call: no page of a plan.
-pub fn blank() -> Page {
+pub(crate) fn blank() -> Page {
     let run = PageRun {
         first: 8,
         last: 7,
@@ -60,7 +60,13 @@ fn say_rest(number: u64, page: Page) {
 }
 
 // Says each place of a list in whose front so many pages were written.
-pub fn say_places(list: [Page; 4], count: u64, plan: Plan, row_runs: &[u64], column_runs: &[u64]) {
+pub(crate) fn say_places(
+    list: [Page; 4],
+    count: u64,
+    plan: Plan,
+    row_runs: &[u64],
+    column_runs: &[u64],
+) {
     let mut k = 0;
     while k < 4 {
         let page = list[k];

@@ -2,18 +2,18 @@
 use libc::STDOUT_FILENO;
 use planner_rules::Page;
 
-pub fn word(bytes: &[u8]) {
+pub(crate) fn word(bytes: &[u8]) {
     io::write_all(STDOUT_FILENO, bytes);
 }
 
 // A space and a number.
-pub fn number(n: u64) {
+pub(crate) fn number(n: u64) {
     word(b" ");
     io::print_decimal(STDOUT_FILENO, n);
 }
 
 // The end of a line that says whether something holds.
-pub fn verdict(ok: bool) {
+pub(crate) fn verdict(ok: bool) {
     if ok {
         word(b" ok\n");
     } else {
@@ -22,7 +22,7 @@ pub fn verdict(ok: bool) {
 }
 
 // "page number, vertical, horizontal, first and last row, first and last column, row size, column size"
-pub fn page_line(n: u64, page: Page) {
+pub(crate) fn page_line(n: u64, page: Page) {
     let rows = page.rows;
     let columns = page.columns;
     word(b"page");

@@ -10,6 +10,7 @@ use Rattle.planner_rules.specs.declared.pages.Plan.{Plan}
 use Rattle.planner_rules.specs.declared.planning.Settings.{Settings}
 use Rattle.planner_rules.specs.declared.planning.Planning.{Planning}
 use Rattle.planner_rules.specs.declared.planning.Planning.the-variants.{Value, Refused}
+use Rattle.planner_rules.specs.Questions.{ask}
 use Rattle.planner_rules.specs.Pages.{pageNumbered, pageOutcome}
 use Rattle.planner_rules.specs.Plan.{AxisInput, Layout, Planned, rowsOf, columnsOf, planned, planOutcome}
 use Rattle.planner_rules.specs.Demand.{CoversPairs, FewestPlan, LargestPlan}
@@ -19,11 +20,12 @@ use Rattle.job_records.specs.Records.{records}
 use Rattle.job_questions.specs.Verdict.{inOrder, questions, itemsOf, verdictLent, verdict}
 use Rattle.job.specs.PlanJob.{jobSettings, jobRows, jobColumns, planJob}
 use Rattle.job_report.specs.declared.blocks.Block.{Block}
-use Rattle.job_report.specs.Blocks.{BlockOf}
+use Rattle.job_report.specs.declared.blocks.BlockAnswer.{BlockAnswer}
+use Rattle.job_report.specs.Blocks.{blockLines, pageBlock, blockOutcome, BlockPut}
 use Rattle.yuzhbani_answers.specs.Numbers.{planNumbers, told}
 use Rattle.yuzhbani_answers.specs.Answers.{answerTo, answerOf, numbersOf, HadBack, PageHanded}
 use Rattle.yuzhbani_request.specs.declared.Request.{Request}
-use Rattle.yuzhbani.specs.Calls.{planIn, PlanHanded}
+use Rattle.yuzhbani.specs.Calls.{planIn, PlanHanded, blockIn, BlockHanded}
 
 -- ---- no refusal has the number 0, so that 0 says that a plan was given
 
@@ -102,6 +104,18 @@ handed o never s rs cs rows₀ columns₀ rows columns p old r numbers w (a, (n,
       rw t (w .1),
     )
 
+-- the same where 5 is no, and nothing was written: the three sentences are of a finished plan
+pub handed-five : {b : Bool} → b ≡ false → (o : Outcome Layout) (s : Settings) (rs cs : AxisInput) (rows columns old : List ℕ)
+    → PlanHanded (ask 5 b o) 5 old old rows columns rows columns × Demands (told 5 old) s rs cs rows columns
+handed-five e o s rs cs rows columns old =
+    let never : (p : Plan) → refused 5 ≡ given p → ⊥ = λ p f. not-given p 5 (sym f) in (
+      rw e (record { answer = refl; numbers-are = refl; stands = refl; rows-are = refl; columns-are = refl }),
+      (
+        record { covered = λ p f. absurd (never p f) },
+        (record { fewest = λ p f. absurd (never p f) }, record { largest = λ p f. absurd (never p f) }),
+      ),
+    )
+
 -- ---- what is asked by numbers
 
 abbrev rowsFor : Request → List ℕ → List ℕ → List ℕ → List ℕ → List ℕ → AxisInput
@@ -124,6 +138,13 @@ pub page-handed : {p q : Plan} → p ≡ q → (rows columns : List ℕ) (n : �
     → (r : ℕ) (old ns : List ℕ) → PageHanded (pageOutcome a) r old ns → PageHanded (pageNumbered q rows columns n) r old ns
 page-handed e rows columns n a i r old ns w = rw (← e, ← i) w
 
-pub block-handed : {p q : Plan} → p ≡ q → (rows columns : List ℕ) (from : ℕ) (r : Block) (out : List ℕ)
-    → BlockOf p rows columns from r out → BlockOf q rows columns from r out
-block-handed e rows columns from r out w = rw (← e) w
+pub block-handed : {p q : Plan} → p ≡ q → (rows columns : List ℕ) (from : ℕ) (a : BlockAnswer) (out₀ out : List ℕ) → BlockPut p rows columns from a out₀ out
+    → (r : ℕ) (block₀ block : List ℕ) → r ≡ answerTo (blockOutcome a) → block ≡ blockIn (blockOutcome a) block₀
+    → BlockHanded (pageBlock q rows columns from) (blockLines q rows columns from) r block₀ out₀ block out
+block-handed e rows columns from a out₀ out v r block₀ block i j =
+    rw (← e)
+    (record {
+      answer = i ∙ ap answerTo (v .answer);
+      block-is = j ∙ ap (λ (o : Outcome Block). blockIn o block₀) (v .answer);
+      out-is = v .array-is;
+    })

@@ -1,6 +1,6 @@
 -- What the exported calls answer and write. Assumes nothing.
 use mathlib.Core.Path.{_≡_}
-use mathlib.Core.List.{List}
+use mathlib.Core.List.{List, [], _∷_}
 use Prim.Native.Nat.{ℕ}
 use Rattle.units.specs.Outcome.{Outcome, given, refused, andThen}
 use Rattle.planner_rules.specs.Lent.{flat}
@@ -24,6 +24,13 @@ pub record PlanHanded (o : Outcome Layout) (r : ℕ) (old numbers : List ℕ) (r
   pub rows-are : rows ≡ lent o (flat (rowsIn o)) rows₀
   pub columns-are : columns ≡ lent o (flat (columnsIn o)) columns₀
 
--- a block of page lines by the number of the first page that is not in it, and how many bytes it has
-abbrev pub blockTo : ℕ → ℕ → Block
-blockTo next end = record { next = next; end = end }
+-- an array that is lent for the two numbers of a block: how many pages and how many bytes it has, or, where the call is refused, what stood there
+abbrev pub blockIn : Outcome Block → List ℕ → List ℕ
+blockIn (given b) old = b .pages ∷ b .bytes ∷ []
+blockIn (refused n) old = old
+
+-- the answer r of a block call, whose outcome is o and whose lines are these; its two numbers, which were block₀, and its bytes, which were out₀
+pub record BlockHanded (o : Outcome Block) (lines : List ℕ) (r : ℕ) (block₀ out₀ block out : List ℕ) : Type 0 where
+  pub answer : r ≡ answerTo o
+  pub block-is : block ≡ blockIn o block₀
+  pub out-is : out ≡ lent o lines out₀

@@ -2,6 +2,7 @@
 // can link. A plan is handed over as sixteen numbers and a page as twelve, in the order that `specs/Numbers.antt` of `yuzhbani_answers` says;
 // what is asked of a plan as thirty, in the order that `specs/Request.antt` of `yuzhbani_request` says.
 use job::plan_job;
+use job_report::BlockAnswer;
 use job_report::head_lines;
 use job_report::page_block;
 use planner::plan_pages;
@@ -10,20 +11,20 @@ use yuzhbani_answers::plan_from;
 use yuzhbani_answers::put_page;
 use yuzhbani_answers::put_planning;
 use yuzhbani_answers::told;
+use yuzhbani_request::flags_hold;
 use yuzhbani_request::request_from;
 ghost use mathlib.Core.Path.{_≡_};
-ghost use Prim.Native.Nat.{_≤_};
-ghost use lib.ListN.{length, take};
+ghost use Rattle.planner_rules.specs.Questions.{ask};
 ghost use Rattle.planner_rules.specs.Pages.{pageNumbered};
 ghost use Rattle.planner_rules.specs.Plan.{planned, planOutcome};
 ghost use Rattle.planner_rules.specs.Demand.{CoversPairs, FewestPlan, LargestPlan};
 ghost use Rattle.job.specs.PlanJob as job;
-ghost use Rattle.job_report.specs.Lines.{headLines};
-ghost use Rattle.job_report.specs.Blocks.{BlockOf};
+ghost use Rattle.job_report.specs.Lines.{headLines, LinesPut};
+ghost use Rattle.job_report.specs.Blocks.{blockLines, pageBlock, blockOutcome};
 ghost use Rattle.yuzhbani_answers.specs.Numbers as section;
-ghost use Rattle.yuzhbani_answers.specs.Answers.{PageHanded};
-ghost use Rattle.yuzhbani_request.specs.Request.{settingsFrom, rowsRequested, columnsRequested};
-ghost use Rattle.yuzhbani.specs.Calls.{PlanHanded, blockTo};
+ghost use Rattle.yuzhbani_answers.specs.Answers.{answerTo, PageHanded};
+ghost use Rattle.yuzhbani_request.specs.Request.{settingsFrom, rowsRequested, columnsRequested, flagsHold};
+ghost use Rattle.yuzhbani.specs.Calls.{PlanHanded, blockIn, BlockHanded};
 
 // Plans the pages of a job: 0, with the plan's numbers in `numbers` and its runs at the fronts of two lent lists; or the number of a
 // refusal, and nothing is written.
@@ -35,30 +36,24 @@ pub extern "C" fn yuzhbani_plan(
     column_runs: &mut [u64],
 ) -> u8
     ensures planned { λ r. ⌜
-        PlanHanded
-        (job.planJob (now (bytes .entry))
-        (now («row_runs» .entry))
-        (now («column_runs» .entry)))
-        r (now (numbers .entry)) (now (numbers .exit))
-        (now («row_runs» .entry))
-        (now («column_runs» .entry))
-        (now («row_runs» .exit))
-        (now («column_runs» .exit))
+        (let rows₀ = now («row_runs» .entry) in
+        let columns₀ = now («column_runs» .entry) in
+        PlanHanded (job.planJob (now (bytes .entry)) rows₀ columns₀)
+        r (now (numbers .entry)) (now (numbers .exit)) rows₀ columns₀ (now («row_runs» .exit)) (now («column_runs» .exit)))
         ⌝ }
     ensures covered { λ r. ⌜
-        CoversPairs (section.told r (now (numbers .exit))) (job.jobRows (now (bytes .entry))) (job.jobColumns (now (bytes .entry)))
-        (now («row_runs» .exit))
-        (now («column_runs» .exit))
+        (let asked = now (bytes .entry) in
+        CoversPairs (section.told r (now (numbers .exit))) (job.jobRows asked) (job.jobColumns asked)
+        (now («row_runs» .exit)) (now («column_runs» .exit)))
         ⌝ }
     ensures fewest { λ r. ⌜
-        FewestPlan (section.told r (now (numbers .exit))) (job.jobSettings (now (bytes .entry))) (job.jobRows (now (bytes .entry)))
-        (job.jobColumns (now (bytes .entry)))
-        (now («row_runs» .exit))
-        (now («column_runs» .exit))
+        (let asked = now (bytes .entry) in
+        FewestPlan (section.told r (now (numbers .exit))) (job.jobSettings asked) (job.jobRows asked) (job.jobColumns asked)
+        (now («row_runs» .exit)) (now («column_runs» .exit)))
         ⌝ }
     ensures largest { λ r. ⌜
-        LargestPlan (section.told r (now (numbers .exit))) (job.jobSettings (now (bytes .entry))) (job.jobRows (now (bytes .entry)))
-        (job.jobColumns (now (bytes .entry)))
+        (let asked = now (bytes .entry) in
+        LargestPlan (section.told r (now (numbers .exit))) (job.jobSettings asked) (job.jobRows asked) (job.jobColumns asked))
         ⌝ }
 {
     let planning = plan_job(bytes, row_runs, column_runs);
@@ -66,7 +61,7 @@ pub extern "C" fn yuzhbani_plan(
 }
 
 // Plans the pages of lists: what is asked as thirty numbers, the measured slots, merges and breaks as ten lists. It answers and writes as
-// `yuzhbani_plan` does.
+// `yuzhbani_plan` does. A fit or an order that is neither 0 nor 1 is refused with 5, before anything else is asked.
 #[no_mangle]
 pub extern "C" fn yuzhbani_plan_lists(
     request: &[u64; 30],
@@ -85,46 +80,45 @@ pub extern "C" fn yuzhbani_plan_lists(
     column_runs: &mut [u64],
 ) -> u8
     ensures planned { λ r. ⌜
-        PlanHanded
-        (planned (settingsFrom (now (request .entry)))
-        (rowsRequested (now (request .entry)) (now («row_indexes» .entry)) (now («row_sizes» .entry))
-        (now («merge_first_rows» .entry)) (now («merge_last_rows» .entry)) (now («row_breaks» .entry)))
-        (columnsRequested (now (request .entry)) (now («column_indexes» .entry)) (now («column_sizes» .entry))
-        (now («merge_first_columns» .entry)) (now («merge_last_columns» .entry)) (now («column_breaks» .entry)))
-        (now («row_runs» .entry))
-        (now («column_runs» .entry)))
-        r (now (numbers .entry)) (now (numbers .exit))
-        (now («row_runs» .entry))
-        (now («column_runs» .entry))
-        (now («row_runs» .exit))
-        (now («column_runs» .exit))
+        (let asked = now (request .entry) in
+        let rows = rowsRequested asked (now («row_indexes» .entry)) (now («row_sizes» .entry)) (now («merge_first_rows» .entry))
+        (now («merge_last_rows» .entry)) (now («row_breaks» .entry)) in
+        let columns = columnsRequested asked (now («column_indexes» .entry)) (now («column_sizes» .entry)) (now («merge_first_columns» .entry))
+        (now («merge_last_columns» .entry)) (now («column_breaks» .entry)) in
+        let rows₀ = now («row_runs» .entry) in
+        let columns₀ = now («column_runs» .entry) in
+        PlanHanded (ask 5 (flagsHold asked) (planned (settingsFrom asked) rows columns rows₀ columns₀))
+        r (now (numbers .entry)) (now (numbers .exit)) rows₀ columns₀ (now («row_runs» .exit)) (now («column_runs» .exit)))
         ⌝ }
     ensures covered { λ r. ⌜
-        CoversPairs (section.told r (now (numbers .exit)))
-        (rowsRequested (now (request .entry)) (now («row_indexes» .entry)) (now («row_sizes» .entry)) (now («merge_first_rows» .entry))
-        (now («merge_last_rows» .entry)) (now («row_breaks» .entry)))
-        (columnsRequested (now (request .entry)) (now («column_indexes» .entry)) (now («column_sizes» .entry))
-        (now («merge_first_columns» .entry)) (now («merge_last_columns» .entry)) (now («column_breaks» .entry)))
-        (now («row_runs» .exit))
-        (now («column_runs» .exit))
+        (let asked = now (request .entry) in
+        let rows = rowsRequested asked (now («row_indexes» .entry)) (now («row_sizes» .entry)) (now («merge_first_rows» .entry))
+        (now («merge_last_rows» .entry)) (now («row_breaks» .entry)) in
+        let columns = columnsRequested asked (now («column_indexes» .entry)) (now («column_sizes» .entry)) (now («merge_first_columns» .entry))
+        (now («merge_last_columns» .entry)) (now («column_breaks» .entry)) in
+        CoversPairs (section.told r (now (numbers .exit))) rows columns (now («row_runs» .exit)) (now («column_runs» .exit)))
         ⌝ }
     ensures fewest { λ r. ⌜
-        FewestPlan (section.told r (now (numbers .exit))) (settingsFrom (now (request .entry)))
-        (rowsRequested (now (request .entry)) (now («row_indexes» .entry)) (now («row_sizes» .entry)) (now («merge_first_rows» .entry))
-        (now («merge_last_rows» .entry)) (now («row_breaks» .entry)))
-        (columnsRequested (now (request .entry)) (now («column_indexes» .entry)) (now («column_sizes» .entry))
-        (now («merge_first_columns» .entry)) (now («merge_last_columns» .entry)) (now («column_breaks» .entry)))
-        (now («row_runs» .exit))
-        (now («column_runs» .exit))
+        (let asked = now (request .entry) in
+        let rows = rowsRequested asked (now («row_indexes» .entry)) (now («row_sizes» .entry)) (now («merge_first_rows» .entry))
+        (now («merge_last_rows» .entry)) (now («row_breaks» .entry)) in
+        let columns = columnsRequested asked (now («column_indexes» .entry)) (now («column_sizes» .entry)) (now («merge_first_columns» .entry))
+        (now («merge_last_columns» .entry)) (now («column_breaks» .entry)) in
+        FewestPlan (section.told r (now (numbers .exit))) (settingsFrom asked) rows columns
+        (now («row_runs» .exit)) (now («column_runs» .exit)))
         ⌝ }
     ensures largest { λ r. ⌜
-        LargestPlan (section.told r (now (numbers .exit))) (settingsFrom (now (request .entry)))
-        (rowsRequested (now (request .entry)) (now («row_indexes» .entry)) (now («row_sizes» .entry)) (now («merge_first_rows» .entry))
-        (now («merge_last_rows» .entry)) (now («row_breaks» .entry)))
-        (columnsRequested (now (request .entry)) (now («column_indexes» .entry)) (now («column_sizes» .entry))
-        (now («merge_first_columns» .entry)) (now («merge_last_columns» .entry)) (now («column_breaks» .entry)))
+        (let asked = now (request .entry) in
+        let rows = rowsRequested asked (now («row_indexes» .entry)) (now («row_sizes» .entry)) (now («merge_first_rows» .entry))
+        (now («merge_last_rows» .entry)) (now («row_breaks» .entry)) in
+        let columns = columnsRequested asked (now («column_indexes» .entry)) (now («column_sizes» .entry)) (now («merge_first_columns» .entry))
+        (now («merge_last_columns» .entry)) (now («column_breaks» .entry)) in
+        LargestPlan (section.told r (now (numbers .exit))) (settingsFrom asked) rows columns)
         ⌝ }
 {
+    if !flags_hold(request) {
+        return 5;
+    }
     let what = request_from(request);
     let settings = what.settings;
     let range = what.range;
@@ -163,10 +157,7 @@ pub extern "C" fn yuzhbani_page(
 ) -> u8
     ensures { λ r. ⌜
         PageHanded
-        (pageNumbered (section.planFrom (now (numbers .entry)))
-        (now («row_runs» .entry))
-        (now («column_runs» .entry))
-        number)
+        (pageNumbered (section.planFrom (now (numbers .entry))) (now («row_runs» .entry)) (now («column_runs» .entry)) number)
         r (now (page .entry)) (now (page .exit))
         ⌝ }
 {
@@ -179,33 +170,50 @@ pub extern "C" fn yuzhbani_page(
 // of `out`; it answers how many bytes.
 #[no_mangle]
 pub extern "C" fn yuzhbani_head(answer: u8, numbers: &[u64; 16], out: &mut [u8; 256]) -> usize
-    ensures { λ r. ⌜ take r (now (out .exit)) ≡ headLines (planOutcome (section.told answer (now (numbers .entry)))) ⌝ }
-    ensures { λ r. ⌜ r ≤ length (now (out .exit)) ⌝ }
+    ensures { λ r. ⌜
+        LinesPut (headLines (planOutcome (section.told answer (now (numbers .entry)))))
+        r (now (out .entry)) (now (out .exit))
+        ⌝ }
 {
     let planning = told(answer, numbers);
     head_lines(planning, out)
 }
 
-// Puts the lines of the pages from the number `next` on at the start of `out`, as long as there is a page and 256 bytes are left. It answers
-// how many bytes, and leaves in `next` the number of the first page that is not among them.
+// Puts the two numbers of a block, or nothing, and answers 0, or the number of the refusal.
+fn put_block(answer: BlockAnswer, block: &mut [u64; 2]) -> u8
+    ensures { λ r. ⌜ r ≡ answerTo (blockOutcome answer) ⌝ }
+    ensures { λ _. ⌜ now (block .exit) ≡ blockIn (blockOutcome answer) (now (block .entry)) ⌝ }
+{
+    match answer {
+        BlockAnswer::Value(held) => {
+            *block = [held.pages, held.bytes as u64];
+            0
+        }
+        BlockAnswer::Refused(number) => number,
+    }
+}
+
+// The lines of the pages from a number on, as long as there is a page and 256 of the bytes are left, of the plan's numbers and the lists that
+// were lent to it: 0, with how many pages and how many bytes in `block`, and the lines at the start of `out`; or the number of a refusal, and
+// nothing is written.
 #[no_mangle]
 pub extern "C" fn yuzhbani_block(
     numbers: &[u64; 16],
-    next: &mut u64,
+    from: u64,
     row_runs: &[u64],
     column_runs: &[u64],
+    block: &mut [u64; 2],
     out: &mut [u8; 65536],
-) -> usize
+) -> u8
     ensures { λ r. ⌜
-        BlockOf (section.planFrom (now (numbers .entry)))
-        (now («row_runs» .entry))
-        (now («column_runs» .entry))
-        (now (next .entry)) (blockTo (now (next .exit)) r) (now (out .exit))
+        (let plan = section.planFrom (now (numbers .entry)) in
+        let rows = now («row_runs» .entry) in
+        let columns = now («column_runs» .entry) in
+        BlockHanded (pageBlock plan rows columns from) (blockLines plan rows columns from)
+        r (now (block .entry)) (now (out .entry)) (now (block .exit)) (now (out .exit)))
         ⌝ }
 {
     let plan = plan_from(numbers);
-    let from = *next;
-    let block = page_block(plan, from, row_runs, column_runs, out);
-    *next = block.next;
-    block.end
+    let answer = page_block(plan, from, row_runs, column_runs, out);
+    put_block(answer, block)
 }

@@ -1,3 +1,3 @@
--- What the contracts of `numbers` cite.
+-- What the contracts of `yuzhbani_answers` cite.
 pub mod Numbers
 pub mod Answers

@@ -1,2 +1,2 @@
--- What the contracts of `request` cite.
+-- What the contracts of `yuzhbani_request` cite.
 pub mod Request

@@ -1,7 +1,8 @@
 -- What thirty numbers ask of a plan, whoever wrote them: settings, range and titles. Assumes nothing.
-use mathlib.Core.Bool.{cond}
+use mathlib.Core.Bool.{Bool, cond, _&&_}
 use mathlib.Core.List.{List}
 use Prim.Native.Nat.{ℕ, _+_, min}
+use lib.Dec.{leb}
 use lib.ListN.{getD}
 use Rattle.geometry.specs.declared.paper.Setting.{Setting}
 use Rattle.geometry.specs.declared.paper.Setting.the-variants as setting
@@ -78,6 +79,10 @@ rowsRequested ns is ss fs ls bs = rowsOf (settingsFrom ns) (rangeFrom ns) (rowTi
 -- the columns that are asked for
 abbrev pub columnsRequested : List ℕ → List ℕ → List ℕ → List ℕ → List ℕ → List ℕ → AxisInput
 columnsRequested ns is ss fs ls bs = columnsOf (settingsFrom ns) (rangeFrom ns) (columnTitleFrom ns) is ss fs ls bs
+
+-- 12 is fit and 17 the order: "5. FT and OD 0 or 1?"
+unfoldable pub flagsHold : List ℕ → Bool
+flagsHold ns = leb (getD ns 12 0) 1 && leb (getD ns 17 0) 1
 
 -- ---- for the private functions
 

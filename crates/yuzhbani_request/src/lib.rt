@@ -89,6 +89,13 @@ fn range_from(request: &[u64; 30]) -> PrintRange
     }
 }
 
+// 5: a fit and an order are 0 or 1, in numbers as in bytes.
+pub fn flags_hold(request: &[u64; 30]) -> bool
+    ensures { λ r. ⌜ r ≡ section.flagsHold (now (request .entry)) ⌝ }
+{
+    (request[12] <= 1) & (request[17] <= 1)
+}
+
 pub fn request_from(request: &[u64; 30]) -> Request
     ensures { λ r. ⌜ r ≡ section.requestFrom (now (request .entry)) ⌝ }
 {

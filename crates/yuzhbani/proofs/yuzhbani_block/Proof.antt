@@ -10,10 +10,15 @@ plan-from-requires c κs = search needs
 page-block-requires : tie.Need-page-block-requires
 page-block-requires c κs = search needs
 
+put-block-requires : tie.Need-put-block-requires
+put-block-requires c κs = search needs
+
 returns : tie.Need-returns
 returns c =
     let d : tie.After-plan-from = search in
-    block-handed (d .plan-from .ensures) _ _ _ _ _ (c .page-block .ensures)
+    let b : tie.After-page-block = search in
+    let w = c .put-block .ensures in
+    block-handed (d .plan-from .ensures) _ _ _ _ _ _ (b .page-block .ensures) _ _ _ (w .0) (w .1)
 
 pub yuzhbani-block-spec : {M : Type 1} → statement M
-yuzhbani-block-spec = tie.close (tie.spec plan-from-requires page-block-requires returns)
+yuzhbani-block-spec = tie.close (tie.spec plan-from-requires page-block-requires put-block-requires returns)

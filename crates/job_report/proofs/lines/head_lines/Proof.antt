@@ -1,13 +1,8 @@
 -- `job_report::lines::head_lines` meets its contract. Assumes nothing.
 use borrow.Author.Needs.{needs}
 use native.Mathlib.Omega.{arith}
-use mathlib.Core.Path.{sym, ap, _∙_}
-use mathlib.Core.List.{[]}
-use lib.ListN.{take}
-use Rattle.planner_rules.specs.declared.planning.Planning.{Planning}
-use Rattle.planner_rules.specs.Plan.{planOutcome}
 use Rattle.job_report.specs.Lines.{headLines}
-use Rattle.job_report.proofs.TextLaws.{and-then, counts}
+use Rattle.job_report.proofs.TextLaws.{and-then, at-start}
 use Rattle.job_report.proofs.lines.head_lines.Statement.{statement}
 use Rattle.job_report.proofs.lines.head_lines.Tie as tie
 
@@ -32,19 +27,13 @@ returns c =
     let after-planning : tie.After-planning = search in
     let p : tie.After-plan-line = search in
     let n = c .notes-line in
-    let g = after-planning .planning .given in (
-      and-then [] (take (p .plan-line .result) (p .plan-line .last .0)) _ _ _ (p .plan-line .ensures .0) (n .ensures .0) ∙ ap
-          (λ (l : Planning). headLines (planOutcome l)) (sym (g .1)),
-      counts (n .result) (n .last .0) (omega arith),
-    )
+    rw (after-planning .planning .given .1) (at-start (and-then (omega arith) (p .plan-line .ensures .0) (n .ensures .0)))
 
 returns-2 : tie.Need-returns-2
 unfolding headLines
 returns-2 c =
     let after-planning2 : tie.After-planning2 = search in
-    let n = c .refusal-line in
-    let g = after-planning2 .planning2 .given in
-    (n .ensures .0 ∙ ap (λ (l : Planning). headLines (planOutcome l)) (sym (g .1)), counts (n .result) (n .last .0) (omega arith))
+    rw (after-planning2 .planning2 .given .1) (at-start (c .refusal-line .ensures .0))
 
 pub head-lines-spec : {M : Type 1} → statement M
 head-lines-spec =

@@ -1,7 +1,6 @@
 -- `job_report::lines::page_line` meets its contract. Assumes nothing.
 use borrow.Author.Needs.{needs}
-use native.Mathlib.Omega.{arith}
-use Rattle.job_report.proofs.TextLaws.{counts}
+use Rattle.job_report.proofs.TextLaws.{at-start}
 use Rattle.job_report.proofs.lines.page_line.Statement.{statement}
 use Rattle.job_report.proofs.lines.page_line.Tie as tie
 
@@ -9,7 +8,7 @@ page-at-requires : tie.Need-page-at-requires
 page-at-requires c κs = search needs
 
 returns : tie.Need-returns
-returns c = (c .page-at .ensures .0, counts (c .page-at .result) (c .page-at .last .0) (omega arith))
+returns c = at-start (c .page-at .ensures .0)
 
 pub page-line-spec : {M : Type 1} → statement M
 page-line-spec = tie.close (tie.spec page-at-requires returns)

@@ -1,5 +1,4 @@
 -- `job_report::text::byte` meets its contract. Assumes nothing.
-use mathlib.Core.Path.{refl}
 use Rattle.job_report.proofs.TextLaws.{put-byte}
 use borrow.Author.Needs.{needs}
 use Rattle.job_report.proofs.text.byte.Statement.{statement}
@@ -15,7 +14,7 @@ same-length : tie.Need-same-length
 same-length c = search needs
 
 returns : tie.Need-returns
-returns c = (put-byte (c .args .out .now) (c .args .at) (c .args .b) (c .pre), refl)
+returns c = put-byte _ _ _ (c .pre)
 
 pub byte-spec : {M : Type 1} → statement M
 byte-spec = tie.close (tie.spec slice-write-out add-result same-length returns)

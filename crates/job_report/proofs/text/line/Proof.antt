@@ -19,15 +19,10 @@ same-length c = search needs
 
 returns : tie.Need-returns
 returns c =
-    let start : tie.Start = search in
     let t : tie.After-text = search in
     let n : tie.After-numbers = search in
     let b = c .before .before in
-    let a = start .args in (
-      line-put (a .out .now) (t .text .last .0) (n .numbers .last .0) (b .byte .last .0) (a .at) (t .text .result) (n .numbers .result) (b .byte .result)
-          (a .word .now) (a .list .now) (t .text .ensures .0) (n .numbers .ensures .0) (b .byte .ensures .0),
-      omega arith,
-    )
+    (line-put _ (omega arith) (omega arith) (t .text .ensures) (n .numbers .ensures .0) (b .byte .ensures), omega arith)
 
 pub line-spec : {M : Type 1} → statement M
 line-spec = tie.close (tie.spec text-requires numbers-requires byte-requires same-length returns)

@@ -39,8 +39,7 @@ returns c =
     let t = c .before .before in
     let d = b .before .before in
     let few = fewest-twenty (s .args .n) (d .decimal .result) (s .fits .n .fits) (d .decimal .ensures .1 .0) in (
-      number-put (s .args .out .now) (b .byte .last .0) (t .text .last .0) (s .args .at) (b .byte .result) (t .text .result) (s .args .n) (d .decimal .result)
-          (d .decimal .last .1 .0) (d .decimal .ensures .1) (b .byte .ensures .0) (t .text .ensures .0),
+      number-put (s .args .n) (d .decimal .result) (d .decimal .last .1 .0) (omega arith) (d .decimal .ensures .1) (b .byte .ensures) (t .text .ensures),
       omega arith,
     )
 

@@ -40,13 +40,13 @@ loop-again c =
     let l : tie.At-loop Inv-loop μ-loop = search in
     let in-loop : tie.In-loop Inv-loop μ-loop = search in
     let n = c .before .before in
-    told-more _ _ _ _ _ _ _ _ (in-loop .loop-test .taken) (l .loop .inv) (n .number .ensures .0) (n .number .ensures .1) (n .number .kept .0)
+    told-more (in-loop .loop-test .taken) (omega arith) (l .loop .inv) (n .number .ensures .0) (n .number .ensures .1) (n .number .kept .0)
 
 same-length : tie.Need-same-length Inv-loop μ-loop
 same-length c = c .before .loop .inv .same
 
 returns : tie.Need-returns Inv-loop μ-loop
-returns c = told-all _ _ _ _ _ _ (c .loop-test .left) (c .before .loop .inv)
+returns c = told-all (c .loop-test .left) (c .before .loop .inv)
 
 pub numbers-spec : {M : Type 1} → statement M
 numbers-spec =
