@@ -46,7 +46,7 @@ refused-told o s a b n rows columns e = (
   (
     record { covered = λ plan f. no-plan n plan f },
     (
-      record { fewest = λ plan f. no-plan n plan f },
+      record { on-rows = λ plan f. no-plan n plan f; on-columns = λ plan f. no-plan n plan f },
       record { largest = λ plan f. no-plan n plan f },
     ),
   ),

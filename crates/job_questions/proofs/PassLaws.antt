@@ -19,13 +19,13 @@ use Rattle.job_questions.specs.declared.Items.{Items}
 use Rattle.job_questions.specs.declared.State.{State}
 use Rattle.job_questions.specs.declared.Survey.{Survey}
 use Rattle.job_questions.specs.declared.Survey.the-variants.{Stopped, Whole}
-use Rattle.job_records.specs.Records.{RW, CL, MR, BR, BC, step, rank, isEnd, goesOn, ended, records, rest, marked, values}
+use Rattle.job_records.specs.Records.{RW, CL, MR, BR, BC, headRecord, stepOutcome, step, rank, isEnd, goesOn, ended, records, rest, marked, values}
 use Rattle.units.specs.Grid.{lastRow, lastColumn}
 use Rattle.job_questions.specs.Verdict.{asked, every, follows, ordered, isArea, hasArea, flagOk, notReversed, inGrid, sized, rising}
 use Rattle.job_questions.specs.Verdict.{question1, question2, question3, question4, question5, question6, question7, question8, question9}
 use Rattle.job_questions.specs.Verdict.{inOrder, itemsOf}
 use Rattle.job_questions.specs.Pass.{beyond, placed, rowsAfter, columnsAfter, oneMore, counted, Few, start, advanced, after, surveyed, firstNo, answer}
-use Rattle.job_records.proofs.RecordLaws.{records-more, rest-more, records-stop, rest-stop, step-used, part}
+use Rattle.job_records.proofs.RecordLaws.{records-more, rest-more, records-stop, rest-stop, step-is, step-used, part}
 
 -- ---- Bool
 
@@ -239,12 +239,15 @@ seen-start b t e = rw e (record {
   room = record { rows = omega arith; columns = omega arith; merges = omega arith; row-breaks = omega arith; column-breaks = omega arith };
 })
 
-module _ (b s : List ℕ) (t : State) (w : Seen b s t) (f : Step) (e : f ≡ step s) where
+module _ (b s : List ℕ) (t : State) (w : Seen b s t) (f : Step) (o : stepOutcome f ≡ headRecord s) where
+  at-head : f ≡ step s
+  at-head = step-is s f o
+
   pub seen-more : (r : Record) (n x : ℕ) (u : State) → f ≡ Read r n → x ≡ rank r → (x ≡ 19 → ⊥) → u ≡ advanced t r → Seen b (take (length s - n) (drop n s)) u
   unfolding after
   seen-more r n x u k i h j =
-      let z : step s ≡ Read r n = sym e ∙ k in
-      let m = step-used s f r n e k in
+      let z : step s ≡ Read r n = sym at-head ∙ k in
+      let m = step-used s f r n at-head k in
       let g : isEnd r ≡ false = ne-eqb (rank r) 19 (λ q. h (i ∙ q)) in
       rw (part n s, j) (record {
         same-rest = sym (rest-more s r n z (m .0) (m .1) g) ∙ w .same-rest;
@@ -259,18 +262,18 @@ module _ (b s : List ℕ) (t : State) (w : Seen b s t) (f : Step) (e : f ≡ ste
   pub seen-nothing : length b ≤ 60000 → f ≡ Nothing → Stopped 2 ≡ surveyed b
   unfolding surveyed goesOn ended
   seen-nothing l k =
-      let z : step s ≡ Nothing = sym e ∙ k in
+      let z : step s ≡ Nothing = sym at-head ∙ k in
       let h : rest b ≡ s = stop (ap goesOn z) in
       rw (le-leb (length b) 60000 l, h, z)
 
   module _ (r : Record) (n x : ℕ) (k : f ≡ Read r n) (i : x ≡ rank r) (h : x ≡ 19) (l : length b ≤ 60000) where
     at-end : rest b ≡ s
     unfolding goesOn
-    at-end = stop (ap goesOn (sym e ∙ k) ∙ ap not (eq-eqb (rank r) 19 (sym i ∙ h)))
+    at-end = stop (ap goesOn (sym at-head ∙ k) ∙ ap not (eq-eqb (rank r) 19 (sym i ∙ h)))
 
     is-end : ended (step (rest b)) ≡ true
     unfolding ended
-    is-end = ap (λ (y : List ℕ). ended (step y)) at-end ∙ ap ended (sym e ∙ k) ∙ eq-eqb (rank r) 19 (sym i ∙ h)
+    is-end = ap (λ (y : List ℕ). ended (step y)) at-end ∙ ap ended (sym at-head ∙ k) ∙ eq-eqb (rank r) 19 (sym i ∙ h)
 
     -- an EN that is not last
     pub seen-early : (length s ≡ 2 → ⊥) → Stopped 3 ≡ surveyed b
@@ -281,7 +284,7 @@ module _ (b s : List ℕ) (t : State) (w : Seen b s t) (f : Step) (e : f ≡ ste
     pub seen-end : length s ≡ 2 → Whole t ≡ surveyed b
     unfolding surveyed goesOn after
     seen-end q =
-        let g : records s ≡ [] = records-stop s (ap goesOn (sym e ∙ k) ∙ ap not (eq-eqb (rank r) 19 (sym i ∙ h))) in
+        let g : records s ≡ [] = records-stop s (ap goesOn (sym at-head ∙ k) ∙ ap not (eq-eqb (rank r) 19 (sym i ∙ h))) in
         let a : t ≡ after start (records b) = ap (after t) (sym g) ∙ w .same-after in
         rw (le-leb (length b) 60000 l, is-end, at-end, eq-eqb (length s) 2 q) (ap Whole a)
 

@@ -8,15 +8,16 @@ use native.Mathlib.Omega.{arith}
 use lib.Dec.{T, leb, eqb, leb→le}
 use lib.ListN.{length}
 use borrow.Author.Tests.{le-leb, leb-true}
-use Rattle.units.specs.Outcome.{given, refused}
+use Rattle.units.specs.Outcome.{Outcome, given, refused}
 use Rattle.job_records.specs.declared.records.Record.{Record}
 use Rattle.job_records.specs.declared.records.Step.{Step}
 use Rattle.job_records.specs.declared.records.Step.the-variants.{Read, Nothing}
 use Rattle.job_questions.specs.declared.Items.{Items}
-use Rattle.job_records.specs.Records.{Format, RW, CL, MR, BR, BC, find, formats, known, step, rank, isEnd, used, onto, recordsFrom, records, marked}
+use Rattle.job_records.specs.Records.{Format, Found, RW, CL, MR, BR, BC, found, find, formats, known, headRecord, step, rank, isEnd, used, onto}
+use Rattle.job_records.specs.Records.{recordsFrom, records, marked}
 use Rattle.job_questions.specs.Verdict.{question6, questions, inOrder, verdictLent, itemsOf}
 use Rattle.job_reader.specs.Reading.{Lists, evenLists, roomIn, fitIn, asked, jobOf, readJob}
-use Rattle.job_records.proofs.RecordLaws.{in-whole, step-used, split}
+use Rattle.job_records.proofs.RecordLaws.{same-found, in-whole, step-found, step-used, split}
 use Rattle.job_questions.proofs.PassLaws.{All}
 use Rattle.job_reader.proofs.ReadingLaws.{all-given}
 
@@ -31,16 +32,16 @@ heavy-here : (k w : ℕ) (f : Format) (s : List ℕ) → T (cond (eqb (rank (f .
     → w ≤ f .bytes
 heavy-here k w f s t e = leb→le w (f .bytes) (rw e at t)
 
-found-here : (k w : ℕ) (f : Format) (b : Bool) (g : Step) (s : List ℕ) (r : Record) (n : ℕ) → T (cond (eqb (rank (f .kind s)) k) (leb w (f .bytes)) true)
-    → (g ≡ Read r n → w ≤ n) → eqb (rank r) k ≡ true → cond b (Read (f .kind s) (f .bytes)) g ≡ Read r n → w ≤ n
+found-here : (k w : ℕ) (f : Format) (b : Bool) (g : Outcome Found) (s : List ℕ) (r : Record) (n : ℕ)
+    → T (cond (eqb (rank (f .kind s)) k) (leb w (f .bytes)) true) → (g ≡ found r n → w ≤ n) → eqb (rank r) k ≡ true
+    → cond b (found (f .kind s) (f .bytes)) g ≡ found r n → w ≤ n
 found-here k w f true g s r n t h e i =
-    let i₁ : f .bytes ≡ n = cc in
-    let i₂ : f .kind s ≡ r = cc in
-    let j = heavy-here k w f s t (ap (λ (q : Record). eqb (rank q) k) i₂ ∙ e) in
-    omega arith
+    let same = same-found (f .kind s) r (f .bytes) n i in
+    let j = heavy-here k w f s t (ap (λ (q : Record). eqb (rank q) k) (same .0) ∙ e) in
+    omega (arith, same .1)
 found-here k w f false g s r n t h e i = h i
 
-found-heavy : (k w : ℕ) (fs : List Format) (x : ℕ) (s : List ℕ) (r : Record) (n : ℕ) → T (heavy k w s fs) → eqb (rank r) k ≡ true → find x fs s ≡ Read r n
+found-heavy : (k w : ℕ) (fs : List Format) (x : ℕ) (s : List ℕ) (r : Record) (n : ℕ) → T (heavy k w s fs) → eqb (rank r) k ≡ true → find x fs s ≡ found r n
     → w ≤ n
 unfolding find
 found-heavy k w [] x s r n t e i = let z : _≡_ {A = ℕ} 0 1 = cc in absurd (omega arith)
@@ -53,8 +54,8 @@ abbrev Weighs : ℕ → ℕ → Type 0
 Weighs k w = (s : List ℕ) → T (heavy k w s formats)
 
 step-heavy : (k w : ℕ) → Weighs k w → (s : List ℕ) (r : Record) (n : ℕ) → step s ≡ Read r n → eqb (rank r) k ≡ true → w ≤ n
-unfolding step known
-step-heavy k w h s r n i e = found-heavy k w formats _ s r n (h s) e (in-whole (length s) (known s) r n i .0)
+unfolding headRecord known
+step-heavy k w h s r n i e = found-heavy k w formats _ s r n (h s) e (in-whole (length s) (known s) r n (step-found s r n i) .0)
 
 -- ---- the bytes of all records with a mark
 

@@ -22,11 +22,11 @@ use Rattle.job_reader.specs.declared.settings.Next.{Next}
 use Rattle.job_reader.specs.declared.settings.Next.the-variants.{Kind, Stop}
 use Rattle.job_reader.specs.declared.settings.Lookup.{Lookup}
 use Rattle.job_reader.specs.declared.settings.Lookup.the-variants.{Found, Missing}
-use Rattle.job_records.specs.Records.{step, rank, isEnd, goesOn, records, marked}
+use Rattle.job_records.specs.Records.{headRecord, stepOutcome, step, rank, isEnd, goesOn, records, marked}
 use Rattle.job_questions.specs.Verdict.{follows, ordered}
 use Rattle.job_reader.specs.Walk.{before, ofKind, firstOf, Sorted, Past}
 use Rattle.planner_rules.proofs.QuestionLaws.{both}
-use Rattle.job_records.proofs.RecordLaws.{records-more, records-stop, step-used, part, length-part}
+use Rattle.job_records.proofs.RecordLaws.{records-more, records-stop, step-is, step-used, part, length-part}
 use Rattle.job_records.proofs.records.Record as R
 
 -- ---- marks that never fall
@@ -72,19 +72,22 @@ apart k n h o =
 
 -- ---- the next record
 
-module _ (s : List ℕ) {f : Step} (e : f ≡ step s) where
+module _ (s : List ℕ) (f : Step) (o : stepOutcome f ≡ headRecord s) where
+  at-head : f ≡ step s
+  at-head = step-is s f o
+
   pub next-nothing : f ≡ Nothing → Stop ≡ before (step s)
   unfolding before
-  next-nothing k = sym (ap before (sym e ∙ k))
+  next-nothing k = sym (ap before (sym at-head ∙ k))
 
   module _ {r : Record} {n x : ℕ} (k : f ≡ Read r n) (i : x ≡ rank r) where
     pub next-end : x ≡ 19 → Stop ≡ before (step s)
     unfolding before
-    next-end h = rw (← e, k, eq-eqb (rank r) 19 (sym i ∙ h))
+    next-end h = rw (← at-head, k, eq-eqb (rank r) 19 (sym i ∙ h))
 
     pub next-kind : (x ≡ 19 → ⊥) → Kind r n ≡ before (step s)
     unfolding before
-    next-kind h = rw (← e, k, ne-eqb (rank r) 19 (λ q. h (i ∙ q)))
+    next-kind h = rw (← at-head, k, ne-eqb (rank r) 19 (λ q. h (i ∙ q)))
 
 -- what it tells of a step
 stops : (f : Step) → before f ≡ Stop → goesOn f ≡ false

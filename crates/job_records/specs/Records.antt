@@ -6,6 +6,7 @@ use mathlib.Core.List.{List, [], _∷_, map}
 use lib.ListN.{length, getD, take}
 use lib.Dec.{leb, eqb}
 use lib.IntN.{natAbs}
+use Rattle.units.specs.Outcome.{Outcome, given, refused}
 use Rattle.job_records.specs.LittleEndian.{u16At, u32At, u64At, i64Of}
 use Rattle.job_records.specs.declared.records.Range.{Range}
 use Rattle.job_records.specs.declared.records.RowSlot.{RowSlot}
@@ -97,10 +98,19 @@ formats =
     ∷ format 69 78 (λ s. End) 2
     ∷ []
 
--- the record of a mark among some formats
-unfoldable pub find : ℕ → List Format → List ℕ → Step
-find m [] s = Nothing
-find m (f ∷ fs) s = cond (eqb m (f .mark)) (Read (f .kind s) (f .bytes)) (find m fs s)
+-- a record that was found, and how many bytes it has
+pub record Found : Type 0 where
+  pub kind : Record
+  pub bytes : ℕ
+
+-- the same as an outcome
+abbrev pub found : Record → ℕ → Outcome Found
+found r n = given (record { kind = r; bytes = n })
+
+-- the record of a mark among some formats; an unknown mark is no to 2, "Whole known records up to an EN?"
+unfoldable pub find : ℕ → List Format → List ℕ → Outcome Found
+find m [] s = refused 2
+find m (f ∷ fs) s = cond (eqb m (f .mark)) (found (f .kind s) (f .bytes)) (find m fs s)
 
 -- the formats of the settings, which stand first, for the private functions of `src/records.rt`
 abbrev pub settings : List Format
@@ -112,17 +122,32 @@ sizeIn [] m = 0
 sizeIn (f ∷ fs) m = cond (eqb m (f .mark)) (f .bytes) (sizeIn fs m)
 
 -- the record of a known mark at the head of the bytes
-unfoldable pub known : List ℕ → Step
+unfoldable pub known : List ℕ → Outcome Found
 known s = find (u16At s 0) formats s
 
--- a record counts where all its bytes are there
-unfoldable pub whole : ℕ → Step → Step
-whole n Nothing = Nothing
-whole n (Read r k) = cond (leb k n) (Read r k) Nothing
+-- a record counts where all its bytes are there, of n; one that is not whole is no to 2
+unfoldable pub whole : ℕ → Outcome Found → Outcome Found
+whole n (given f) = cond (leb (f .bytes) n) (given f) (refused 2)
+whole n (refused k) = refused k
 
 -- the whole known record at the head of the bytes, and how many bytes it has
+unfoldable pub headRecord : List ℕ → Outcome Found
+headRecord s = whole (length s) (known s)
+
+-- the value or the number that each case of `Step` stands for
+abbrev pub stepOutcome : Step → Outcome Found
+stepOutcome (Read r n) = found r n
+stepOutcome Nothing = refused 2
+
+-- the case of `Step` that stands for an outcome
+abbrev pub stepOf : Outcome Found → Step
+stepOf (given f) = Read (f .kind) (f .bytes)
+stepOf (refused n) = Nothing
+
+-- the step from the head of the bytes
 unfoldable pub step : List ℕ → Step
-step s = whole (length s) (known s)
+unfolding headRecord
+step s = stepOf (headRecord s)
 
 -- ---- the places of the marks in the order of the records, from 1
 

@@ -25,7 +25,7 @@ use crate::ranks::ROWS;
 ghost use mathlib.Core.Path.{_≡_};
 ghost use Prim.Native.Nat.{_≤_};
 ghost use lib.ListN.{length};
-ghost use Rattle.job_records.specs.Records.{rangeAt, marginsAt, rowAt, columnAt, find, formats, settings, sizeIn, step, rank};
+ghost use Rattle.job_records.specs.Records.{rangeAt, marginsAt, rowAt, columnAt, find, formats, settings, sizeIn, headRecord, stepOutcome, rank};
 
 // A rectangle of cells.
 pub struct Range {
@@ -85,7 +85,8 @@ pub enum Record {
     End,
 }
 
-// What `read_record` answers: the record at the head of some bytes and how many bytes it has, or that no whole known record is there.
+// What `read_record` answers: the record at the head of some bytes and how many bytes it has, or that no whole known record is there, which is
+// a no to question 2.
 pub enum Step {
     Read(Record, usize),
     Nothing,
@@ -195,7 +196,7 @@ fn size_of(mark: u16) -> usize
 // The record with this mark where it is a setting, whose bytes are all there.
 fn setting_at(s: &[u8], mark: u16) -> Step
     requires { ⌜ sizeIn settings mark ≤ length (now s) ⌝ }
-    ensures { λ r. ⌜ r ≡ find mark settings (now (s .entry)) ⌝ }
+    ensures { λ r. ⌜ stepOutcome r ≡ find mark settings (now (s .entry)) ⌝ }
 {
     match mark {
         PC => Step::Read(Record::Paper(u16_at(s, 2)), 4),
@@ -218,7 +219,7 @@ fn setting_at(s: &[u8], mark: u16) -> Step
 // The record with this mark, whose bytes are all there.
 fn known_at(s: &[u8], mark: u16) -> Step
     requires { ⌜ sizeIn formats mark ≤ length (now s) ⌝ }
-    ensures { λ r. ⌜ r ≡ find mark formats (now (s .entry)) ⌝ }
+    ensures { λ r. ⌜ stepOutcome r ≡ find mark formats (now (s .entry)) ⌝ }
 {
     match mark {
         RW => Step::Read(Record::Row(row_at(s)), 14),
@@ -233,7 +234,7 @@ fn known_at(s: &[u8], mark: u16) -> Step
 
 // The whole known record at the head of the bytes, and how many bytes it has.
 pub fn read_record(bytes: &[u8]) -> Step
-    ensures { λ r. ⌜ r ≡ step (now (bytes .entry)) ⌝ }
+    ensures { λ r. ⌜ stepOutcome r ≡ headRecord (now (bytes .entry)) ⌝ }
 {
     if bytes.len() < 2 {
         return Step::Nothing;

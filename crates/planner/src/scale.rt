@@ -14,24 +14,25 @@ use units::Length;
 ghost use mathlib.Core.Path.{_≡_};
 ghost use mathlib.Core.Bool.{_&&_};
 ghost use Prim.Native.Nat.{_+_, _≤_, _^_};
+ghost use lib.IntN.{pos};
 ghost use lib.ListN.{length};
+ghost use Rattle.units.specs.Units.{unscaledCapacity};
 ghost use Rattle.planner_rules.specs.Slots.{Slots};
 ghost use Rattle.planner_rules.specs.Runs.{runs};
-ghost use Rattle.planner_rules.specs.Scale.{capacityOf, fitsSide, allFit, meets, halve, fitScale, spaceOf, scaleOf, titled, Low, fitPasses, Fitted};
+ghost use Rattle.planner_rules.specs.Scale.{fitsSide, allFit, meets, halve, fitScale, spaceOf, scaleOf, titled, Low, fitPasses, Fitted};
 ghost use Rattle.planner_rules.specs.Plan.{readyFrame};
 ghost use Rattle.planner_rules.specs.Scale as section;
 
-// The capacity at a permille beside so many units of titles.
-fn capacity_at(page: PageSide, permille: u16, titles: u64) -> u64
+// The capacity at a permille beside these titles.
+fn capacity_at(page: PageSide, permille: u16, titles: Fixed) -> u64
     requires { ⌜ Low page ⌝ }
-    requires { ⌜ titles ≤ 2 ^ 50 ⌝ }
-    ensures { λ r. ⌜ r ≡ capacityOf (spaceOf page) permille titles ⌝ }
+    ensures { λ r. ⌜ r ≡ section.units (unscaledCapacity (page .side .0) permille (titles .0) (pos (page .headings))) ⌝ }
 {
     let side = page.side;
     let answer = units::unscaled_capacity(
         side,
         permille,
-        Fixed::from_raw(titles as i64),
+        titles,
         Fixed::from_raw(page.headings as i64),
     );
     match answer {
@@ -80,8 +81,8 @@ pub(crate) fn frame_at(fit: Fit, permille: u16) -> Frame
     let stretch = fit.stretch;
     let title = stretch.title;
     Frame {
-        untitled: capacity_at(page, permille, 0),
-        titled: capacity_at(page, permille, page.titles),
+        untitled: capacity_at(page, permille, Fixed::ZERO),
+        titled: capacity_at(page, permille, Fixed::from_raw(page.titles as i64)),
         title,
         lo: stretch.lo,
         hi: stretch.hi,

@@ -10,7 +10,7 @@ use lib.Seq.{getD-take, getD-drop}
 use Rattle.planner_rules.specs.declared.titles.Title.the-variants.{Absent}
 use Rattle.planner_rules.specs.declared.runs.Frame.{Frame}
 use Rattle.planner_rules.specs.Slots.{Rising, sum, below}
-use Rattle.planner_rules.specs.Titles.{titleTotal, normalized, widened, widenedFrom}
+use Rattle.planner_rules.specs.Titles.{titleTotal}
 use Rattle.planner_rules.specs.Runs.{Run, axisRuns}
 use Rattle.planner_rules.specs.Lent.{firsts, lasts, sizes}
 use Rattle.planner_rules.specs.Scale.{frameFor}
@@ -132,13 +132,9 @@ bare-fewest : (k : Frame) (fs ls is ss bs : List ℕ) → fs ≡ [] → ls ≡ [
 bare-fewest k fs ls is ss bs ef el even t = rw (ef, el, ← kept-plain k is t 0 bs) (axis-fewest-runs k is ss bs even t)
 
 module _ (a : AxisInput) (bare : Bare a) where
-  pub bare-title : titleOf a .title ≡ Absent
-  unfolding widened widenedFrom normalized
-  bare-title = rw (bare .no-title)
-
   pub bare-total : titleTotal (titleOf a .title) (a .indexes) (a .sizes) ≡ 0
   unfolding titleTotal
-  bare-total = rw bare-title
+  bare-total = rw (bare .no-title)
 
   module _ (side : ℤ) (p : ℕ) (even : length (a .indexes) ≡ length (a .sizes)) where
     -- the runs are the fewest
@@ -151,7 +147,7 @@ module _ (a : AxisInput) (bare : Bare a) where
         let best : FewestRuns (capacityBeside side a p) (keptBreaks (bodyIndexes a) 0 (a .breaks)) (bodyIndexes a) (bodySizes a) (firsts rs) (lasts rs)
         (sizes rs) =
         bare-fewest (frameFor (spaceOn side a) (bodyOf a) p) (a .merge-firsts) (a .merge-lasts) (bodyIndexes a) (bodySizes a) (a .breaks)
-        (bare .no-merge-firsts) (bare .no-merge-lasts) (body-even a even) bare-title in
+        (bare .no-merge-firsts) (bare .no-merge-lasts) (body-even a even) (bare .no-title) in
         let many : 0 < length rs =
         some-of (length (bodySizes a)) rs (axis-division (frameFor (spaceOn side a) (bodyOf a) p) (a .merge-firsts) (a .merge-lasts) (bodyIndexes a)
         (bodySizes a) (a .breaks) (body-even a even)) (omega (arith, body-even a even)) in

@@ -1,6 +1,6 @@
--- The eight P cases of document 01's section "Runs", its case without slots and the two cases of widening of section "Titles", computed; and
--- divisions that the words of demand 3 shut out.
--- Assumes nothing.
+-- The eight P cases of document 01's section "Runs", its case without slots and the two cases of widening of section "Titles", computed, with
+-- two cases of mistakes that it expects: breaks that are sorted, and a boundary that a merge moved and that is tested again; and divisions
+-- that the words of demand 3 shut out. Assumes nothing.
 use mathlib.Core.Path.{_≡_, refl}
 use mathlib.Core.Logic.{inl, inr, ⊎-elim}
 use mathlib.Core.List.{List, [], _∷_, map}
@@ -64,9 +64,14 @@ pub record Table : Type 0 where
   pub long-merge : five 25 25 Absent (0 ∷ []) (3 ∷ []) [] ≡ row ((0 ∷ 3 ∷ 40 ∷ 0 ∷ []) ∷ (4 ∷ 4 ∷ 10 ∷ 0 ∷ []) ∷ []) 1 0
   pub four-breaks : five 25 25 Absent [] [] (3 ∷ 1 ∷ 0 ∷ 5 ∷ [])
       ≡ row ((0 ∷ 1 ∷ 20 ∷ 0 ∷ []) ∷ (2 ∷ 2 ∷ 10 ∷ 0 ∷ []) ∷ (3 ∷ 4 ∷ 20 ∷ 1 ∷ []) ∷ []) 0 0
+  -- the same breaks, sorted: another answer
+  pub sorted-breaks : five 25 25 Absent [] [] (0 ∷ 1 ∷ 3 ∷ 5 ∷ [])
+      ≡ row ((0 ∷ 0 ∷ 10 ∷ 0 ∷ []) ∷ (1 ∷ 2 ∷ 20 ∷ 1 ∷ []) ∷ (3 ∷ 4 ∷ 20 ∷ 1 ∷ []) ∷ []) 0 0
   pub moved-break : five 25 25 Absent (1 ∷ []) (2 ∷ []) (2 ∷ [])
       ≡ row ((0 ∷ 0 ∷ 10 ∷ 0 ∷ []) ∷ (1 ∷ 2 ∷ 20 ∷ 1 ∷ []) ∷ (3 ∷ 4 ∷ 20 ∷ 0 ∷ []) ∷ []) 0 1
   pub dropped-break : five 25 25 Absent (0 ∷ []) (4 ∷ []) (2 ∷ []) ≡ row ((0 ∷ 4 ∷ 50 ∷ 0 ∷ []) ∷ []) 1 1
+  -- "The new boundary is not tested again": (2,3) holds the boundary 3 and moves it to 2, which (1,2) holds
+  pub moved-boundary : five 35 35 Absent (1 ∷ 2 ∷ []) (2 ∷ 3 ∷ []) [] ≡ row ((0 ∷ 1 ∷ 20 ∷ 0 ∷ []) ∷ (2 ∷ 4 ∷ 30 ∷ 0 ∷ []) ∷ []) 0 0
   pub inner-title : five 25 15 (Pair 1 2) [] [] [] ≡ row ((0 ∷ 2 ∷ 30 ∷ 0 ∷ []) ∷ (3 ∷ 3 ∷ 10 ∷ 0 ∷ []) ∷ (4 ∷ 4 ∷ 10 ∷ 0 ∷ []) ∷ []) 0 0
   pub zero-size : axisRow 25 25 Absent [] [] [] (0 ∷ 1 ∷ 2 ∷ []) (25 ∷ 0 ∷ 1 ∷ []) ≡ row ((0 ∷ 1 ∷ 25 ∷ 0 ∷ []) ∷ (2 ∷ 2 ∷ 1 ∷ 0 ∷ []) ∷ []) 0 0
   pub no-slots : axisRow 25 25 Absent [] [] [] [] [] ≡ row [] 0 0
@@ -88,8 +93,10 @@ table =
       inner-merge = refl;
       long-merge = refl;
       four-breaks = refl;
+      sorted-breaks = refl;
       moved-break = refl;
       dropped-break = refl;
+      moved-boundary = refl;
       inner-title = refl;
       zero-size = refl;
       no-slots = refl;

@@ -30,7 +30,7 @@ use Rattle.planner_rules.proofs.Lent.{stands, long-written, room-runs, 
 use Rattle.planner_rules.proofs.PlanLaws.{formed-of}
 use Rattle.planner_rules.proofs.PageLaws.{verticalOf, horizontalOf, beforeOf, numbered-zero, numbered-take, numbered-take-past, page-after}
 use Rattle.planner_rules.proofs.PageLaws.{vertical-below, horizontal-below, before-of-place, before-below, vertical-is, horizontal-is}
-use Rattle.planner_rules.proofs.BodyLaws.{body-even, page-runs-cover, bare-title, bare-total, page-runs-fewest}
+use Rattle.planner_rules.proofs.BodyLaws.{body-even, page-runs-cover, bare-total, page-runs-fewest}
 use Rattle.planner_rules.proofs.Largest.{Plain, scale-chosen}
 use Rattle.planner_rules.proofs.NoTen.{sides-given}
 use Rattle.planner_rules.proofs.Laws.{split}
@@ -252,15 +252,16 @@ module _ (s : Settings) (a b : AxisInput) (rows₀ columns₀ rows columns : Lis
 
   pub fewest-plan : FewestPlan r s a b rows columns
   fewest-plan = record {
-    fewest = λ plan f c e none.
+    on-rows = λ plan f c e bare h.
         let d = done s a b rows₀ columns₀ rows columns r p plan f in
         let u = d .on-rows in
+        let same = same-sides (d .sides-are) e in
+        rw (← same, u .firsts-are, u .lasts-are, u .sizes-are) (page-runs-fewest a bare (d .sides .height) (plan .permille) (u .even) h);
+    on-columns = λ plan f c e bare h.
+        let d = done s a b rows₀ columns₀ rows columns r p plan f in
         let w = d .on-columns in
-        let same = same-sides (d .sides-are) e in (
-          λ h. rw (← same, u .firsts-are, u .lasts-are, u .sizes-are) (page-runs-fewest a (none .rows-bare) (d .sides .height) (plan .permille) (u .even) h),
-          λ h. rw (← same, w .firsts-are, w .lasts-are, w .sizes-are)
-              (page-runs-fewest b (none .columns-bare) (d .sides .width) (plan .permille) (w .even) h),
-        );
+        let same = same-sides (d .sides-are) e in
+        rw (← same, w .firsts-are, w .lasts-are, w .sizes-are) (page-runs-fewest b bare (d .sides .width) (plan .permille) (w .even) h);
   }
 
 -- ---- largest
@@ -273,7 +274,7 @@ plain side a n bare x moderate even = record {
   moderate = rw (x .side-is) at moderate;
   room = x .above;
   no-titles = bare-total a bare;
-  no-title = bare-title a bare;
+  no-title = bare .no-title;
   no-firsts = bare .no-merge-firsts;
   no-lasts = bare .no-merge-lasts;
   even = body-even a even;
@@ -292,14 +293,14 @@ module _ (s : Settings) (content : (c : Sides) × (contentSides s ≡ given c) �
   pub largest-plan : LargestPlan r s a b
   unfolding planOf
   largest-plan = record {
-    largest = λ plan f c e none fit height width x y.
+    largest = λ plan f c e bare-a bare-b fit height width x y.
         let d = done s a b rows₀ columns₀ rows columns r p plan f in
         let (k, given-k, width-low, height-low) = content in
         let low = same-sides given-k e in
         let is : planOf s c a b (chosenScale s c a b) ≡ plan = rw (← (same-sides (d .sides-are) e)) (d .plan-is) in
         subst (λ (l : Plan). Chosen (EachReaches a b height width) (l .permille) (l .notes .«fit_unreachable»)) is
-        (scale-is s c a b height width fit (plain (c .height) a height (none .rows-bare) x (rw low at height-low) (d .on-rows .even))
-        (plain (c .width) b width (none .columns-bare) y (rw low at width-low) (d .on-columns .even)));
+        (scale-is s c a b height width fit (plain (c .height) a height bare-a x (rw low at height-low) (d .on-rows .even))
+        (plain (c .width) b width bare-b y (rw low at width-low) (d .on-columns .even)));
   }
 
 -- ---- the clauses of the call, in their order

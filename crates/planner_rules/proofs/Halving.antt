@@ -1,7 +1,7 @@
 -- The halving of `specs/Scale.antt`: what a turn does, for any test; and that it finds the largest number at which a test passes, for a test
 -- that passes below where it passes. Assumes nothing.
 use mathlib.Core.Path.{_≡_, refl, sym, _∙_, subst}
-use mathlib.Core.Logic.{_↔_}
+use mathlib.Core.Logic.{_↔_, inl, inr}
 use mathlib.Core.Bool.{Bool, true, false, true≢false}
 use Prim.Native.Nat.{ℕ, zero, suc, _-_, _^_, _≤_, _<_}
 use native.Mathlib.Omega.{arith}
@@ -113,5 +113,5 @@ module _ (t : ℕ → Bool) (P : ℕ → Type 0) (says : (p : ℕ) → 100 ≤ p
   fit-chosen =
       let at = says 100 (omega arith) (omega arith) in
       by-test (t 100)
-      (λ y. rw y (record { reached = λ g. (found-largest y, refl); missed = λ g. absurd (g (at .0 y)) }))
-      (λ n. rw n (record { reached = λ g. absurd (true≢false (sym (at .1 g) ∙ n)); missed = λ g. (refl, refl) }))
+      (λ y. rw y (inl (record { at-100 = at .0 y; largest = found-largest y; unnoted = refl })))
+      (λ n. rw n (inr (record { not-at-100 = λ g. true≢false (sym (at .1 g) ∙ n); taken = refl; noted = refl })))

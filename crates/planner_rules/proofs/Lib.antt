@@ -25,4 +25,5 @@ pub mod NoTen
 pub mod BodyLaws
 pub mod RunCount
 pub mod Demand
+pub mod FinishedPages
 pub mod Cases

@@ -16,7 +16,7 @@ use Rattle.planner_rules.specs.declared.planning.Planning.{Planning}
 use Rattle.planner_rules.specs.Scale.{units}
 use Rattle.planner_rules.specs.Lent.{runsIn, firsts, lasts, sizes}
 use Rattle.planner_rules.specs.Pages.{pageNumbered}
-use Rattle.planner_rules.specs.Plan.{AxisInput, Sides, startOf, bodyPart, contentSides, planOutcome}
+use Rattle.planner_rules.specs.Plan.{AxisInput, Sides, titleOf, startOf, bodyPart, contentSides, planOutcome}
 use Rattle.planner_rules.specs.Division.{_∈_, keptBreaks, FewestRuns}
 use Rattle.planner_rules.specs.Fitting.{Reaches, Chosen}
 
@@ -56,16 +56,11 @@ pub record CoversPairs (r : Planning) (a b : AxisInput) (rows columns : List ℕ
 
 -- ---- fewest
 
--- of an axis: no title and no merges
+-- "where no merges or titles exist", of one axis: no title, or one that is "ignored with a note", and no merges
 pub record Bare (a : AxisInput) : Type 0 where
-  pub no-title : a .title ≡ Absent
+  pub no-title : titleOf a .title ≡ Absent
   pub no-merge-firsts : a .merge-firsts ≡ []
   pub no-merge-lasts : a .merge-lasts ≡ []
-
--- "where no merges or titles exist"
-pub record NoMergesNoTitles (a b : AxisInput) : Type 0 where
-  pub rows-bare : Bare a
-  pub columns-bare : Bare b
 
 -- the body's indexes, and its sizes
 abbrev pub bodyIndexes : AxisInput → List ℕ
@@ -87,10 +82,12 @@ FewestOnAxis side permille a n list =
     → FewestRuns (capacityBeside side a permille) (keptBreaks (bodyIndexes a) 0 (a .breaks)) (bodyIndexes a) (bodySizes a)
     (firsts (runsIn n list)) (lasts (runsIn n list)) (sizes (runsIn n list))
 
--- "Found where no merges or titles exist, on each axis"
+-- "Found where no merges or titles exist, on each axis": of each axis for itself, whatever the other has
 pub record FewestPlan (r : Planning) (s : Settings) (a b : AxisInput) (rows columns : List ℕ) : Type 0 where
-  pub fewest : (plan : Plan) → Finished r plan → (c : Sides) → contentSides s ≡ given c → NoMergesNoTitles a b
-      → FewestOnAxis (c .height) (plan .permille) a (plan .«row_runs») rows × FewestOnAxis (c .width) (plan .permille) b (plan .«column_runs») columns
+  pub on-rows : (plan : Plan) → Finished r plan → (c : Sides) → contentSides s ≡ given c → Bare a
+      → FewestOnAxis (c .height) (plan .permille) a (plan .«row_runs») rows
+  pub on-columns : (plan : Plan) → Finished r plan → (c : Sides) → contentSides s ≡ given c → Bare b
+      → FewestOnAxis (c .width) (plan .permille) b (plan .«column_runs») columns
 
 -- ---- largest
 
@@ -105,8 +102,9 @@ EachReaches a b height width permille =
     Reaches height (a .headings) (a .target) (bodySizes a) permille × Reaches width (b .headings) (b .target) (bodySizes b) permille
 
 -- "Done to choose a fit scale there, if both content sides exceed the headings: the largest permille from 100 to 1,000 was taken at which
--- each axis has [such a division]; 'unreachable' was noted, once, exactly if 100 is no such permille, and then 100 was taken."
+-- each axis has [such a division]; 'unreachable' was noted, once, exactly if 100 is no such permille, and then 100 was taken." One permille
+-- is taken for both axes, so that neither may have merges or a title.
 pub record LargestPlan (r : Planning) (s : Settings) (a b : AxisInput) : Type 0 where
-  pub largest : (plan : Plan) → Finished r plan → (c : Sides) → contentSides s ≡ given c → NoMergesNoTitles a b → s .fit ≡ true
+  pub largest : (plan : Plan) → Finished r plan → (c : Sides) → contentSides s ≡ given c → Bare a → Bare b → s .fit ≡ true
       → (height width : ℕ) → Exceeds (c .height) a height → Exceeds (c .width) b width
       → Chosen (EachReaches a b height width) (plan .permille) (plan .notes .«fit_unreachable»)

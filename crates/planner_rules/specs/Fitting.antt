@@ -1,6 +1,7 @@
 -- The words of demand 3 on the fit scale (document 01, "Scale", from "For demand 3" on), over plain numbers and lists. Nothing here says
 -- how runs are found or how a permille is searched. Assumes nothing.
 use mathlib.Core.Path.{_≡_}
+use mathlib.Core.Logic.{_⊎_}
 use mathlib.Core.List.{List}
 use Prim.Native.Nat.{ℕ, _+_, _*_, _/_, _≤_}
 use lib.ListN.{length}
@@ -34,8 +35,18 @@ pub record Largest (P : ℕ → Type 0) (low high r : ℕ) : Type 0 where
   pub holds : P r
   pub none-larger : (q : ℕ) → q ≤ high → P q → q ≤ r
 
--- "the largest permille from 100 to 1,000 was taken at which" P holds; "'unreachable' was noted, once, exactly if 100 is no such permille,
--- and then 100 was taken"
-pub record Chosen (P : ℕ → Type 0) (permille unreachable : ℕ) : Type 0 where
-  pub reached : P 100 → Largest P 100 1000 permille × (unreachable ≡ 0)
-  pub missed : ¬ (P 100) → (permille ≡ 100) × (unreachable ≡ 1)
+-- 100 is a permille at which P holds: "the largest permille from 100 to 1,000 was taken at which" it does, and nothing was noted
+pub record Reached (P : ℕ → Type 0) (permille unreachable : ℕ) : Type 0 where
+  pub at-100 : P 100
+  pub largest : Largest P 100 1000 permille
+  pub unnoted : unreachable ≡ 0
+
+-- "'unreachable' was noted, once, exactly if 100 is no such permille, and then 100 was taken"
+pub record Missed (P : ℕ → Type 0) (permille unreachable : ℕ) : Type 0 where
+  pub not-at-100 : ¬ (P 100)
+  pub taken : permille ≡ 100
+  pub noted : unreachable ≡ 1
+
+-- one of the two
+abbrev pub Chosen : (ℕ → Type 0) → ℕ → ℕ → Type 0
+Chosen P permille unreachable = Reached P permille unreachable ⊎ Missed P permille unreachable

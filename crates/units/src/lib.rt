@@ -27,6 +27,7 @@ pub enum Length {
 }
 
 impl Fixed {
+    // No length.
     pub const ZERO: Self = Self(0);
 
     // A length of so many units, and its units.
@@ -77,7 +78,7 @@ fn negative(n: u64) -> Length
     ensures { λ r. ⌜ lengthOutcome r ≡ inI64 (negℤ (pos n)) ⌝ }
 {
     if n == 0 {
-        return Length::Value(Fixed(0));
+        return Length::Value(Fixed::ZERO);
     }
     if n <= 0x8000_0000_0000_0000 {
         Length::Value(Fixed(-1 - ((n - 1) as i64)))

@@ -1,7 +1,7 @@
 -- `job_questions::survey_job` meets its contract. Assumes nothing.
 use Prim.Native.Nat.{_≤_}
 use lib.ListN.{length}
-use Rattle.job_records.proofs.RecordLaws.{step-used, length-part}
+use Rattle.job_records.proofs.RecordLaws.{step-is, step-used, length-part}
 use Rattle.job_questions.proofs.PassLaws.{Seen, seen-start, seen-more, seen-nothing, seen-early, seen-end, too-long, room-few}
 use borrow.Author.Needs.{needs}
 use native.Mathlib.Omega.{arith}
@@ -30,7 +30,7 @@ abbrev read : tie.After-found Inv-loop μ-loop → tie.After-read-record Inv-loo
 read d = search
 
 used : (d : tie.After-found Inv-loop μ-loop) → let n = d .found .given .0 .1 .0 in (1 ≤ n) × (n ≤ length (turn d .loop .s .now))
-used d = step-used _ _ _ _ (read d .read-record .ensures) (d .found .given .1)
+used d = step-used _ _ _ _ (step-is _ _ (read d .read-record .ensures)) (d .found .given .1)
 
 returns : tie.Need-returns Inv-loop μ-loop
 returns c = too-long _ (c .if1 .taken)

@@ -14,7 +14,7 @@ enum-told : tie.Need-enum-told
 enum-told c = search needs
 
 returns : tie.Need-returns
-returns c = next-nothing _ (c .before .before .read-record .ensures) (c .enum-told .given .1)
+returns c = next-nothing _ _ (c .before .before .read-record .ensures) (c .enum-told .given .1)
 
 rank-of-requires : tie.Need-rank-of-requires
 rank-of-requires c κs = search needs
@@ -23,13 +23,13 @@ returns-2 : tie.Need-returns-2
 returns-2 c =
     let after-read-record : tie.After-read-record = search in
     let after-found : tie.After-found = search in
-    next-end _ (after-read-record .read-record .ensures) (after-found .found .given .1) (c .before .rank-of .ensures) (c .if1 .taken)
+    next-end _ _ (after-read-record .read-record .ensures) (after-found .found .given .1) (c .before .rank-of .ensures) (c .if1 .taken)
 
 returns-3 : tie.Need-returns-3
 returns-3 c =
     let after-read-record : tie.After-read-record = search in
     let after-found : tie.After-found = search in
-    next-kind _ (after-read-record .read-record .ensures) (after-found .found .given .1) (c .before .rank-of .ensures) (c .if1 .left)
+    next-kind _ _ (after-read-record .read-record .ensures) (after-found .found .given .1) (c .before .rank-of .ensures) (c .if1 .left)
 
 pub next-record-spec : {M : Type 1} → statement M
 next-record-spec =

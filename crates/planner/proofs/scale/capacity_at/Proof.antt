@@ -1,4 +1,4 @@
--- `planner::scale::capacity_at` meets its contract: titles and headings are small, so they are themselves as i64. Assumes nothing.
+-- `planner::scale::capacity_at` meets its contract: headings are small, so they are themselves as i64. Assumes nothing.
 use mathlib.Core.Path.{_≡_, sym, ap, _∙_}
 use Prim.Native.Nat.{_^_, _<_}
 use native.Mathlib.Omega.{arith}
@@ -15,32 +15,22 @@ use Rattle.planner.proofs.scale.capacity_at.Tie as tie
 whole : (u : tie.After-unscaled-capacity) →
     let start : tie.Start = search in
     let s = start in let a = s .args in
-    lengthOutcome (u .unscaled-capacity .result) ≡ unscaledCapacity (a .page .side .0) (a .permille) (pos (a .titles)) (pos (a .page .headings))
+    lengthOutcome (u .unscaled-capacity .result) ≡ unscaledCapacity (a .page .side .0) (a .permille) (a .titles .0) (pos (a .page .headings))
 whole u =
     let s : tie.Start = search in
-    let after-from-raw : tie.After-from-raw = search in
     let a = s .args in
-    let t : a .titles < 2 ^ 63 = omega (arith, s .pre .1) in
-    let h : a .page .headings < 2 ^ 63 = omega (arith, s .pre .0 .headings-low) in
+    let h : a .page .headings < 2 ^ 63 = omega (arith, s .pre .headings-low) in
     u .unscaled-capacity .ensures
-    ∙ ap (λ (z : ℤ). unscaledCapacity (a .page .side .0) (a .permille) z (u .before .from-raw2 .result .0))
-    (after-from-raw .from-raw .ensures ∙ toZ-pos w64 (a .titles) t)
-    ∙ ap (λ (z : ℤ). unscaledCapacity (a .page .side .0) (a .permille) (pos (a .titles)) z)
-    (u .before .from-raw2 .ensures ∙ toZ-pos w64 (a .page .headings) h)
+    ∙ ap (λ (z : ℤ). unscaledCapacity (a .page .side .0) (a .permille) (a .titles .0) z)
+    (u .before .from-raw .ensures ∙ toZ-pos w64 (a .page .headings) h)
 
 cast-from-raw : tie.Need-cast-from-raw
-cast-from-raw c = record { sfits = omega (arith, c .before .pre .1) }
+cast-from-raw c =
+    let start : tie.Start = search in
+    record { sfits = omega (arith, start .pre .headings-low) }
 
 from-raw-requires : tie.Need-from-raw-requires
 from-raw-requires c κs = search needs
-
-cast-from-raw-2 : tie.Need-cast-from-raw-2
-cast-from-raw-2 c =
-    let start : tie.Start = search in
-    record { sfits = omega (arith, start .pre .0 .headings-low) }
-
-from-raw-requires-2 : tie.Need-from-raw-requires-2
-from-raw-requires-2 c κs = search needs
 
 unscaled-capacity-requires : tie.Need-unscaled-capacity-requires
 unscaled-capacity-requires c κs = search needs
@@ -70,8 +60,6 @@ capacity-at-spec =
     (tie.spec
     cast-from-raw
     from-raw-requires
-    cast-from-raw-2
-    from-raw-requires-2
     unscaled-capacity-requires
     enum-known-answer
     magnitude-requires
