@@ -1,2 +1,2 @@
--- What the contracts of `lines` cite.
+-- What the contracts of `hexadecimal` cite.
 pub mod Hex

@@ -1,3 +1,3 @@
--- What the contracts of `records` cite: numbers and records in bytes.
+-- What the contracts of `job_records` cite: numbers and records in bytes.
 pub mod LittleEndian
 pub mod Records

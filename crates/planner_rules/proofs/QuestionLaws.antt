@@ -1,4 +1,4 @@
--- Laws of `specs/Questions.antt`'s definitions: for the loops of crate `questions`, and what a "yes" says of every item. Assumes nothing.
+-- Laws of `specs/Questions.antt`'s definitions: for the loops of crate `planner_questions`, and what a "yes" says of every item. Assumes nothing.
 use mathlib.Core.Path.{_≡_, refl, sym, ap, _∙_}
 use mathlib.Core.Bool.{Bool, true, false, _&&_, and-true, and-false}
 use mathlib.Core.List.{List, [], _∷_}

@@ -1,4 +1,4 @@
--- Laws of `specs/Titles.antt`'s definitions: the loops of crate `titles`, that the bound on passes cuts nothing off, and what callers may
+-- Laws of `specs/Titles.antt`'s definitions: the loops of crate `planner_titles`, that the bound on passes cuts nothing off, and what callers may
 -- rely on. Assumes nothing.
 use mathlib.Core.Path.{_≡_, refl, sym, ap, ap₂, _∙_, subst}
 use mathlib.Core.Bool.{Bool, true, false, cond, not, _&&_, true≢false}
