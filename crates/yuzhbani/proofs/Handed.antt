@@ -19,6 +19,7 @@ use Rattle.job_questions.specs.declared.Items.{Items}
 use Rattle.job_records.specs.Records.{records}
 use Rattle.job_questions.specs.Verdict.{inOrder, questions, itemsOf, verdictLent, verdict}
 use Rattle.job.specs.PlanJob.{jobSettings, jobRows, jobColumns, planJob}
+use Rattle.job.proofs.JobLaws.{refused-told}
 use Rattle.job_report.specs.declared.blocks.Block.{Block}
 use Rattle.job_report.specs.declared.blocks.BlockAnswer.{BlockAnswer}
 use Rattle.job_report.specs.Blocks.{blockLines, pageBlock, blockOutcome, BlockPut}
@@ -107,14 +108,10 @@ handed o never s rs cs rows₀ columns₀ rows columns p old r numbers w (a, (n,
 -- the same where 5 is no, and nothing was written: the three sentences are of a finished plan
 pub handed-five : {b : Bool} → b ≡ false → (o : Outcome Layout) (s : Settings) (rs cs : AxisInput) (rows columns old : List ℕ)
     → PlanHanded (ask 5 b o) 5 old old rows columns rows columns × Demands (told 5 old) s rs cs rows columns
-handed-five e o s rs cs rows columns old =
-    let never : (p : Plan) → refused 5 ≡ given p → ⊥ = λ p f. not-given p 5 (sym f) in (
-      rw e (record { answer = refl; numbers-are = refl; stands = refl; rows-are = refl; columns-are = refl }),
-      (
-        record { covered = λ p f. absurd (never p f) },
-        (record { fewest = λ p f. absurd (never p f) }, record { largest = λ p f. absurd (never p f) }),
-      ),
-    )
+handed-five e o s rs cs rows columns old = (
+  rw e (record { answer = refl; numbers-are = refl; stands = refl; rows-are = refl; columns-are = refl }),
+  refused-told (refused 5) s rs cs 5 rows columns refl .1,
+)
 
 -- ---- what is asked by numbers
 
