@@ -373,7 +373,8 @@ pub(crate) fn write_axis(
     let mut at = 0;
     let mut j = 0;
     while j < breaks.len() {
-        let next = next_cut(k, mfirsts, mlasts, indexes, prev, breaks[j]).place;
+        let kept = next_cut(k, mfirsts, mlasts, indexes, prev, breaks[j]);
+        let next = kept.place;
         at += write_stretch(k, mfirsts, mlasts, indexes, sizes, prev, next, at, list);
         prev = next;
         j += 1;

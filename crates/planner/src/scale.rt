@@ -16,24 +16,35 @@ ghost use mathlib.Core.Bool.{_&&_};
 ghost use Prim.Native.Nat.{_+_, _≤_, _^_};
 ghost use lib.IntN.{pos};
 ghost use lib.ListN.{length};
-ghost use Rattle.units.specs.Units.{unscaledCapacity};
 ghost use Rattle.planner_rules.specs.Slots.{Slots};
 ghost use Rattle.planner_rules.specs.Runs.{runs};
-ghost use Rattle.planner_rules.specs.Scale.{fitsSide, allFit, meets, halve, fitScale, spaceOf, scaleOf, titled, Low, fitPasses, Fitted};
+ghost use Rattle.planner_rules.specs.Scale.{capacityOf, fitsSide, allFit, meets, halve, fitScale, spaceOf, scaleOf, titled, Low, fitPasses, Fitted};
 ghost use Rattle.planner_rules.specs.Plan.{readyFrame};
 ghost use Rattle.planner_rules.specs.Scale as section;
 
-// The capacity at a permille beside these titles.
-fn capacity_at(page: PageSide, permille: u16, titles: Fixed) -> u64
+// So many units as a length. No titles, and no headings, are `Fixed::ZERO`, as in the Rust.
+fn length_of(n: u64) -> Fixed
+    requires { ⌜ n ≤ 2 ^ 53 ⌝ }
+    ensures { λ r. ⌜ r .0 ≡ pos n ⌝ }
+{
+    if n == 0 {
+        return Fixed::ZERO;
+    }
+    Fixed::from_raw(n as i64)
+}
+
+// The capacity at a permille beside so many units of titles.
+fn capacity_at(page: PageSide, permille: u16, titles: u64) -> u64
     requires { ⌜ Low page ⌝ }
-    ensures { λ r. ⌜ r ≡ section.units (unscaledCapacity (page .side .0) permille (titles .0) (pos (page .headings))) ⌝ }
+    requires { ⌜ titles ≤ 2 ^ 50 ⌝ }
+    ensures { λ r. ⌜ r ≡ capacityOf (spaceOf page) permille titles ⌝ }
 {
     let side = page.side;
     let answer = units::unscaled_capacity(
         side,
         permille,
-        titles,
-        Fixed::from_raw(page.headings as i64),
+        length_of(titles),
+        length_of(page.headings),
     );
     match answer {
         Length::Value(capacity) => capacity.magnitude(),
@@ -46,7 +57,7 @@ pub(crate) fn fits_side(page: PageSide, permille: u16, size: u64) -> bool
     requires { ⌜ size ≤ 2 ^ 53 ⌝ }
     ensures { λ r. ⌜ r ≡ fitsSide (spaceOf page) permille size ⌝ }
 {
-    let answer = units::scale_fixed(Fixed::from_raw(size as i64), permille);
+    let answer = units::scale_fixed(length_of(size), permille);
     match answer {
         Length::Value(scaled) => scaled.raw() <= page.side.raw(),
         Length::CoordinateOverflow => false,
@@ -81,8 +92,8 @@ pub(crate) fn frame_at(fit: Fit, permille: u16) -> Frame
     let stretch = fit.stretch;
     let title = stretch.title;
     Frame {
-        untitled: capacity_at(page, permille, Fixed::ZERO),
-        titled: capacity_at(page, permille, Fixed::from_raw(page.titles as i64)),
+        untitled: capacity_at(page, permille, 0),
+        titled: capacity_at(page, permille, page.titles),
         title,
         lo: stretch.lo,
         hi: stretch.hi,

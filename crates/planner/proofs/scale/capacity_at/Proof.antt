@@ -1,10 +1,7 @@
--- `planner::scale::capacity_at` meets its contract: headings are small, so they are themselves as i64. Assumes nothing.
+-- `planner::scale::capacity_at` meets its contract. Assumes nothing.
 use mathlib.Core.Path.{_≡_, sym, ap, _∙_}
-use Prim.Native.Nat.{_^_, _<_}
 use native.Mathlib.Omega.{arith}
-use lib.IntN.{ℤ, pos}
-use mir.Syntax.{w64}
-use mir.ValLaws.{toZ-pos}
+use lib.IntN.{pos}
 use Rattle.units.specs.declared.Length.{Length}
 use Rattle.units.specs.Units.{lengthOutcome, unscaledCapacity}
 use Rattle.planner_rules.specs.Scale.{units}
@@ -14,23 +11,21 @@ use Rattle.planner.proofs.scale.capacity_at.Tie as tie
 
 whole : (u : tie.After-unscaled-capacity) →
     let start : tie.Start = search in
-    let s = start in let a = s .args in
-    lengthOutcome (u .unscaled-capacity .result) ≡ unscaledCapacity (a .page .side .0) (a .permille) (a .titles .0) (pos (a .page .headings))
+    let a = start .args in
+    lengthOutcome (u .unscaled-capacity .result) ≡ unscaledCapacity (a .page .side .0) (a .permille) (pos (a .titles)) (pos (a .page .headings))
 whole u =
-    let s : tie.Start = search in
-    let a = s .args in
-    let h : a .page .headings < 2 ^ 63 = omega (arith, s .pre .headings-low) in
-    u .unscaled-capacity .ensures
-    ∙ ap (λ (z : ℤ). unscaledCapacity (a .page .side .0) (a .permille) (a .titles .0) z)
-    (u .before .from-raw .ensures ∙ toZ-pos w64 (a .page .headings) h)
+    let titles : tie.After-length-of = search in
+    rw (titles .length-of .ensures, u .before .length-of2 .ensures) at (u .unscaled-capacity .ensures)
 
-cast-from-raw : tie.Need-cast-from-raw
-cast-from-raw c =
+length-of-requires : tie.Need-length-of-requires
+length-of-requires c κs =
     let start : tie.Start = search in
-    record { sfits = omega (arith, start .pre .headings-low) }
+    omega (arith, start .pre .1)
 
-from-raw-requires : tie.Need-from-raw-requires
-from-raw-requires c κs = search needs
+length-of-requires-2 : tie.Need-length-of-requires-2
+length-of-requires-2 c κs =
+    let start : tie.Start = search in
+    omega (arith, start .pre .0 .headings-low)
 
 unscaled-capacity-requires : tie.Need-unscaled-capacity-requires
 unscaled-capacity-requires c κs = search needs
@@ -58,8 +53,8 @@ pub capacity-at-spec : {M : Type 1} → statement M
 capacity-at-spec =
     tie.close
     (tie.spec
-    cast-from-raw
-    from-raw-requires
+    length-of-requires
+    length-of-requires-2
     unscaled-capacity-requires
     enum-known-answer
     magnitude-requires

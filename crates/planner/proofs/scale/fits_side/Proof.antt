@@ -1,12 +1,10 @@
--- `planner::scale::fits_side` meets its contract: a small size is itself as an i64. Assumes nothing.
+-- `planner::scale::fits_side` meets its contract. Assumes nothing.
 use mathlib.Core.Path.{_≡_, sym, ap, _∙_}
-use Prim.Native.Nat.{_^_, _<_}
-use native.Mathlib.Omega.{arith}
 use lib.IntN.{ℤ, pos}
 use lib.Signed.{leZ}
 use mir.Syntax.{w64}
 use mir.Val.{SFits, toZ, ofZ}
-use mir.ValLaws.{toZ-pos, toZ-ofZ}
+use mir.ValLaws.{toZ-ofZ}
 use Rattle.units.specs.declared.Length.{Length}
 use Rattle.units.specs.Units.{lengthOutcome, scaleFixed}
 use Rattle.planner_rules.specs.Scale.{atMost, fitsSide}
@@ -16,16 +14,10 @@ use Rattle.planner.proofs.scale.fits_side.Tie as tie
 
 whole : (f : tie.After-scale-fixed) → let a = f .before .before .args in
     lengthOutcome (f .scale-fixed .result) ≡ scaleFixed (pos (a .size)) (a .permille)
-whole f =
-    let a = f .before .before .args in
-    let n : a .size < 2 ^ 63 = omega (arith, f .before .before .pre) in
-    f .scale-fixed .ensures ∙ ap (λ (z : ℤ). scaleFixed z (a .permille)) (f .before .from-raw .ensures ∙ toZ-pos w64 (a .size) n)
+whole f = rw (f .before .length-of .ensures) at (f .scale-fixed .ensures)
 
-cast-from-raw : tie.Need-cast-from-raw
-cast-from-raw c = record { sfits = omega (arith, c .pre) }
-
-from-raw-requires : tie.Need-from-raw-requires
-from-raw-requires c κs = search needs
+length-of-requires : tie.Need-length-of-requires
+length-of-requires c κs = search needs
 
 scale-fixed-requires : tie.Need-scale-fixed-requires
 scale-fixed-requires c κs = search needs
@@ -68,8 +60,7 @@ pub fits-side-spec : {M : Type 1} → statement M
 fits-side-spec =
     tie.close
     (tie.spec
-    cast-from-raw
-    from-raw-requires
+    length-of-requires
     scale-fixed-requires
     enum-known-answer
     raw-requires
