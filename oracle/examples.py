@@ -1,5 +1,5 @@
 #!/usr/bin/env python3
-"""Compares examples/*.out with the Rust's answers, as program `plan` prints them.
+"""Compares examples/*.out with the Rust's answers, over the standard's paper where it decides, as program `plan` prints them.
 
     examples.py            says which differ
     examples.py --write    writes them anew

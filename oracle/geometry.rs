@@ -1,4 +1,5 @@
-// Answers lines of input by the Rust's own functions: units, paper and content geometry.
+// Answers lines of input by the Rust's own functions: units, paper and content geometry. Of five paper
+// codes the answer is that of standard.rs.
 //
 // A line of input is a letter and eight fields, each a space and 16 hexadecimal digits; fields that
 // a letter does not use are zeros. An i64 stands as two's complement, an f64 as its bits.
@@ -13,8 +14,8 @@
 // The answer is the numbers, with the count of notes last for p, m and a, or `no 10`.
 #![allow(dead_code)]
 
-
 include!("shim.rs");
+include!("standard.rs");
 
 /// The bytes of a line with its line end.
 const LINE: usize = 138;
@@ -102,7 +103,7 @@ fn length(result: Result<Fixed, RenderError>) -> String {
 
 fn paper(code: Option<u16>, landscape: bool) -> String {
     let mut warnings = PrintWarnings::default();
-    let paper = paper_geometry(code, landscape, &mut warnings).expect("a paper");
+    let paper = paper_of(code, landscape, &mut warnings).expect("a paper");
     let note = noted(warnings, PrintWarningCode::UnknownPaperSizeFallback);
     let (width, height) = (paper.width.raw(), paper.height.raw());
     format!("{} {width} {height} {note}", paper.paper_code)

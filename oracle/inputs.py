@@ -17,8 +17,8 @@ import jobs
 import plans
 from margins import ABOVE_ALL, BAD_MARGINS, INFINITE, LEAST, MOST, PAPER_SIZES, UNITS
 from margins import bits, inches, margins_drawn, near, stepped
+from standard import DEFAULTS
 
-DEFAULTS = (0.7, 0.7, 0.75, 0.75, 0.3, 0.3)
 PAPERS = sorted(set(PAPER_SIZES.values()))
 PAGES = PAPERS + [(height, width) for width, height in PAPERS]
 

@@ -9,6 +9,7 @@
 #![allow(dead_code)]
 
 include!("shim.rs");
+include!("standard.rs");
 include!("axes.rs");
 include!("plans.rs");
 

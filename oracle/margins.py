@@ -3,18 +3,19 @@
 import pathlib
 import struct
 
+import standard
 from papers import rust_sizes
+from standard import UNITS
 
 ROOT = pathlib.Path(__file__).resolve().parent.parent
 LEAST, MOST = -(2**63), 2**63 - 1
-UNITS = 98304  # in an inch
 
 NAN, INFINITY = float("nan"), float("inf")
 INFINITE = 0x7FF0 << 48  # the bits of infinity
 ABOVE_ALL = 2.0**63 / UNITS  # inches, the nearest float
 
 BAD_MARGINS = (NAN, INFINITY, -INFINITY, -1.0, -5e-324, -1e-9, 1e300, 1.7976931348623157e308)
-PAPER_SIZES = rust_sizes((ROOT / "oracle/taken.rs").read_text(encoding="utf-8"))
+PAPER_SIZES = rust_sizes((ROOT / "oracle/taken.rs").read_text(encoding="utf-8")) | standard.UPRIGHT
 
 
 def bits(x):

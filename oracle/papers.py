@@ -1,28 +1,20 @@
 #!/usr/bin/env python3
-"""Writes crates/paper_list/stdout from the two lists, without any code of the crates.
+"""Writes crates/paper_list/stdout and crates/standard_papers/stdout from the lists, without any code of the crates.
 
     papers.py PAPER_LIST
 
 PAPER_LIST is a Markdown table of ECMA-376's paper sizes, pairs of cells `code | size` with sizes such as `8.5 x 11 in`
-or `210 x 297 mm`. The Rust's list is read out of taken.rs. Without a table of sizes nothing is written, and the exit status is 2.
+or `210 x 297 mm`. The Rust's list is read out of taken.rs; the sizes of five codes are the standard's (standard.py). Without a
+table of sizes, or where one of these five is another there, nothing is written, and the exit status is 2.
 """
 
 import argparse
-import math
 import pathlib
 import re
 
+import standard
 from driver import ROOT, started, stop
-
-UNITS_PER_INCH = (96.0, 1024.0)
-
-
-def units(inches):
-    """To the nearest unit, halves up: no size is below 0."""
-    for factor in UNITS_PER_INCH:
-        inches *= factor
-    whole = math.floor(inches)
-    return whole + (inches - whole >= 0.5)
+from standard import units
 
 
 def standard_sizes(text):
@@ -49,35 +41,44 @@ def rust_sizes(text):
     return {int(code): (units(rust_inches(w)), units(rust_inches(h))) for code, w, h in row.findall(text)}
 
 
-def lines(here, standard):
+def lines(here, theirs):
     agree = other = missing = alone = 0
     for code in range(121):
-        ours = "%d x %d" % here[code] if code in here else None
-        theirs = "%d x %d" % standard[code] if code in standard else None
-        if ours and theirs and ours == theirs:
+        our = "%d x %d" % here[code] if code in here else None
+        their = "%d x %d" % theirs[code] if code in theirs else None
+        if our and their and our == their:
             agree += 1
-        elif ours and theirs:
+        elif our and their:
             other += 1
-            yield f"{code} another size: {ours} here, {theirs} in the standard"
-        elif theirs:
+            yield f"{code} another size: {our} here, {their} in the standard"
+        elif their:
             missing += 1
-            yield f"{code} not here: {theirs} in the standard"
-        elif ours:
+            yield f"{code} not here: {their} in the standard"
+        elif our:
             alone += 1
-            yield f"{code} here only: {ours}"
+            yield f"{code} here only: {our}"
     yield f"{agree} agree, {other} of another size, {missing} not here, {alone} here only"
+
+
+def write(program, its_lines):
+    """Writes what a program has to print."""
+    text = "".join(line + "\n" for line in its_lines)
+    (ROOT / "crates" / program / "stdout").write_text(text, encoding="utf-8")
 
 
 def main():
     words = argparse.ArgumentParser(description=__doc__, formatter_class=argparse.RawDescriptionHelpFormatter)
     words.add_argument("paper_list", metavar="PAPER_LIST", type=pathlib.Path)
     chosen = words.parse_args()
-    standard = standard_sizes(chosen.paper_list.read_text(encoding="utf-8", errors="replace"))
-    if not standard:
+    theirs = standard_sizes(chosen.paper_list.read_text(encoding="utf-8", errors="replace"))
+    if not theirs:
         stop(f"{chosen.paper_list} has no sizes")
-    here = rust_sizes((ROOT / "oracle/taken.rs").read_text(encoding="utf-8"))
-    text = "".join(line + "\n" for line in lines(here, standard))
-    (ROOT / "crates/paper_list/stdout").write_text(text, encoding="utf-8")
+    for code, sides in standard.UPRIGHT.items():
+        if theirs.get(code) != sides:
+            stop(f"{code} is {theirs.get(code)} in {chosen.paper_list}, and {sides} in standard.py")
+    here = rust_sizes((ROOT / "oracle/taken.rs").read_text(encoding="utf-8")) | standard.UPRIGHT
+    write("paper_list", lines(here, theirs))
+    write("standard_papers", standard.lines())
 
 
 if __name__ == "__main__":

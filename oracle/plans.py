@@ -7,14 +7,15 @@ import itertools
 from dataclasses import dataclass, field, replace
 
 import axes
+import standard
 from axes import COLUMNS, LARGEST, LIMITS, MOST, NUMBERS, ROWS, U32, U64, Axis
 from axes import below, chance, clamped, numbers, parts, pick
 from margins import INFINITY, NAN, PAPER_SIZES, UNITS, bits, margins_drawn, stepped
+from standard import DEFAULTS
 
-DEFAULTS = (0.7, 0.7, 0.75, 0.75, 0.3, 0.3)
 LETTER = PAPER_SIZES[1]
 CODES = sorted(PAPER_SIZES)
-UNLISTED = (0, 24, 42, 68, 71, 119, 255, 256, 32768, 65535)
+UNLISTED = (0, 32, 41, 68, 71, 119, 255, 256, 32768, 65535)
 PERMILLES = (100, 101, 125, 250, 333, 499, 500, 501, 625, 750, 997, 999, 1000)
 HEADINGS = (17408, 38912)  # of an axis, rows and columns
 
@@ -394,7 +395,7 @@ def worked():
 
 
 def papers():
-    for code, landscape in itertools.product((None, 1, 9, 12, 24, 0, 65535), (0, 1)):
+    for code, landscape in itertools.product((None, 1, 9, 32, 0, 65535, *standard.SIZES), (0, 1)):
         yield replace(WORKED, paper=code, landscape=landscape)
     for code in CODES:
         yield replace(WORKED, paper=code, fit=1)

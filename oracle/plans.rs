@@ -37,7 +37,8 @@
 // number; of p the lent lists follow here too.
 //
 // After the questions, which the Rust does not ask, the chain is that of prepare_print_document and
-// prepare_print_area, line by line, over the slots that are given.
+// prepare_print_area, line by line, over the slots that are given; but of five paper codes the paper is
+// that of standard.rs, which a driver includes before this file.
 
 /// What a line says of a plan.
 struct Job {
@@ -239,7 +240,7 @@ struct Area {
 /// As prepare_print_document: paper, content and titles.
 fn prepared(job: &Job, warnings: &mut PrintWarnings) -> Result<Area, Refused> {
     let (sheet, setup) = (job.sheet(), &job.setup);
-    let paper = paper_geometry(setup.paper_size, setup.landscape, warnings)?;
+    let paper = paper_of(setup.paper_size, setup.landscape, warnings)?;
     let (content_rect, _, _) = content_geometry(paper, setup.margins, warnings)?;
     let repeat_rows = normalize_repeat_rows(setup.repeat_rows, warnings);
     let repeat_rows = expand_repeat_rows_for_merges(&sheet, repeat_rows, warnings);

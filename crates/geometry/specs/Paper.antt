@@ -16,7 +16,7 @@ use Rattle.geometry.specs.declared.paper.Content.the-variants.{Value, Co
 use Rattle.units.specs.Outcome.{Outcome, given, refused, andThen}
 use Rattle.units.specs.Units.{inPixels, inchesToFixed, lessOf}
 
--- ---- the list of papers: "Sizes per code are the Rust's list"
+-- ---- the list of papers: "Sizes per code are the Rust's list"; of five codes document 02, T-01: "ECMA-376's list decides the geometry"
 
 -- a sheet of the list: its code, and its upright sides in inches
 pub record Sheet : Type 0 where
@@ -45,7 +45,7 @@ millimetres n w h =
 unfoldable pub letter : Sheet
 letter = inches 1 8500 11000
 
--- the Rust's list of paper sizes, by code
+-- the list of paper sizes, by code: ECMA-376's for 12, 13, 24, 25 and 26, the Rust's for every other code
 unfoldable pub sheets : List Sheet
 unfolding letter
 sheets =
@@ -60,8 +60,8 @@ sheets =
     tenDecimals 9 82677165354 116929133858 ∷
     tenDecimals 10 82677165354 116929133858 ∷
     tenDecimals 11 58267716535 82677165354 ∷
-    millimetres 12 257 364 ∷
-    millimetres 13 182 257 ∷
+    millimetres 12 250 353 ∷
+    millimetres 13 176 250 ∷
     inches 14 8500 13000 ∷
     millimetres 15 215 275 ∷
     inches 16 10000 14000 ∷
@@ -72,6 +72,9 @@ sheets =
     inches 21 4500 10375 ∷
     inches 22 4750 11000 ∷
     inches 23 5000 11500 ∷
+    inches 24 17000 22000 ∷
+    inches 25 22000 34000 ∷
+    inches 26 34000 44000 ∷
     millimetres 27 110 220 ∷
     millimetres 28 162 229 ∷
     millimetres 29 324 458 ∷
