@@ -1,5 +1,5 @@
-"""The papers whose sizes ECMA-376's list decides, and not the Rust (document 02, T-01), in whole numbers and without any code of
-the crates: their sizes, which questions the comparison with the Rust leaves out for them, and what crates/standard_papers has to write.
+"""The papers whose sizes ECMA-376's list decides, and not the Rust (document 02, T-01): their sizes, in whole numbers; which questions
+the comparison with the Rust leaves out for them; and what crates/standard_papers has to write. No code of the crates is used.
 """
 
 import math
