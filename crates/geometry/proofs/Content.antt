@@ -24,11 +24,15 @@ use Rattle.geometry.proofs.Floats.{Reaches, Within, SmallUnits, units-g
 
 -- ---- papers: one test, computed over the whole list
 
--- a side from 0 to 2^23 units, at most 2^13 pixels
+-- more units than any side of the list has; the longest, 44 inches, has 4,325,376
+abbrev pub unitsBound : ℕ
+unitsBound = 2 ^ 23
+
+-- a side of the list: from 0 to that bound, and at most 2^13 pixels
 pub record PaperSide (z : ℤ) : Type 0 where
   pub units : ℕ
   pub is : z ≡ pos units
-  pub low : units ≤ 2 ^ 23
+  pub low : units ≤ unitsBound
   pub pixels : Within 8192 (sideInPixels z)
 
 lowPixels : Float → Bool
@@ -38,7 +42,7 @@ lowPixels (fin true m e) = false
 lowPixels (fin false m e) = leb (m * up e) (8192 * down e)
 
 lowSide : ℤ → Bool
-lowSide (pos n) = leb n (2 ^ 23) && lowPixels (sideInPixels (pos n))
+lowSide (pos n) = leb n unitsBound && lowPixels (sideInPixels (pos n))
 lowSide (negsuc n) = false
 
 lowGiven : Outcome ℤ → Bool
@@ -62,9 +66,9 @@ pixels-are (fin false m e) t = (refl, leb→le (m * up e) (8192 * down e) t)
 side-is : (z : ℤ) → T (lowSide z) → PaperSide z
 unfolding lowSide
 side-is (pos n) t =
-    let a = leb n (2 ^ 23) in
+    let a = leb n unitsBound in
     let b = lowPixels (sideInPixels (pos n)) in
-    record { units = n; is = refl; low = leb→le n (2 ^ 23) (and-l a b t); pixels = pixels-are (sideInPixels (pos n)) (and-r a b t) }
+    record { units = n; is = refl; low = leb→le n unitsBound (and-l a b t); pixels = pixels-are (sideInPixels (pos n)) (and-r a b t) }
 side-is (negsuc n) t = absurd t
 
 given-is : (o : Outcome ℤ) → T (lowGiven o) → (z : ℤ) × (o ≡ given z) × PaperSide z
@@ -137,7 +141,7 @@ less-given z n h = inside (z -ℤ pos n) (omega (arith, mag-sub z n))
 abbrev pub Moderate : Outcome ℤ → Type 0
 Moderate o = (z : ℤ) × (o ≡ given z) × (mag z < 2 ^ 53)
 
-less-moderate : (z : ℤ) (n k : ℕ) → n ≤ 2 ^ 30 → mag z ≤ 2 ^ 23 → k ≤ 2 ^ 30 → Moderate (lessOf (lessOf (given z) (given (pos n))) (given (pos k)))
+less-moderate : (z : ℤ) (n k : ℕ) → n ≤ 2 ^ 30 → mag z ≤ unitsBound → k ≤ 2 ^ 30 → Moderate (lessOf (lessOf (given z) (given (pos n))) (given (pos k)))
 less-moderate z n k N Z K =
     let a = mag-sub z n in
     let b = mag-sub (z -ℤ pos n) k in
@@ -145,7 +149,7 @@ less-moderate z n k N Z K =
     let second : lessOf (given (z -ℤ pos n)) (given (pos k)) ≡ given (z -ℤ pos n -ℤ pos k) = less-given (z -ℤ pos n) k (omega arith) in
     (z -ℤ pos n -ℤ pos k, ap (λ (o : Outcome ℤ). lessOf o (given (pos k))) first ∙ second, omega arith)
 
-side-low : (z : ℤ) → PaperSide z → mag z ≤ 2 ^ 23
+side-low : (z : ℤ) → PaperSide z → mag z ≤ unitsBound
 side-low z s = rw (s .is) (s .low)
 
 between-given : (z : ℤ) (near far : Float) → PaperSide z → SmallUnits near → SmallUnits far → Moderate (between z near far)

@@ -17,11 +17,13 @@ fn count(n: u64) {
     io::print_decimal(STDOUT_FILENO, n);
 }
 
-fn number(length: Fixed) {
+// A length, and a space behind it.
+fn say(length: Fixed) {
     if length.raw() < 0 {
         word(b"-");
     }
     count(length.magnitude());
+    word(b" ");
 }
 
 fn say_numbers(answer: Content) {
@@ -30,18 +32,12 @@ fn say_numbers(answer: Content) {
         return;
     };
     let rect = placed.content;
-    number(rect.x);
-    word(b" ");
-    number(rect.y);
-    word(b" ");
-    number(rect.width);
-    word(b" ");
-    number(rect.height);
-    word(b" ");
-    number(placed.header_y);
-    word(b" ");
-    number(placed.footer_y);
-    word(b" ");
+    say(rect.x);
+    say(rect.y);
+    say(rect.width);
+    say(rect.height);
+    say(placed.header_y);
+    say(placed.footer_y);
     count(placed.invalid_margins);
     word(b"\n");
 }
@@ -103,10 +99,8 @@ fn say_paper(code: u16, landscape: bool) {
     } else {
         word(b" upright: ");
     }
-    number(paper.width);
-    word(b" ");
-    number(paper.height);
-    word(b" ");
+    say(paper.width);
+    say(paper.height);
     count(answer.unknown_paper);
     word(b"\n");
     say_content(b"absent", paper, MarginSetting::Absent);
