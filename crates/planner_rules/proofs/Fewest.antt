@@ -2,7 +2,7 @@
 use mathlib.Core.Path.{_≡_, refl, sym, ap, _∙_}
 use mathlib.Core.Logic.{_⊎_, inl, inr, ⊎-elim}
 use mathlib.Core.Bool.{false, cond, _&&_, and-false}
-use mathlib.Core.List.{List, [], _∷_, _++_}
+use mathlib.Core.List.{List, [], _∷_}
 use Prim.Native.Nat.{ℕ, suc, _+_, _-_, _≤_, _<_, min, zero-le, suc-le-suc}
 use native.Mathlib.Omega.{arith}
 use lib.ListN.{length, getD, take, drop}
@@ -20,7 +20,7 @@ use Rattle.planner_rules.specs.Runs.{Run, more, natural, capacityAt, fil
 use Rattle.planner_rules.specs.Runs.{moved, placed, kept, nextCut, stretch, axisRuns}
 use Rattle.planner_rules.specs.Lent.{firsts, lasts, sizes}
 use Rattle.planner_rules.specs.Division.{Fewest, FewestRuns, keptBreaks}
-use Rattle.planner_rules.proofs.Laws.{either, natural-pos, natural-le, length-mid, split}
+use Rattle.planner_rules.proofs.Laws.{sum-append, either, natural-pos, natural-le, length-mid, split}
 use Rattle.planner_rules.proofs.AxisLaws.{placed-zero, placed-past, placed-moved, kept-yes, kept-low}
 use Rattle.planner_rules.proofs.Division.{Chain, done, link, Counts, chain-le, chain-counts, division-of, total, Good, cuts-from, within-from}
 use Rattle.planner_rules.proofs.Division.{chain-of}
@@ -40,11 +40,6 @@ fewest part {p} {p′} h (link {a = m} z g gs) (link {a = m′} z′ d ds) =
     suc-le-suc (fewest part reached gs ds)
 
 -- ---- sums
-
-sum-append : (xs ys : List ℕ) → sum (xs ++ ys) ≡ sum xs + sum ys
-unfolding sum
-sum-append [] ys = omega arith
-sum-append (x ∷ xs) ys = omega (arith, sum-append xs ys)
 
 sum-to : (xs : List ℕ) (p m : ℕ) → sum (take (p + m) xs) ≡ sum (take p xs) + total xs p m
 sum-to xs p m = rw take-add (sum-append (take p xs) (take m (drop p xs)))

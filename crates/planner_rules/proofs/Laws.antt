@@ -1,13 +1,13 @@
 -- Laws of filling, of lists of runs and of parts of slots (`specs/Slots.antt`, `specs/Runs.antt`), for the loops of `planner`. Assumes nothing.
 use mathlib.Core.Path.{_≡_, refl, sym, ap, _∙_, subst}
-use mathlib.Core.List.{List, [], _∷_}
+use mathlib.Core.List.{List, [], _∷_, _++_}
 use Prim.Native.Nat.{ℕ, zero, suc, pred, _+_, _-_, _≤_, _<_, _^_, min}
 use native.Mathlib.Nat.{not-suc-le-zero, lt-of-not-le}
 use native.Mathlib.Decide.{decLe}
 use native.Mathlib.Numerals.{add-one}
 use native.Mathlib.Omega.{arith}
 use lib.ListN.{length, getD, take, drop, length-take, length-drop, drop-of-length-le, List·getD-eq-default}
-use lib.Seq.{drop-cons, drop-drop, drop-length, take-all, getD-drop, getD-take, length-take-le}
+use lib.Seq.{take-add, drop-cons, drop-drop, drop-length, take-all, getD-drop, getD-take, length-take-le}
 use borrow.Author.Tests.{le-leb, lt-leb, lt-ltb, le-ltb}
 use mathlib.Core.Bool.{Bool, true, false, cond, not, _&&_}
 use lib.Dec.{leb, ltb, lit<}
@@ -184,6 +184,19 @@ sum-back l i h k = rw (drop-back l i 0)
 pub sum-none : (l : List ℕ) → 0 ≡ sum (drop (length l) l)
 unfolding sum
 sum-none l = rw drop-length
+
+pub sum-append : (xs ys : List ℕ) → sum (xs ++ ys) ≡ sum xs + sum ys
+unfolding sum
+sum-append [] ys = omega arith
+sum-append (x ∷ xs) ys = omega (arith, sum-append xs ys)
+
+-- the sum of the slots up to n, with the m after them, or with one
+pub sum-many : (n m : ℕ) (l : List ℕ) → sum (take (n + m) l) ≡ sum (take n l) + sum (mid n (n + m) l)
+sum-many n m l = let e : n + m - n ≡ m = omega arith in rw (e, take-add) (sum-append (take n l) (take m (drop n l)))
+
+pub sum-one : (n : ℕ) (l : List ℕ) → n < length l → sum (take (n + 1) l) ≡ sum (take n l) + getD l n 0
+unfolding sum
+sum-one n l h = rw (take-add, drop-cons l n 0) (sum-append (take n l) (getD l n 0 ∷ []) ∙ omega arith)
 
 -- eight in two halves, each of two pairs
 pub sum-eight : (l : List ℕ) → length l ≡ 8

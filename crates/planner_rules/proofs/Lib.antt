@@ -12,6 +12,8 @@ pub mod PartitionLaws
 pub mod ScaleLaws
 pub mod Halving
 pub mod PageLaws
+pub mod AreaLists
+pub mod AreaPages
 pub mod PagesCode
 pub mod ListLaws
 pub mod Division
@@ -20,6 +22,10 @@ pub mod Whole
 pub mod OneRun
 pub mod Fewest
 pub mod Largest
+pub mod OverflowLaws
+pub mod CutLaws
+pub mod AreaLaws
+pub mod AreasLaws
 pub mod PlanLaws
 pub mod NoTen
 pub mod BodyLaws
@@ -27,3 +33,4 @@ pub mod RunCount
 pub mod Demand
 pub mod FinishedPages
 pub mod Cases
+pub mod UnionCases

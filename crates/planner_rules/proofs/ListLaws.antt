@@ -3,8 +3,8 @@ use mathlib.Core.Path.{_≡_, refl, sym, ap, _∙_}
 use mathlib.Core.Bool.{Bool, true, false}
 use mathlib.Core.WellFounded.{Acc, Acc·intro, WellFounded}
 use mathlib.Core.List.{List, [], _∷_, _++_}
-use Prim.Native.Nat.{ℕ, zero, suc, _+_, _-_, _*_, _/_, _≤_, _<_, _^_, min, zero-le}
-use native.Mathlib.Nat.{div-lt-iff-lt-mul, le-refl}
+use Prim.Native.Nat.{ℕ, zero, suc, _+_, _-_, _*_, _≤_, _<_, _^_, min, zero-le}
+use native.Mathlib.Nat.{le-refl}
 use native.Mathlib.Numerals.{add-one}
 use native.Mathlib.Omega.{arith}
 use lib.Dec.{leb}
@@ -12,112 +12,63 @@ use lib.ListN.{length, take, drop, set, length-take}
 use lib.Seq.{length-take-le, length-front, take-length}
 use borrow.Author.Tests.{le-leb, lt-leb, leb-true}
 use Rattle.units.specs.Outcome.{Outcome, given, refused}
+use Rattle.planner_rules.specs.declared.pages.AreaPlan.{AreaPlan}
 use Rattle.planner_rules.specs.declared.pages.Page.{Page}
 use Rattle.planner_rules.specs.declared.pages.Plan.{Plan}
-use Rattle.planner_rules.specs.Questions.{ask, noOr}
+use Rattle.planner_rules.specs.declared.pages.Spot.{Spot}
+use Rattle.planner_rules.specs.Questions.{ask}
+use Rattle.planner_rules.specs.Areas.{plansIn, overAreas}
 use Rattle.planner_rules.specs.Lent.{roomIn}
-use Rattle.planner_rules.specs.Pages.{pageAt, inOrder, pagesOf, holdsRuns, numbered, pageNumbered, pageAfter, listPages, pagesLent, countIn, pageCount}
-use Rattle.planner_rules.specs.Pages.{listsNo}
-use Rattle.planner_rules.proofs.QuestionLaws.{asked-no, asked-yes, no-number}
-use Rattle.planner_rules.proofs.PageLaws.{numbered-first, page-count}
-use Rattle.planner_rules.proofs.PagesCode.{is-page, page-some, rooms-of}
-use Rattle.planner_rules.proofs.Laws.{split}
+use Rattle.planner_rules.specs.Pages.{pagesIn, areasPages, pagesOf, rowRuns, columnRuns, holdsRuns, numbered, pageNumbered, listPages, pagesLent}
+use Rattle.planner_rules.specs.Pages.{countIn, pageCount, walkFrom, pageAfter}
+use Rattle.planner_rules.proofs.PageLaws.{tag, valueOr, numbered-first, numbered-take}
+use Rattle.planner_rules.proofs.AreaPages.{areas-length, walk-all, walk-in, walk-more, walk-page}
+use Rattle.planner_rules.proofs.PagesCode.{rooms-of}
 
 -- ---- how many pages a plan has
 
 module _ (p : Plan) where
-  abbrev places : ℕ
-  places = p .«row_runs» * p .«column_runs»
+  abbrev areas : List AreaPlan
+  areas = plansIn (p .areas)
 
-  pub count-none : p .«row_runs» ≡ 0 → 0 ≡ pageCount p
-  count-none e =
-      let z : 0 * p .«column_runs» ≡ 0 = omega arith in
-      let y : places ≡ 0 = ap (λ (r : ℕ). r * p .«column_runs») e ∙ z in
-      omega arith
+  -- where the walk ends that takes off as many pages as the plan says
+  abbrev end : Spot
+  end = walkFrom 0 (p .pages) areas
 
-  pub count-pages : 0 < p .«row_runs» → p .pages / p .«row_runs» < p .«column_runs» → p .pages ≡ pageCount p
-  count-pages k h = let l : p .pages < p .«column_runs» * p .«row_runs» = div-lt-iff-lt-mul k .0 h in omega arith
+  pub count-within : end .area < length areas → p .pages ≡ pageCount p
+  count-within h = omega (arith, walk-more (p .pages) areas h)
 
-  pub places-within : 0 < p .«row_runs» → p .«column_runs» ≤ p .pages / p .«row_runs» → places ≤ p .pages
-  places-within k h = split places (p .pages) (λ l. l)
-      (λ l. let m : p .pages < p .«column_runs» * p .«row_runs» = omega arith in absurd (omega (arith, div-lt-iff-lt-mul k .1 m)))
-
-  pub count-places : 0 < p .«row_runs» → p .«column_runs» ≤ p .pages / p .«row_runs» → places ≡ pageCount p
-  count-places k h = omega (arith, places-within k h)
+  pub count-left : length areas ≤ end .area → (end .before ≤ p .pages) × (p .pages - end .before ≡ pageCount p)
+  count-left h = let all = walk-all (p .pages) areas h in (omega (arith, all), omega (arith, all))
 
   pub list-length : (rows columns : List ℕ) → length (pagesOf p rows columns) ≡ pageCount p
   unfolding pagesOf
   list-length rows columns =
-      length-take (p .pages) (inOrder (p .order) (p .«row_runs») (p .«column_runs») (pageAt rows columns p))
-      ∙ ap (min (p .pages)) (page-count (p .«row_runs») (p .«column_runs») (pageAt rows columns p) (p .order))
-
--- ---- 11, way by way
-
-module _ (p : Plan) (rows columns : ℕ) where
-  pub lists-few-rows : rows < p .«row_runs» → 11 ≡ listsNo p rows columns
-  unfolding listsNo
-  lists-few-rows h = rw (lt-leb (p .«row_runs») rows h)
-
-  module _ (r : p .«row_runs» ≤ rows) where
-    pub lists-few-columns : columns < p .«column_runs» → 11 ≡ listsNo p rows columns
-    unfolding listsNo
-    lists-few-columns h = rw (le-leb (p .«row_runs») rows r, lt-leb (p .«column_runs») columns h)
-
-    pub lists-hold : p .«column_runs» ≤ columns → 0 ≡ listsNo p rows columns
-    unfolding listsNo
-    lists-hold h = rw (le-leb (p .«row_runs») rows r, le-leb (p .«column_runs») columns h)
+      length-take (p .pages) (areasPages (p .order) areas rows columns) ∙ ap (min (p .pages)) (areas-length (p .order) areas rows columns)
 
 -- ---- what is answered
 
-stops : {A : Type 0} (b : Bool) (k : ℕ) (o : Outcome A) → k ≡ noOr 11 b 0 → 0 < k → refused k ≡ ask 11 b o
-stops b k o e h = sym (rw e (asked-no 11 b 0 o (no-number o) (rw e at h)))
-
-goes : {A : Type 0} (b : Bool) (o : Outcome A) → 0 ≡ noOr 11 b 0 → o ≡ ask 11 b o
-goes b o e = rw (asked-yes 11 b _ (omega arith) e .0)
-
-module _ (p : Plan) (room : ℕ) (rows columns : List ℕ) (k : ℕ) (e : k ≡ listsNo p (roomIn rows) (roomIn columns)) where
-  abbrev hold : Bool
-  hold = holdsRuns p rows columns
-
+module _ (p : Plan) (room : ℕ) (rows columns : List ℕ) where
   abbrev all : List Page
   all = pagesOf p rows columns
 
-  asked : k ≡ noOr 11 hold 0
-  unfolding listsNo
-  asked = e
-
-  pub list-refused : 0 < k → refused k ≡ listPages p rows columns room
+  pub list-refused : holdsRuns p rows columns ≡ false → refused 11 ≡ listPages p rows columns room
   unfolding listPages
-  list-refused h = stops hold k _ asked h
+  list-refused h = rw h
 
-  module _ (h : k ≤ 0) (n : ℕ) (counted : n ≡ pageCount p) where
-    none-asked : 0 ≡ noOr 11 hold 0
-    none-asked = let z : 0 ≡ k = omega arith in z ∙ asked
-
+  module _ (h : holdsRuns p rows columns ≡ true) (n : ℕ) (counted : n ≡ pageCount p) where
     so-many : n ≡ length all
     so-many = counted ∙ sym (list-length p rows columns)
 
     pub list-long : room < n → refused 13 ≡ listPages p rows columns room
     unfolding listPages
-    list-long l =
-        let m : room < length all = omega (arith, so-many) in
-        (rw (lt-leb (length all) room m) refl) ∙ goes hold (ask 13 (leb (length all) room) (given (length all))) none-asked
+    list-long l = let m : room < length all = omega (arith, so-many) in rw (h, lt-leb (length all) room m)
 
     pub list-fits : n ≤ room → given n ≡ listPages p rows columns room
     unfolding listPages
-    list-fits l =
-        let m : length all ≤ room = omega (arith, so-many) in
-        ap given so-many ∙ (rw (le-leb (length all) room m) refl) ∙ goes hold (ask 13 (leb (length all) room) (given (length all))) none-asked
+    list-fits l = let m : length all ≤ room = omega (arith, so-many) in ap given so-many ∙ rw (h, le-leb (length all) room m)
 
 -- ---- a lent list, written from the front
-
-abbrev tag : {A : Type 0} → Outcome A → ℕ
-tag (given a) = 1
-tag (refused n) = 0
-
-abbrev orElse : {A : Type 0} → A → Outcome A → A
-orElse d (given a) = a
-orElse d (refused n) = d
 
 module _ {A : Type 0} where
   pub filled-length : (i : ℕ) (xs ys : List A) → i ≤ length xs → i ≤ length ys → length (take i xs ++ drop i ys) ≡ length ys
@@ -128,7 +79,7 @@ module _ {A : Type 0} where
   unfolding numbered
   filled-suc i [] ys x e h = let z : _≡_ {A = ℕ} 0 1 = ap tag e in absurd (omega arith)
   filled-suc i (z ∷ xs) [] x e h = absurd (omega arith)
-  filled-suc zero (z ∷ xs) (y ∷ ys) x e h = ap (λ (w : A). w ∷ ys) (sym (ap (orElse x) e))
+  filled-suc zero (z ∷ xs) (y ∷ ys) x e h = ap (λ (w : A). w ∷ ys) (sym (ap (valueOr x) e))
   filled-suc (suc i) (z ∷ xs) (y ∷ ys) x e h = ap (λ (l : List A). z ∷ l) (filled-suc i xs ys x e (omega arith))
 
   -- one more
@@ -189,7 +140,7 @@ module _ (p : Plan) (rows columns : List ℕ) (room : ℕ) where
 
   -- what `page_after` relies on for the page that has i pages before it
   pub page-asked : (i : ℕ) → i < count
-      → (p .«row_runs» ≤ roomIn rows) × ((p .«column_runs» ≤ roomIn columns) × (i < p .«row_runs» * p .«column_runs»))
+      → (rowRuns (plansIn (p .areas)) ≤ roomIn rows) × ((columnRuns (plansIn (p .areas)) ≤ roomIn columns) × (i < overAreas pagesIn (plansIn (p .areas))))
   unfolding listPages
   page-asked i h =
       let y = all-yes (holdsRuns p rows columns) fit (length pages) i h in
@@ -199,10 +150,12 @@ module _ (p : Plan) (rows columns : List ℕ) (room : ℕ) where
 
   -- that page is the next of the list
   pub page-next : (i : ℕ) → i < count → numbered pages (suc i) ≡ given (pageAfter p rows columns i)
+  unfolding pagesOf pageAfter
   page-next i h =
-      let e : suc i - 1 ≡ i = omega arith in
-      let l : suc i ≤ pageCount p = omega (arith, count-pages-of, list-length p rows columns) in
-      rw e at (page-some p (suc i) rows columns (is-page p (suc i) (omega arith) (omega arith) (omega arith)))
+      let areas = plansIn (p .areas) in
+      let within : suc i ≤ p .pages = omega (arith, count-pages-of, list-length p rows columns) in
+      numbered-take (p .pages) (areasPages (p .order) areas rows columns) (suc i) within
+      ∙ walk-page (p .order) areas rows columns i (walk-in i areas (page-asked i h .1 .1))
 
 -- when all are written
 pub pages-lent : (p : Plan) (rows columns : List ℕ) (ys : List Page)

@@ -5,8 +5,8 @@ use Prim.Native.Nat.{ℕ, zero, suc, _+_, _-_, _*_, _/_, _%_, _≤_, _<_}
 use native.Mathlib.Nat.{mod-lt, mod-eq-of-lt, mod-eq-sub-mod, div-eq-of-lt, div-eq-sub-div, div-lt-iff-lt-mul, div-add-mod', add-zero}
 use lib.Arith.{digits-lt, digits-div, digits-mod}
 use native.Mathlib.Omega.{arith}
-use lib.ListN.{length, take, length-take, length-append}
-use Rattle.units.specs.Outcome.{given, refused}
+use lib.ListN.{length, getD, take, length-take, length-append}
+use Rattle.units.specs.Outcome.{Outcome, given, refused}
 use Rattle.planner_rules.specs.declared.pages.PageOrder.{PageOrder}
 use Rattle.planner_rules.specs.declared.pages.PageOrder.the-variants.{DownThenOver, OverThenDown}
 use Rattle.planner_rules.specs.Pages.{upFrom, joined, inOrder, numbered, placeOf}
@@ -15,6 +15,18 @@ use Rattle.planner_rules.proofs.Laws.{split}
 -- ---- one of a list by its number
 
 module _ {A : Type 0} where
+  -- whether there is a value, and the value or another
+  abbrev pub tag : Outcome A → ℕ
+  tag (given a) = 1
+  tag (refused n) = 0
+
+  abbrev pub valueOr : A → Outcome A → A
+  valueOr d (given a) = a
+  valueOr d (refused n) = d
+
+  no-given : {n : ℕ} {x : A} → refused n ≡ given x → ⊥
+  no-given e = let z : _≡_ {A = ℕ} 0 1 = ap tag e in omega arith
+
   pub numbered-zero : (xs : List A) → numbered xs 0 ≡ refused 14
   unfolding numbered
   numbered-zero [] = refl
@@ -27,6 +39,18 @@ module _ {A : Type 0} where
   numbered-past (x ∷ xs) zero h = absurd (omega arith)
   numbered-past (x ∷ xs) (suc zero) h = absurd (omega arith)
   numbered-past (x ∷ xs) (suc (suc n)) h = numbered-past xs (suc n) (omega arith)
+
+  -- what has a number stands in the list
+  pub numbered-at : (xs : List A) (n : ℕ) (x d : A) → numbered xs n ≡ given x → (1 ≤ n) × (n ≤ length xs) × (getD xs (n - 1) d ≡ x)
+  unfolding numbered
+  numbered-at [] n x d e = absurd (no-given e)
+  numbered-at (y ∷ xs) zero x d e = absurd (no-given e)
+  numbered-at (y ∷ xs) (suc zero) x d e = (omega arith, omega arith, ap (valueOr d) e)
+  numbered-at (y ∷ xs) (suc (suc n)) x d e =
+      let rest = numbered-at xs (suc n) x d e in
+      let one : suc n - 1 ≡ n = omega arith in
+      let two : suc (suc n) - 1 ≡ suc n = omega arith in
+      (omega arith, omega (arith, rest .1), rw two (rw one at (rest .2)))
 
   -- of two lists, in the first
   pub numbered-first : (xs ys : List A) (n : ℕ) → n ≤ length xs → numbered (xs ++ ys) n ≡ numbered xs n

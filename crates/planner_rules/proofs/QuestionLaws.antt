@@ -29,6 +29,16 @@ pub asked-yes : (n : ℕ) (b : Bool) (k : ℕ) → 0 < n → 0 ≡ noOr n b k �
 asked-yes n true k p e = (refl, e)
 asked-yes n false k p e = absurd (omega arith)
 
+-- a first no stays the first, whatever is asked after the questions that were asked
+pub no-stays : (n : ℕ) (b : Bool) (k more : ℕ) → (0 < k → k ≡ more) → 0 < noOr n b k → noOr n b k ≡ noOr n b more
+no-stays n true k more f h = f h
+no-stays n false k more f h = refl
+
+-- and where there was none, what is asked after them decides
+pub yes-then : (n : ℕ) (b : Bool) (k more rest : ℕ) → 0 < n → (k ≡ 0 → rest ≡ more) → noOr n b k ≡ 0 → rest ≡ noOr n b more
+yes-then n true k more rest p f e = f e
+yes-then n false k more rest p f e = absurd (omega arith)
+
 -- no number refuses nothing
 pub no-number : {A : Type 0} (o : Outcome A) → 0 < 0 → o ≡ refused 0
 no-number o h = absurd (omega arith)

@@ -37,21 +37,18 @@ module _ (s : Setting) (p : ℕ) (e : p ≡ orElse s 100) where
 
 -- ---- what a run takes of a page
 
-module _ (s : Space) (title : Title) (empty : Bool) (first size : ℕ) where
-  pub printed-empty : empty ≡ true → size + s .titles + s .headings ≡ printed s title empty first size
-  printed-empty e = rw e
-
-  pub printed-absent : empty ≡ false → title ≡ Absent → size + s .headings ≡ printed s title empty first size
+module _ (s : Space) (title : Title) (first size : ℕ) where
+  pub printed-absent : title ≡ Absent → size + s .headings ≡ printed s title false first size
   unfolding pastTitle
-  printed-absent e t = rw (e, t) (omega arith)
+  printed-absent t = rw t (omega arith)
 
-  pub printed-past : empty ≡ false → (f l : ℕ) → title ≡ Pair f l → l < first → size + s .titles + s .headings ≡ printed s title empty first size
+  pub printed-past : (f l : ℕ) → title ≡ Pair f l → l < first → size + s .titles + s .headings ≡ printed s title false first size
   unfolding pastTitle
-  printed-past e f l t h = rw (e, t, lt-ltb l first h)
+  printed-past f l t h = rw (t, lt-ltb l first h)
 
-  pub printed-before : empty ≡ false → (f l : ℕ) → title ≡ Pair f l → first ≤ l → size + s .headings ≡ printed s title empty first size
+  pub printed-before : (f l : ℕ) → title ≡ Pair f l → first ≤ l → size + s .headings ≡ printed s title false first size
   unfolding pastTitle
-  printed-before e f l t h = rw (e, t, le-ltb l first h) (omega arith)
+  printed-before f l t h = rw (t, le-ltb l first h) (omega arith)
 
 -- ---- the number of runs
 

@@ -3,17 +3,8 @@ use mathlib.Core.Path.{_≡_}
 use mathlib.Core.List.{List, [], _∷_, _++_, map}
 use Prim.Native.Nat.{ℕ, zero, suc, _+_, _*_, _/_, _≤_}
 use lib.ListN.{length, getD, take, drop}
-use Rattle.planner_rules.specs.declared.runs.Counted.{Counted}
 use Rattle.planner_rules.specs.Slots.{written}
-use Rattle.planner_rules.specs.Runs.{Run, expansions}
-
--- so many runs and expansions
-abbrev pub counts : ℕ → ℕ → Counted
-counts n g = record { runs = n; grown = g }
-
--- how many runs and expansions a stretch has
-abbrev pub counted : List Run → Counted
-counted rs = counts (length rs) (expansions rs)
+use Rattle.planner_rules.specs.Runs.{Run}
 
 -- ---- runs as numbers
 

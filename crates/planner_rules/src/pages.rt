@@ -18,13 +18,33 @@ pub struct Notes {
     pub overflowing_runs: u64,
 }
 
-// A finished plan. Its runs stand in the lists that were lent to it.
-pub struct Plan {
+// What an area came to: its scale, 1 where no permille fits it, how many runs of rows and of columns its pages are made of, and whether its
+// bodies are empty.
+pub struct AreaPlan {
     pub permille: u16,
+    pub unreachable: u64,
     pub row_runs: usize,
     pub column_runs: usize,
     pub rows_empty: bool,
     pub columns_empty: bool,
+}
+
+// What at most eight areas came to, in job order. (Eight fields: an enum that holds an array is not covered.)
+pub struct AreaPlans {
+    pub count: usize,
+    pub first: AreaPlan,
+    pub second: AreaPlan,
+    pub third: AreaPlan,
+    pub fourth: AreaPlan,
+    pub fifth: AreaPlan,
+    pub sixth: AreaPlan,
+    pub seventh: AreaPlan,
+    pub eighth: AreaPlan,
+}
+
+// A finished plan. Its runs stand in the lists that were lent to it, area after area.
+pub struct Plan {
+    pub areas: AreaPlans,
     pub pages: u64,
     pub order: PageOrder,
     pub notes: Notes,
@@ -39,7 +59,7 @@ pub struct PageRun {
     pub manual_break: bool,
 }
 
-// A page: the numbers of its two runs, from 0, and the runs.
+// A page: the numbers of its two runs, from 0 in each area, and the runs.
 pub struct Page {
     pub vertical: usize,
     pub horizontal: usize,
@@ -59,8 +79,20 @@ pub enum Listing {
     Refused(u8),
 }
 
-// Where a page stands: the numbers of its two runs, from 0.
+// Where a page stands in its area: the numbers of its two runs, from 0.
 pub struct Place {
     pub vertical: usize,
     pub horizontal: usize,
+}
+
+// Where a page stands in a plan: the number of its area, from 0, and how many pages of the area stand before it.
+pub struct Spot {
+    pub area: usize,
+    pub before: usize,
+}
+
+// The spot of a page, or that there is no such page.
+pub enum Found {
+    At(Spot),
+    Nothing,
 }

@@ -25,12 +25,6 @@ pub struct RunEnd {
     pub grown: u64,
 }
 
-// How many runs a stretch has, and how many of them a merge took further.
-pub struct Counted {
-    pub runs: usize,
-    pub grown: u64,
-}
-
 // The place of a cut, and 1 where a merge moved it.
 pub struct Cut {
     pub place: usize,
