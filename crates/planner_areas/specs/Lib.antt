@@ -1,0 +1,2 @@
+-- What the contracts of `planner_areas` cite.
+pub mod Edges
