@@ -5,11 +5,11 @@ use borrow.Author.Needs.{needs}
 use Rattle.planner_questions.proofs.partition_refusal.Statement.{statement}
 use Rattle.planner_questions.proofs.partition_refusal.Tie as tie
 
-formed-requires : tie.Need-formed-requires
-formed-requires c κs = search needs
+pairs-ordered-requires : tie.Need-pairs-ordered-requires
+pairs-ordered-requires c κs = search needs
 
-in-grid-requires : tie.Need-in-grid-requires
-in-grid-requires c κs = search needs
+all-within-requires : tie.Need-all-within-requires
+all-within-requires c κs = search needs
 
 rising-within-requires : tie.Need-rising-within-requires
 rising-within-requires c κs = search needs
@@ -17,24 +17,49 @@ rising-within-requires c κs = search needs
 all-small-requires : tie.Need-all-small-requires
 all-small-requires c κs = search needs
 
-first-refused-requires : tie.Need-first-refused-requires
-first-refused-requires c κs = search needs
+no-or-requires : tie.Need-no-or-requires
+no-or-requires c κs = search needs
+
+no-or-requires-2 : tie.Need-no-or-requires-2
+no-or-requires-2 c κs = search needs
+
+no-or-requires-3 : tie.Need-no-or-requires-3
+no-or-requires-3 c κs = search needs
+
+no-or-requires-4 : tie.Need-no-or-requires-4
+no-or-requires-4 c κs = search needs
 
 returns : tie.Need-returns
 unfolding firstNo
 returns c =
-    let after-formed : tie.After-formed = search in
-    let f = c .before in
-    c .first-refused .ensures
-    ∙ rw (f .all-small .ensures, f .before .rising-within .ensures, f .before .before .in-grid .ensures, after-formed .formed .ensures)
+    let ordered : tie.After-pairs-ordered = search in
+    let within : tie.After-all-within = search in
+    let rising : tie.After-rising-within = search in
+    let small : tie.After-all-small = search in
+    let nine : tie.After-no-or = search in
+    let eight : tie.After-no-or2 = search in
+    let seven : tie.After-no-or3 = search in
+    c .no-or4 .ensures
+    ∙ rw (
+      seven .no-or3 .ensures,
+      eight .no-or2 .ensures,
+      nine .no-or .ensures,
+      small .all-small .ensures,
+      rising .rising-within .ensures,
+      within .all-within .ensures,
+      ordered .pairs-ordered .ensures,
+    )
 
 pub partition-refusal-spec : {M : Type 1} → statement M
 partition-refusal-spec =
     tie.close
     (tie.spec
-    formed-requires
-    in-grid-requires
+    pairs-ordered-requires
+    all-within-requires
     rising-within-requires
     all-small-requires
-    first-refused-requires
+    no-or-requires
+    no-or-requires-2
+    no-or-requires-3
+    no-or-requires-4
     returns)
