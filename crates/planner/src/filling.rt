@@ -1,14 +1,14 @@
 // Slots taken onto a sum: document 01, section "Runs", filling.
 ghost use mathlib.Core.Path.{_≡_};
 ghost use Prim.Native.Nat.{_+_, _*_, _≤_, _<_};
-ghost use lib.ListN.{length, drop};
+ghost use lib.ListN.{length, take, drop};
 ghost use Rattle.planner_rules.specs.Slots.{Small, sum};
 ghost use Rattle.planner_rules.specs.Runs.{more, natural};
 
 // The slots that a run has so far, and their sum.
-struct Filling {
-    slots: usize,
-    sum: u64,
+pub(crate) struct Filling {
+    pub slots: usize,
+    pub sum: u64,
 }
 
 // The sum of a stretch.
@@ -42,6 +42,7 @@ fn fill_by_eight(sizes: &[u64], capacity: u64) -> Filling
     requires { ⌜ Small (now sizes) ⌝ }
     requires { ⌜ 0 < length (now sizes) ⌝ }
     ensures { λ r. ⌜ r .slots + more capacity (r .sum) (drop (r .slots) (now (sizes .entry))) ≡ natural capacity (now (sizes .entry)) ⌝ }
+    ensures { λ r. ⌜ r .sum ≡ sum (take (r .slots) (now (sizes .entry))) ⌝ }
     ensures { λ r. ⌜ (1 ≤ r .slots) × (r .slots ≤ length (now (sizes .entry))) × (r .sum ≤ 1073741824 * r .slots) ⌝ }
 {
     let mut sum = sizes[0];
@@ -57,12 +58,13 @@ fn fill_by_eight(sizes: &[u64], capacity: u64) -> Filling
     Filling { slots: n, sum }
 }
 
-// How many slots a run takes by filling alone: the first, and the next while the sum stays within the capacity.
-pub(crate) fn natural_fill(sizes: &[u64], capacity: u64) -> usize
+// What a run takes by filling alone: the first slot, and the next while the sum stays within the capacity.
+pub(crate) fn natural_fill(sizes: &[u64], capacity: u64) -> Filling
     requires { ⌜ Small (now sizes) ⌝ }
     requires { ⌜ 0 < length (now sizes) ⌝ }
-    ensures { λ r. ⌜ r ≡ natural capacity (now (sizes .entry)) ⌝ }
-    ensures { λ r. ⌜ (1 ≤ r) × (r ≤ length (now (sizes .entry))) ⌝ }
+    ensures { λ r. ⌜ r .slots ≡ natural capacity (now (sizes .entry)) ⌝ }
+    ensures { λ r. ⌜ r .sum ≡ sum (take (r .slots) (now (sizes .entry))) ⌝ }
+    ensures { λ r. ⌜ (1 ≤ r .slots) × (r .slots ≤ length (now (sizes .entry))) ⌝ }
 {
     let filling = fill_by_eight(sizes, capacity);
     let mut sum = filling.sum;
@@ -70,10 +72,10 @@ pub(crate) fn natural_fill(sizes: &[u64], capacity: u64) -> usize
     while n < sizes.len() {
         let next = sum + sizes[n];
         if next > capacity {
-            return n;
+            return Filling { slots: n, sum };
         }
         sum = next;
         n += 1;
     }
-    n
+    Filling { slots: n, sum }
 }

@@ -8,9 +8,11 @@ use planner_questions::room_in;
 use planner_rules::Axis;
 use planner_rules::AxisSetup;
 use planner_rules::Frame;
+use planner_rules::PageSide;
 use planner_rules::Partition;
 use planner_rules::Tally;
 use planner_titles::body_start;
+use units::Fixed;
 ghost use Rattle.planner_rules.specs.Slots.{Slots};
 ghost use Rattle.planner_rules.specs.Titles.{limitOf};
 ghost use Rattle.planner_rules.specs.Runs.{axisRuns, axisTally};
@@ -39,7 +41,23 @@ fn partition_slots(
         (now (list .entry)) (now (list .exit)))
         ⌝ }
 {
-    let tally = count_axis(frame, merge_firsts, merge_lasts, breaks, indexes, sizes);
+    // how many runs overflow is not answered, so that any page serves
+    let page = PageSide {
+        side: Fixed::ZERO,
+        headings: 0,
+        titles: 0,
+    };
+    let counted = count_axis(
+        page,
+        1000,
+        frame,
+        merge_firsts,
+        merge_lasts,
+        breaks,
+        indexes,
+        sizes,
+    );
+    let tally = counted.tally;
     if tally.runs > room_in(list.len()) {
         return Partition::Refused(11);
     }

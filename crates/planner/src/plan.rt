@@ -1,101 +1,46 @@
-// The plan call: questions, scale, cuts and notes for both axes of a range. Document 01, sections "Scale", "Pages" and "Questions in order".
-use crate::overflow::overflowing_runs;
-use crate::places::place_of;
-use crate::runs::count_axis;
-use crate::runs::write_axis;
-use crate::runs::write_empty;
-use crate::scale::fit_scale;
-use crate::scale::frame_at;
-use crate::title::title_total;
-use planner_compare::longer;
-use planner_compare::wide;
-use planner_cuts::final_cut;
+// The plan calls: questions, then all areas counted and written, or one written. Document 01, sections "Pages" and "Questions in order", and
+// document 02, T-02.
+use crate::area::count_at;
+use crate::area::ready_area;
+use crate::area::write_area_runs;
+use crate::areas::count_areas;
+use crate::areas::write_areas;
+use crate::title::ready_title;
+use planner_areas::area_at;
 use planner_questions::plan_refusal;
 use planner_questions::room_in;
 use planner_questions::room_refusal;
-use planner_rules::AxisRange;
+use planner_rules::Areas;
+use planner_rules::Axis;
 use planner_rules::ChosenScale;
-use planner_rules::ContentSides;
-use planner_rules::FinalCut;
-use planner_rules::Fit;
-use planner_rules::Frame;
+use planner_rules::CountedAreas;
 use planner_rules::Notes;
-use planner_rules::PageSide;
 use planner_rules::Plan;
 use planner_rules::Planning;
 use planner_rules::Prepared;
 use planner_rules::PrintRange;
-use planner_rules::RUN_NUMBERS;
-use planner_rules::Ready;
+use planner_rules::RunCounts;
 use planner_rules::Settings;
+use planner_rules::Shared;
 use planner_rules::SidesFound;
-use planner_rules::Stretch;
 use planner_rules::Title;
-use planner_setup::column_range;
+use planner_rules::Writing;
 use planner_setup::content_sides;
-use planner_setup::fixed_scale;
-use planner_setup::looked_at;
-use planner_setup::row_range;
-use planner_titles::body_start;
-use planner_titles::widened_title;
-use units::Fixed;
 ghost use mathlib.Core.Path.{_≡_};
-ghost use mathlib.Core.Bool.{cond, _&&_};
-ghost use Prim.Native.Nat.{_+_, _≤_, _^_};
-ghost use lib.ListN.{length};
-ghost use Rattle.planner_rules.specs.Slots.{Slots, written};
-ghost use Rattle.planner_rules.specs.Runs.{axisRuns};
-ghost use Rattle.planner_rules.specs.Lent.{Room, roomIn, flat};
-ghost use Rattle.planner_rules.specs.Scale.{fixedScale, fitScale, spaceOf, scaleOf, fitPasses};
-ghost use Rattle.planner_rules.specs.Pages.{none, orEmpty, overflowing};
+ghost use mathlib.Core.List.{List};
+ghost use Prim.Native.Nat.{ℕ};
+ghost use Rattle.planner_rules.specs.Lent.{roomIn};
+ghost use Rattle.planner_rules.specs.Areas.{areasIn};
 ghost use Rattle.planner_rules.specs.Demand.{CoversPairs, FewestPlan, LargestPlan};
 ghost use Rattle.planner_rules.specs.Plan as call;
+ghost use Rattle.planner_rules.specs.Steps as step;
 
-// Widens the title of an axis and finds the body.
-fn ready_axis(
-    axis: AxisRange,
-    side: Fixed,
-    indexes: &[u32],
-    sizes: &[u64],
-    merge_firsts: &[u32],
-    merge_lasts: &[u32],
-) -> Ready
-    requires { ⌜ call.Fine axis (now indexes) (now sizes) (now «merge_firsts») (now «merge_lasts») ⌝ }
-    ensures { λ r. ⌜ call.MadeReady r (side .0) axis (now (indexes .entry)) (now (sizes .entry)) (now («merge_firsts» .entry)) (now («merge_lasts» .entry)) ⌝ }
-{
-    let asked = axis.title;
-    let widened = widened_title(axis.limit, asked, merge_firsts, merge_lasts);
-    let title = widened.title;
-    let titles = title_total(title, indexes, sizes);
-    let start = body_start(title, axis.first);
-    let from = place_of(indexes, start);
-    let end = place_of(indexes, wide(axis.last) + 1);
-    Ready {
-        fit: Fit {
-            page: PageSide {
-                side,
-                headings: axis.headings,
-                titles,
-            },
-            stretch: Stretch {
-                title,
-                lo: start as u32,
-                hi: axis.last,
-            },
-            target: axis.target,
-        },
-        from,
-        to: longer(from, end),
-        ignored: widened.ignored,
-        expanded: widened.expanded,
-    }
-}
-
-// The scale of a plan: by fitting, or by percent.
-fn choose_scale(
+// Asks the questions 4 to 10, and makes the titles ready, once for all areas.
+fn prepare(
     settings: Settings,
-    rows: Ready,
-    columns: Ready,
+    areas: Areas,
+    row_title: Title,
+    column_title: Title,
     row_indexes: &[u32],
     row_sizes: &[u64],
     column_indexes: &[u32],
@@ -104,212 +49,91 @@ fn choose_scale(
     merge_first_columns: &[u32],
     merge_last_rows: &[u32],
     merge_last_columns: &[u32],
-) -> ChosenScale
-    requires { ⌜ call.Cuttable rows (now «row_indexes») (now «row_sizes») ⌝ }
-    requires { ⌜ call.Cuttable columns (now «column_indexes») (now «column_sizes») ⌝ }
+) -> Prepared
     ensures { λ r. ⌜
-        scaleOf r ≡ cond (settings .fit)
-        (fitScale
-        (λ p. fitPasses (rows .fit) (now («merge_first_rows» .entry)) (now («merge_last_rows» .entry))
-        (call.within rows (now («row_indexes» .entry))) (call.within rows (now («row_sizes» .entry))) p && fitPasses
-        (columns .fit) (now («merge_first_columns» .entry)) (now («merge_last_columns» .entry))
-        (call.within columns (now («column_indexes» .entry))) (call.within columns (now («column_sizes» .entry))) p))
-        (fixedScale (settings .percent))
+        ((rb cb : List ℕ) →
+        step.IsPrepared r
+        (call.sheetOf settings «row_title» «column_title» (now («row_indexes» .entry)) (now («row_sizes» .entry)) (now («column_indexes» .entry))
+        (now («column_sizes» .entry)) (now («merge_first_rows» .entry)) (now («merge_first_columns» .entry)) (now («merge_last_rows» .entry))
+        (now («merge_last_columns» .entry)) rb cb) areas)
         ⌝ }
 {
-    if settings.fit {
-        let row_fit = rows.fit;
-        let column_fit = columns.fit;
-        let row_from = rows.from;
-        let row_to = rows.to;
-        let column_from = columns.from;
-        let column_to = columns.to;
-        return fit_scale(
-            row_fit,
-            column_fit,
-            merge_first_rows,
-            merge_last_rows,
-            &row_indexes[row_from..row_to],
-            &row_sizes[row_from..row_to],
-            merge_first_columns,
-            merge_last_columns,
-            &column_indexes[column_from..column_to],
-            &column_sizes[column_from..column_to],
-        );
+    let refusal = plan_refusal(
+        settings,
+        areas,
+        row_indexes,
+        row_sizes,
+        column_indexes,
+        column_sizes,
+        merge_first_rows,
+        merge_first_columns,
+        merge_last_rows,
+        merge_last_columns,
+    );
+    if refusal > 0 {
+        return Prepared::Refused(refusal);
     }
-    let percent = settings.percent;
-    fixed_scale(percent)
-}
-
-// Counts the final cut of an axis, without writing it.
-fn count_cut(
-    ready: Ready,
-    permille: u16,
-    merge_firsts: &[u32],
-    merge_lasts: &[u32],
-    breaks: &[u32],
-    indexes: &[u32],
-    sizes: &[u64],
-) -> FinalCut
-    requires { ⌜ call.Cuttable ready (now indexes) (now sizes) ⌝ }
-    ensures { λ r. ⌜
-        (let is = now (indexes .entry) in
-        let firsts = now («merge_firsts» .entry) in
-        let lasts = now («merge_lasts» .entry) in
-        let bs = now (breaks .entry) in
-        r ≡ call.cutOf (call.readyRuns ready permille is (now (sizes .entry)) firsts lasts bs) (call.readyShifts ready permille is firsts lasts bs))
-        ⌝ }
-    ensures { λ r. ⌜ (r .runs ≤ 2 ^ 20) × (r .expansions ≤ 2 ^ 20) × (r .shifts ≤ length (now (breaks .entry))) ⌝ }
-{
-    let fit = ready.fit;
-    let from = ready.from;
-    let to = ready.to;
-    let frame = frame_at(fit, permille);
-    let tally = count_axis(
-        frame,
-        merge_firsts,
-        merge_lasts,
-        breaks,
-        &indexes[from..to],
-        &sizes[from..to],
+    let SidesFound::Value(sides) = content_sides(settings) else {
+        return Prepared::Refused(10);
+    };
+    let rows = ready_title(
+        Axis::Rows.limit(),
+        row_title,
+        row_indexes,
+        row_sizes,
+        merge_first_rows,
+        merge_last_rows,
     );
-    final_cut(tally)
-}
-
-// Writes the runs that the pages of an axis are made of.
-fn write_page_runs(
-    frame: Frame,
-    empty: bool,
-    first: u32,
-    merge_firsts: &[u32],
-    merge_lasts: &[u32],
-    breaks: &[u32],
-    indexes: &[u32],
-    sizes: &[u64],
-    list: &mut [u64],
-)
-    requires { ⌜ Slots (now indexes) (now sizes) ⌝ }
-    requires { ⌜
-        (let runs = axisRuns frame (now «merge_firsts») (now «merge_lasts») (now indexes) (now sizes) 0 (now breaks) in
-        (empty ≡ none runs) × Room (orEmpty first runs) (now list))
-        ⌝ }
-    ensures { λ _. ⌜
-        (let runs = axisRuns frame (now («merge_firsts» .entry)) (now («merge_lasts» .entry)) (now (indexes .entry))
-        (now (sizes .entry)) 0 (now (breaks .entry)) in
-        now (list .exit) ≡ written (flat (orEmpty first runs)) (now (list .entry)))
-        ⌝ }
-{
-    if empty {
-        write_empty(first, list);
-        return;
-    }
-    write_axis(
-        frame,
-        merge_firsts,
-        merge_lasts,
-        breaks,
-        indexes,
-        sizes,
-        list,
+    let columns = ready_title(
+        Axis::Columns.limit(),
+        column_title,
+        column_indexes,
+        column_sizes,
+        merge_first_columns,
+        merge_last_columns,
     );
+    Prepared::Value(Shared {
+        settings,
+        sides,
+        rows,
+        columns,
+    })
 }
 
-// Writes the final cut of an axis, and answers how many of its runs overflow.
-fn write_cut(
-    ready: Ready,
-    cut: FinalCut,
-    permille: u16,
-    first: u32,
-    merge_firsts: &[u32],
-    merge_lasts: &[u32],
-    breaks: &[u32],
-    indexes: &[u32],
-    sizes: &[u64],
-    list: &mut [u64],
-) -> u64
-    requires { ⌜ call.Cuttable ready (now indexes) (now sizes) ⌝ }
-    requires { ⌜
-        (let runs = call.readyRuns ready permille (now indexes) (now sizes) (now «merge_firsts») (now «merge_lasts») (now breaks) in
-        (cut ≡ call.cutOf runs (call.readyShifts ready permille (now indexes) (now «merge_firsts») (now «merge_lasts») (now breaks)))
-        × Room (orEmpty first runs) (now list))
-        ⌝ }
-    ensures { λ r. ⌜
-        (let runs = call.readyRuns ready permille (now (indexes .entry)) (now (sizes .entry)) (now («merge_firsts» .entry))
-        (now («merge_lasts» .entry)) (now (breaks .entry)) in
-        (now (list .exit) ≡ written (flat (orEmpty first runs)) (now (list .entry)))
-        × (r ≡ overflowing (spaceOf (ready .fit .page)) (ready .fit .stretch .title) permille (none runs) (orEmpty first runs)))
-        ⌝ }
+// The plan of counted areas. Paper, margin and title notes count once.
+fn plan_of(shared: Shared, counted: CountedAreas) -> Plan
+    requires { ⌜ step.TitlesFew shared ⌝ }
+    ensures { λ r. ⌜ r ≡ step.planFrom shared counted ⌝ }
 {
-    let fit = ready.fit;
-    let page = fit.page;
-    let stretch = fit.stretch;
-    let title = stretch.title;
-    let from = ready.from;
-    let to = ready.to;
-    let numbers = cut.runs * RUN_NUMBERS;
-    let frame = frame_at(fit, permille);
-    write_page_runs(
-        frame,
-        cut.empty,
-        first,
-        merge_firsts,
-        merge_lasts,
-        breaks,
-        &indexes[from..to],
-        &sizes[from..to],
-        list,
-    );
-    overflowing_runs(page, title, permille, cut.empty, &list[..numbers])
-}
-
-// What the notes of a plan are made of, beside the cuts.
-fn notes_of(
-    sides: ContentSides,
-    scale: ChosenScale,
-    rows: Ready,
-    columns: Ready,
-    row_cut: FinalCut,
-    column_cut: FinalCut,
-    row_overflows: u64,
-    column_overflows: u64,
-) -> Notes
-    requires { ⌜ call.Addable rows columns «row_cut» «column_cut» «row_overflows» «column_overflows» ⌝ }
-    ensures { λ r. ⌜
-        r ≡ record {
-          «unknown_paper» = sides .unknown;
-          «invalid_margins» = sides .invalid;
-          «scale_clamped» = scale .clamp;
-          «fit_unreachable» = scale .unreachable;
-          «titles_ignored» = rows .ignored + columns .ignored;
-          «titles_expanded» = rows
-              .expanded + columns .expanded;
-          «merge_expansions» = «row_cut» .expansions + «column_cut» .expansions;
-          «break_shifts» =
-              «row_cut» .shifts + «column_cut» .shifts;
-          «overflowing_runs» = «row_overflows» + «column_overflows»;
-        }
-        ⌝ }
-{
-    Notes {
-        unknown_paper: sides.unknown,
-        invalid_margins: sides.invalid,
-        scale_clamped: scale.clamp,
-        fit_unreachable: scale.unreachable,
-        titles_ignored: rows.ignored + columns.ignored,
-        titles_expanded: rows.expanded + columns.expanded,
-        merge_expansions: row_cut.expansions + column_cut.expansions,
-        break_shifts: row_cut.shifts + column_cut.shifts,
-        overflowing_runs: row_overflows + column_overflows,
+    let settings = shared.settings;
+    let sides = shared.sides;
+    let rows = shared.rows;
+    let columns = shared.columns;
+    let added = counted.notes;
+    let areas = counted.areas;
+    let order = settings.order;
+    Plan {
+        areas,
+        pages: counted.pages,
+        order,
+        notes: Notes {
+            unknown_paper: sides.unknown,
+            invalid_margins: sides.invalid,
+            scale_clamped: added.clamped,
+            fit_unreachable: added.unreachable,
+            titles_ignored: rows.ignored + columns.ignored,
+            titles_expanded: rows.expanded + columns.expanded,
+            merge_expansions: added.expansions,
+            break_shifts: added.shifts,
+            overflowing_runs: added.overflows,
+        },
     }
 }
 
-// Cuts both axes at the scale that was chosen: counted before any run is written.
-fn plan_cut(
-    settings: Settings,
-    sides: ContentSides,
-    row_axis: AxisRange,
-    column_axis: AxisRange,
-    prepared: Prepared,
+// Counts the areas and, where their runs have room and their pages are within the limit, writes them.
+fn plan_areas(
+    shared: Shared,
+    areas: Areas,
     row_indexes: &[u32],
     row_sizes: &[u64],
     column_indexes: &[u32],
@@ -323,55 +147,40 @@ fn plan_cut(
     row_runs: &mut [u64],
     column_runs: &mut [u64],
 ) -> Planning
-    requires { ⌜ call.Fine «row_axis» (now «row_indexes») (now «row_sizes») (now «merge_first_rows») (now «merge_last_rows») ⌝ }
     requires { ⌜
-        call.Fine «column_axis» (now «column_indexes») (now «column_sizes») (now «merge_first_columns») (now «merge_last_columns»)
+        (let sheet = step.sheetBy shared (now «row_indexes») (now «row_sizes») (now «column_indexes») (now «column_sizes») (now «merge_first_rows»)
+        (now «merge_first_columns») (now «merge_last_rows») (now «merge_last_columns») (now «row_breaks») (now «column_breaks») in
+        step.Settled shared sheet)
         ⌝ }
-    requires { ⌜
-        call.ReadyFor (prepared .rows) (sides .height .0)
-        (call.axisFor «row_axis» (now «row_indexes») (now «row_sizes») (now «merge_first_rows») (now «merge_last_rows»)
-        (now «row_breaks»))
-        ⌝ }
-    requires { ⌜
-        call.ReadyFor (prepared .columns) (sides .width .0)
-        (call.axisFor «column_axis» (now «column_indexes») (now «column_sizes») (now «merge_first_columns»)
-        (now «merge_last_columns») (now «column_breaks»))
-        ⌝ }
+    requires { ⌜ step.FineAreas areas ⌝ }
     ensures { λ r. ⌜
-        (let rows = call.axisFor «row_axis» (now («row_indexes» .entry)) (now («row_sizes» .entry)) (now («merge_first_rows» .entry))
-        (now («merge_last_rows» .entry)) (now («row_breaks» .entry)) in
-        let columns = call.axisFor «column_axis» (now («column_indexes» .entry)) (now («column_sizes» .entry))
-        (now («merge_first_columns» .entry)) (now («merge_last_columns» .entry)) (now («column_breaks» .entry)) in
-        let layout = call.layoutAt settings (call.sidesOf sides) rows columns (scaleOf (prepared .scale)) in
-        call.Planned (call.roomFor layout (roomIn (now («row_runs» .entry))) (roomIn (now («column_runs» .entry))) (settings .«page_limit»)) r
+        (let sheet = step.sheetBy shared (now («row_indexes» .entry)) (now («row_sizes» .entry)) (now («column_indexes» .entry))
+        (now («column_sizes» .entry)) (now («merge_first_rows» .entry)) (now («merge_first_columns» .entry)) (now («merge_last_rows» .entry))
+        (now («merge_last_columns» .entry)) (now («row_breaks» .entry)) (now («column_breaks» .entry)) in
+        let layout = call.layout (step.sidesIn shared) sheet (areasIn areas) in
+        call.Planned (call.roomFor sheet layout (roomIn (now («row_runs» .entry))) (roomIn (now («column_runs» .entry)))) r
         (now («row_runs» .entry)) (now («column_runs» .entry)) (now («row_runs» .exit)) (now («column_runs» .exit)))
         ⌝ }
 {
-    let rows = prepared.rows;
-    let columns = prepared.columns;
-    let scale = prepared.scale;
-    let permille = scale.permille;
-    let row_cut = count_cut(
-        rows,
-        permille,
-        merge_first_rows,
-        merge_last_rows,
-        row_breaks,
+    let settings = shared.settings;
+    let counted = count_areas(
+        shared,
+        areas,
         row_indexes,
         row_sizes,
-    );
-    let column_cut = count_cut(
-        columns,
-        permille,
-        merge_first_columns,
-        merge_last_columns,
-        column_breaks,
         column_indexes,
         column_sizes,
+        merge_first_rows,
+        merge_first_columns,
+        merge_last_rows,
+        merge_last_columns,
+        row_breaks,
+        column_breaks,
     );
     let refusal = room_refusal(
-        row_cut.runs,
-        column_cut.runs,
+        counted.rows,
+        counted.columns,
+        counted.pages,
         room_in(row_runs.len()),
         room_in(column_runs.len()),
         settings.page_limit,
@@ -379,126 +188,11 @@ fn plan_cut(
     if refusal > 0 {
         return Planning::Refused(refusal);
     }
-    let row_overflows = write_cut(
-        rows,
-        row_cut,
-        permille,
-        row_axis.first,
-        merge_first_rows,
-        merge_last_rows,
-        row_breaks,
-        row_indexes,
-        row_sizes,
-        row_runs,
-    );
-    let column_overflows = write_cut(
-        columns,
-        column_cut,
-        permille,
-        column_axis.first,
-        merge_first_columns,
-        merge_last_columns,
-        column_breaks,
-        column_indexes,
-        column_sizes,
-        column_runs,
-    );
-    let order = settings.order;
-    Planning::Value(Plan {
-        permille,
-        row_runs: row_cut.runs,
-        column_runs: column_cut.runs,
-        rows_empty: row_cut.empty,
-        columns_empty: column_cut.empty,
-        pages: (row_cut.runs as u64) * (column_cut.runs as u64),
-        order,
-        notes: notes_of(
-            sides,
-            scale,
-            rows,
-            columns,
-            row_cut,
-            column_cut,
-            row_overflows,
-            column_overflows,
-        ),
-    })
-}
-
-// Prepares both axes, chooses the scale and cuts.
-fn plan_axes(
-    settings: Settings,
-    sides: ContentSides,
-    row_axis: AxisRange,
-    column_axis: AxisRange,
-    row_indexes: &[u32],
-    row_sizes: &[u64],
-    column_indexes: &[u32],
-    column_sizes: &[u64],
-    merge_first_rows: &[u32],
-    merge_first_columns: &[u32],
-    merge_last_rows: &[u32],
-    merge_last_columns: &[u32],
-    row_breaks: &[u32],
-    column_breaks: &[u32],
-    row_runs: &mut [u64],
-    column_runs: &mut [u64],
-) -> Planning
-    requires { ⌜ call.Fine «row_axis» (now «row_indexes») (now «row_sizes») (now «merge_first_rows») (now «merge_last_rows») ⌝ }
-    requires { ⌜
-        call.Fine «column_axis» (now «column_indexes») (now «column_sizes») (now «merge_first_columns») (now «merge_last_columns»)
-        ⌝ }
-    ensures { λ r. ⌜
-        (let rows = call.axisFor «row_axis» (now («row_indexes» .entry)) (now («row_sizes» .entry)) (now («merge_first_rows» .entry))
-        (now («merge_last_rows» .entry)) (now («row_breaks» .entry)) in
-        let columns = call.axisFor «column_axis» (now («column_indexes» .entry)) (now («column_sizes» .entry))
-        (now («merge_first_columns» .entry)) (now («merge_last_columns» .entry)) (now («column_breaks» .entry)) in
-        let layout = call.layout settings (call.sidesOf sides) rows columns in
-        call.Planned (call.roomFor layout (roomIn (now («row_runs» .entry))) (roomIn (now («column_runs» .entry))) (settings .«page_limit»)) r
-        (now («row_runs» .entry)) (now («column_runs» .entry)) (now («row_runs» .exit)) (now («column_runs» .exit)))
-        ⌝ }
-{
-    let height = sides.height;
-    let width = sides.width;
-    let rows = ready_axis(
-        row_axis,
-        height,
-        row_indexes,
-        row_sizes,
-        merge_first_rows,
-        merge_last_rows,
-    );
-    let columns = ready_axis(
-        column_axis,
-        width,
-        column_indexes,
-        column_sizes,
-        merge_first_columns,
-        merge_last_columns,
-    );
-    let scale = choose_scale(
-        settings,
-        rows,
-        columns,
-        row_indexes,
-        row_sizes,
-        column_indexes,
-        column_sizes,
-        merge_first_rows,
-        merge_first_columns,
-        merge_last_rows,
-        merge_last_columns,
-    );
-    plan_cut(
-        settings,
-        sides,
-        row_axis,
-        column_axis,
-        Prepared {
-            rows,
-            columns,
-            scale,
-        },
+    let plans = counted.areas;
+    write_areas(
+        shared,
+        areas,
+        plans,
         row_indexes,
         row_sizes,
         column_indexes,
@@ -511,13 +205,15 @@ fn plan_axes(
         column_breaks,
         row_runs,
         column_runs,
-    )
+    );
+    Planning::Value(plan_of(shared, counted))
 }
 
-// Plans the pages of a range: the scale, the runs of rows and columns, which go to the fronts of two lent lists, and the notes.
+// Plans the pages of one to eight areas: their scales, their runs of rows and columns, which go to the fronts of two lent lists area after area,
+// and the notes.
 pub fn plan_pages(
     settings: Settings,
-    range: PrintRange,
+    areas: Areas,
     row_title: Title,
     column_title: Title,
     row_indexes: &[u32],
@@ -534,40 +230,36 @@ pub fn plan_pages(
     column_runs: &mut [u64],
 ) -> Planning
     ensures planned { λ r. ⌜
-        (let rows = call.rowsOf settings range «row_title» (now («row_indexes» .entry)) (now («row_sizes» .entry))
-        (now («merge_first_rows» .entry)) (now («merge_last_rows» .entry)) (now («row_breaks» .entry)) in
-        let columns = call.columnsOf settings range «column_title» (now («column_indexes» .entry)) (now («column_sizes» .entry))
-        (now («merge_first_columns» .entry)) (now («merge_last_columns» .entry)) (now («column_breaks» .entry)) in
-        call.Planned (call.planned settings rows columns (now («row_runs» .entry)) (now («column_runs» .entry))) r
+        (let sheet = call.sheetOf settings «row_title» «column_title» (now («row_indexes» .entry)) (now («row_sizes» .entry))
+        (now («column_indexes» .entry)) (now («column_sizes» .entry)) (now («merge_first_rows» .entry)) (now («merge_first_columns» .entry))
+        (now («merge_last_rows» .entry)) (now («merge_last_columns» .entry)) (now («row_breaks» .entry)) (now («column_breaks» .entry)) in
+        call.Planned (call.planned sheet areas (now («row_runs» .entry)) (now («column_runs» .entry))) r
         (now («row_runs» .entry)) (now («column_runs» .entry)) (now («row_runs» .exit)) (now («column_runs» .exit)))
         ⌝ }
     ensures covered { λ r. ⌜
-        (let rows = call.rowsOf settings range «row_title» (now («row_indexes» .entry)) (now («row_sizes» .entry))
-        (now («merge_first_rows» .entry)) (now («merge_last_rows» .entry)) (now («row_breaks» .entry)) in
-        let columns = call.columnsOf settings range «column_title» (now («column_indexes» .entry)) (now («column_sizes» .entry))
-        (now («merge_first_columns» .entry)) (now («merge_last_columns» .entry)) (now («column_breaks» .entry)) in
-        CoversPairs r rows columns (now («row_runs» .exit)) (now («column_runs» .exit)))
+        (let sheet = call.sheetOf settings «row_title» «column_title» (now («row_indexes» .entry)) (now («row_sizes» .entry))
+        (now («column_indexes» .entry)) (now («column_sizes» .entry)) (now («merge_first_rows» .entry)) (now («merge_first_columns» .entry))
+        (now («merge_last_rows» .entry)) (now («merge_last_columns» .entry)) (now («row_breaks» .entry)) (now («column_breaks» .entry)) in
+        CoversPairs r sheet areas (now («row_runs» .exit)) (now («column_runs» .exit)))
         ⌝ }
     ensures fewest { λ r. ⌜
-        (let rows = call.rowsOf settings range «row_title» (now («row_indexes» .entry)) (now («row_sizes» .entry))
-        (now («merge_first_rows» .entry)) (now («merge_last_rows» .entry)) (now («row_breaks» .entry)) in
-        let columns = call.columnsOf settings range «column_title» (now («column_indexes» .entry)) (now («column_sizes» .entry))
-        (now («merge_first_columns» .entry)) (now («merge_last_columns» .entry)) (now («column_breaks» .entry)) in
-        FewestPlan r settings rows columns (now («row_runs» .exit)) (now («column_runs» .exit)))
+        (let sheet = call.sheetOf settings «row_title» «column_title» (now («row_indexes» .entry)) (now («row_sizes» .entry))
+        (now («column_indexes» .entry)) (now («column_sizes» .entry)) (now («merge_first_rows» .entry)) (now («merge_first_columns» .entry))
+        (now («merge_last_rows» .entry)) (now («merge_last_columns» .entry)) (now («row_breaks» .entry)) (now («column_breaks» .entry)) in
+        FewestPlan r sheet areas (now («row_runs» .exit)) (now («column_runs» .exit)))
         ⌝ }
     ensures largest { λ r. ⌜
-        (let rows = call.rowsOf settings range «row_title» (now («row_indexes» .entry)) (now («row_sizes» .entry))
-        (now («merge_first_rows» .entry)) (now («merge_last_rows» .entry)) (now («row_breaks» .entry)) in
-        let columns = call.columnsOf settings range «column_title» (now («column_indexes» .entry)) (now («column_sizes» .entry))
-        (now («merge_first_columns» .entry)) (now («merge_last_columns» .entry)) (now («column_breaks» .entry)) in
-        LargestPlan r settings rows columns)
+        (let sheet = call.sheetOf settings «row_title» «column_title» (now («row_indexes» .entry)) (now («row_sizes» .entry))
+        (now («column_indexes» .entry)) (now («column_sizes» .entry)) (now («merge_first_rows» .entry)) (now («merge_first_columns» .entry))
+        (now («merge_last_rows» .entry)) (now («merge_last_columns» .entry)) (now («row_breaks» .entry)) (now («column_breaks» .entry)) in
+        LargestPlan r sheet areas)
         ⌝ }
 {
-    let rows = row_range(settings, range, row_title);
-    let columns = column_range(settings, range, column_title);
-    let refusal = plan_refusal(
-        rows,
-        columns,
+    let prepared = prepare(
+        settings,
+        areas,
+        row_title,
+        column_title,
         row_indexes,
         row_sizes,
         column_indexes,
@@ -577,19 +269,59 @@ pub fn plan_pages(
         merge_last_rows,
         merge_last_columns,
     );
-    if refusal > 0 {
-        return Planning::Refused(refusal);
+    match prepared {
+        Prepared::Refused(n) => Planning::Refused(n),
+        Prepared::Value(shared) => plan_areas(
+            shared,
+            areas,
+            row_indexes,
+            row_sizes,
+            column_indexes,
+            column_sizes,
+            merge_first_rows,
+            merge_first_columns,
+            merge_last_rows,
+            merge_last_columns,
+            row_breaks,
+            column_breaks,
+            row_runs,
+            column_runs,
+        ),
     }
-    let SidesFound::Value(sides) = content_sides(settings) else {
-        return Planning::Refused(10);
-    };
-    let row_kept = looked_at(settings.fit, row_breaks.len());
-    let column_kept = looked_at(settings.fit, column_breaks.len());
-    plan_axes(
-        settings,
-        sides,
-        rows,
-        columns,
+}
+
+// Counts the areas: the plan, within the limit of pages.
+fn counted_plan(
+    shared: Shared,
+    areas: Areas,
+    row_indexes: &[u32],
+    row_sizes: &[u64],
+    column_indexes: &[u32],
+    column_sizes: &[u64],
+    merge_first_rows: &[u32],
+    merge_first_columns: &[u32],
+    merge_last_rows: &[u32],
+    merge_last_columns: &[u32],
+    row_breaks: &[u32],
+    column_breaks: &[u32],
+) -> Planning
+    requires { ⌜
+        (let sheet = step.sheetBy shared (now «row_indexes») (now «row_sizes») (now «column_indexes») (now «column_sizes») (now «merge_first_rows»)
+        (now «merge_first_columns») (now «merge_last_rows») (now «merge_last_columns») (now «row_breaks») (now «column_breaks») in
+        step.Settled shared sheet)
+        ⌝ }
+    requires { ⌜ step.FineAreas areas ⌝ }
+    ensures { λ r. ⌜
+        (let sheet = step.sheetBy shared (now («row_indexes» .entry)) (now («row_sizes» .entry)) (now («column_indexes» .entry))
+        (now («column_sizes» .entry)) (now («merge_first_rows» .entry)) (now («merge_first_columns» .entry)) (now («merge_last_rows» .entry))
+        (now («merge_last_columns» .entry)) (now («row_breaks» .entry)) (now («column_breaks» .entry)) in
+        call.Counted (call.withinLimit sheet (call.layout (step.sidesIn shared) sheet (areasIn areas))) r)
+        ⌝ }
+{
+    let settings = shared.settings;
+    let counted = count_areas(
+        shared,
+        areas,
         row_indexes,
         row_sizes,
         column_indexes,
@@ -598,9 +330,282 @@ pub fn plan_pages(
         merge_first_columns,
         merge_last_rows,
         merge_last_columns,
-        &row_breaks[..row_kept],
-        &column_breaks[..column_kept],
+        row_breaks,
+        column_breaks,
+    );
+    if counted.pages > settings.page_limit {
+        return Planning::Refused(12);
+    }
+    Planning::Value(plan_of(shared, counted))
+}
+
+// The same plan, whose runs are written nowhere.
+pub fn count_pages(
+    settings: Settings,
+    areas: Areas,
+    row_title: Title,
+    column_title: Title,
+    row_indexes: &[u32],
+    row_sizes: &[u64],
+    column_indexes: &[u32],
+    column_sizes: &[u64],
+    merge_first_rows: &[u32],
+    merge_first_columns: &[u32],
+    merge_last_rows: &[u32],
+    merge_last_columns: &[u32],
+    row_breaks: &[u32],
+    column_breaks: &[u32],
+) -> Planning
+    ensures { λ r. ⌜
+        (let sheet = call.sheetOf settings «row_title» «column_title» (now («row_indexes» .entry)) (now («row_sizes» .entry))
+        (now («column_indexes» .entry)) (now («column_sizes» .entry)) (now («merge_first_rows» .entry)) (now («merge_first_columns» .entry))
+        (now («merge_last_rows» .entry)) (now («merge_last_columns» .entry)) (now («row_breaks» .entry)) (now («column_breaks» .entry)) in
+        call.Counted (call.counted sheet areas) r)
+        ⌝ }
+{
+    let prepared = prepare(
+        settings,
+        areas,
+        row_title,
+        column_title,
+        row_indexes,
+        row_sizes,
+        column_indexes,
+        column_sizes,
+        merge_first_rows,
+        merge_first_columns,
+        merge_last_rows,
+        merge_last_columns,
+    );
+    match prepared {
+        Prepared::Refused(n) => Planning::Refused(n),
+        Prepared::Value(shared) => counted_plan(
+            shared,
+            areas,
+            row_indexes,
+            row_sizes,
+            column_indexes,
+            column_sizes,
+            merge_first_rows,
+            merge_first_columns,
+            merge_last_rows,
+            merge_last_columns,
+            row_breaks,
+            column_breaks,
+        ),
+    }
+}
+
+// Counts an area at a permille and, where its runs have room, writes them.
+fn write_range(
+    shared: Shared,
+    range: PrintRange,
+    permille: u16,
+    row_indexes: &[u32],
+    row_sizes: &[u64],
+    column_indexes: &[u32],
+    column_sizes: &[u64],
+    merge_first_rows: &[u32],
+    merge_first_columns: &[u32],
+    merge_last_rows: &[u32],
+    merge_last_columns: &[u32],
+    row_breaks: &[u32],
+    column_breaks: &[u32],
+    row_runs: &mut [u64],
+    column_runs: &mut [u64],
+) -> Writing
+    requires { ⌜
+        (let sheet = step.sheetBy shared (now «row_indexes») (now «row_sizes») (now «column_indexes») (now «column_sizes») (now «merge_first_rows»)
+        (now «merge_first_columns») (now «merge_last_rows») (now «merge_last_columns») (now «row_breaks») (now «column_breaks») in
+        step.Settled shared sheet)
+        ⌝ }
+    requires { ⌜ step.FineArea range ⌝ }
+    ensures { λ r. ⌜
+        (let sheet = step.sheetBy shared (now («row_indexes» .entry)) (now («row_sizes» .entry)) (now («column_indexes» .entry))
+        (now («column_sizes» .entry)) (now («merge_first_rows» .entry)) (now («merge_first_columns» .entry)) (now («merge_last_rows» .entry))
+        (now («merge_last_columns» .entry)) (now («row_breaks» .entry)) (now («column_breaks» .entry)) in
+        let area = call.areaAt (step.sidesIn shared) (call.rowsIn sheet range) (call.columnsIn sheet range) (call.scaleAt permille) in
+        call.AreaWrote (call.areaRoom area (roomIn (now («row_runs» .entry))) (roomIn (now («column_runs» .entry)))) r
+        (now («row_runs» .entry)) (now («column_runs» .entry)) (now («row_runs» .exit)) (now («column_runs» .exit)))
+        ⌝ }
+{
+    let settings = shared.settings;
+    let ready = ready_area(shared, range, row_indexes, column_indexes);
+    let scale = ChosenScale {
+        permille,
+        clamp: 0,
+        unreachable: 0,
+    };
+    let counted = count_at(
+        settings.fit,
+        ready,
+        scale,
+        row_indexes,
+        row_sizes,
+        column_indexes,
+        column_sizes,
+        merge_first_rows,
+        merge_first_columns,
+        merge_last_rows,
+        merge_last_columns,
+        row_breaks,
+        column_breaks,
+    );
+    let area = counted.area;
+    let rows = area.row_runs;
+    let columns = area.column_runs;
+    if rows > room_in(row_runs.len()) {
+        return Writing::Refused(11);
+    }
+    if columns > room_in(column_runs.len()) {
+        return Writing::Refused(11);
+    }
+    write_area_runs(
+        shared,
+        range,
+        area,
+        0,
+        0,
+        row_indexes,
+        row_sizes,
+        column_indexes,
+        column_sizes,
+        merge_first_rows,
+        merge_first_columns,
+        merge_last_rows,
+        merge_last_columns,
+        row_breaks,
+        column_breaks,
+        row_runs,
+        column_runs,
+    );
+    Writing::Value(RunCounts { rows, columns })
+}
+
+// 10 of the permille, 14 of the area's number, and the area's runs.
+fn write_numbered(
+    shared: Shared,
+    areas: Areas,
+    number: u64,
+    permille: u16,
+    row_indexes: &[u32],
+    row_sizes: &[u64],
+    column_indexes: &[u32],
+    column_sizes: &[u64],
+    merge_first_rows: &[u32],
+    merge_first_columns: &[u32],
+    merge_last_rows: &[u32],
+    merge_last_columns: &[u32],
+    row_breaks: &[u32],
+    column_breaks: &[u32],
+    row_runs: &mut [u64],
+    column_runs: &mut [u64],
+) -> Writing
+    requires { ⌜
+        (let sheet = step.sheetBy shared (now «row_indexes») (now «row_sizes») (now «column_indexes») (now «column_sizes») (now «merge_first_rows»)
+        (now «merge_first_columns») (now «merge_last_rows») (now «merge_last_columns») (now «row_breaks») (now «column_breaks») in
+        step.Settled shared sheet)
+        ⌝ }
+    requires { ⌜ step.FineAreas areas ⌝ }
+    ensures { λ r. ⌜
+        (let sheet = step.sheetBy shared (now («row_indexes» .entry)) (now («row_sizes» .entry)) (now («column_indexes» .entry))
+        (now («column_sizes» .entry)) (now («merge_first_rows» .entry)) (now («merge_first_columns» .entry)) (now («merge_last_rows» .entry))
+        (now («merge_last_columns» .entry)) (now («row_breaks» .entry)) (now («column_breaks» .entry)) in
+        call.AreaWrote (call.numberedArea (step.sidesIn shared) sheet areas number permille (now («row_runs» .entry)) (now («column_runs» .entry))) r
+        (now («row_runs» .entry)) (now («column_runs» .entry)) (now («row_runs» .exit)) (now («column_runs» .exit)))
+        ⌝ }
+{
+    if permille == 0 {
+        return Writing::Refused(10);
+    }
+    if number == 0 {
+        return Writing::Refused(14);
+    }
+    if number > areas.count as u64 {
+        return Writing::Refused(14);
+    }
+    let range = area_at(areas, (number - 1) as usize);
+    write_range(
+        shared,
+        range,
+        permille,
+        row_indexes,
+        row_sizes,
+        column_indexes,
+        column_sizes,
+        merge_first_rows,
+        merge_first_columns,
+        merge_last_rows,
+        merge_last_columns,
+        row_breaks,
+        column_breaks,
         row_runs,
         column_runs,
     )
+}
+
+// Writes the runs of one area, by its number from 1, at a permille to the fronts of two lent lists: no scale is searched.
+pub fn write_area(
+    settings: Settings,
+    areas: Areas,
+    row_title: Title,
+    column_title: Title,
+    number: u64,
+    permille: u16,
+    row_indexes: &[u32],
+    row_sizes: &[u64],
+    column_indexes: &[u32],
+    column_sizes: &[u64],
+    merge_first_rows: &[u32],
+    merge_first_columns: &[u32],
+    merge_last_rows: &[u32],
+    merge_last_columns: &[u32],
+    row_breaks: &[u32],
+    column_breaks: &[u32],
+    row_runs: &mut [u64],
+    column_runs: &mut [u64],
+) -> Writing
+    ensures { λ r. ⌜
+        (let sheet = call.sheetOf settings «row_title» «column_title» (now («row_indexes» .entry)) (now («row_sizes» .entry))
+        (now («column_indexes» .entry)) (now («column_sizes» .entry)) (now («merge_first_rows» .entry)) (now («merge_first_columns» .entry))
+        (now («merge_last_rows» .entry)) (now («merge_last_columns» .entry)) (now («row_breaks» .entry)) (now («column_breaks» .entry)) in
+        call.AreaWrote (call.areaWritten sheet areas number permille (now («row_runs» .entry)) (now («column_runs» .entry))) r
+        (now («row_runs» .entry)) (now («column_runs» .entry)) (now («row_runs» .exit)) (now («column_runs» .exit)))
+        ⌝ }
+{
+    let prepared = prepare(
+        settings,
+        areas,
+        row_title,
+        column_title,
+        row_indexes,
+        row_sizes,
+        column_indexes,
+        column_sizes,
+        merge_first_rows,
+        merge_first_columns,
+        merge_last_rows,
+        merge_last_columns,
+    );
+    match prepared {
+        Prepared::Refused(n) => Writing::Refused(n),
+        Prepared::Value(shared) => write_numbered(
+            shared,
+            areas,
+            number,
+            permille,
+            row_indexes,
+            row_sizes,
+            column_indexes,
+            column_sizes,
+            merge_first_rows,
+            merge_first_columns,
+            merge_last_rows,
+            merge_last_columns,
+            row_breaks,
+            column_breaks,
+            row_runs,
+            column_runs,
+        ),
+    }
 }

@@ -1,29 +1,55 @@
 // Where the slots of an axis are cut into runs: document 01, section "Runs".
+use crate::filling::Filling;
 use crate::filling::natural_fill;
 use crate::filling::total;
 use crate::places::moved_cut;
 use crate::places::place_of;
+use crate::scale::excess;
+use crate::scale::run_fits;
 use planner_compare::wide;
 use planner_cuts::capacity_for;
 use planner_cuts::holding_merge;
 use planner_cuts::mark_of;
 use planner_cuts::merge_step;
 use planner_cuts::title_holds;
-use planner_rules::Counted;
 use planner_rules::Cut;
 use planner_rules::Frame;
+use planner_rules::PageSide;
 use planner_rules::RUN_NUMBERS;
 use planner_rules::RunEnd;
 use planner_rules::Tally;
 use planner_rules::Title;
 ghost use mathlib.Core.Path.{_≡_};
+ghost use mathlib.Core.Bool.{false};
 ghost use mathlib.Core.List.{[], _∷_, _++_};
 ghost use Prim.Native.Nat.{_+_, _≤_, _<_};
 ghost use lib.ListN.{length, take, drop};
-ghost use Rattle.planner_rules.specs.Slots.{Rising, Slots, below, written};
-ghost use Rattle.planner_rules.specs.Runs.{resumed, resumption, taken, merged, runEnd, runs, firstMarked, placed, nextCut, stretch, axisRuns, axisTally};
-ghost use Rattle.planner_rules.specs.Lent.{Room, Written, RoomAt, WrittenAt, counted, flat};
-ghost use Rattle.planner_rules.specs.Pages.{orEmpty};
+ghost use Rattle.planner_rules.specs.Slots.{Small, Rising, Slots, sum, below, written};
+ghost use Rattle.planner_rules.specs.Runs.{filled, resumed, resumption, taken, merged, ends, runEnd, runs, expansions, firstMarked};
+ghost use Rattle.planner_rules.specs.Runs.{placed, nextCut, stretch, axisRuns, axisTally};
+ghost use Rattle.planner_rules.specs.Lent.{Room, Written, RoomAt, WrittenAt, flat};
+ghost use Rattle.planner_rules.specs.Scale.{spaceOf, Low};
+ghost use Rattle.planner_rules.specs.Pages.{orEmpty, overflowing};
+
+// Where a run ends: how many slots it has, 1 where a merge took it further, and its size.
+pub(crate) struct Reach {
+    pub slots: usize,
+    pub grown: u64,
+    pub size: u64,
+}
+
+// How many runs a stretch has, and how many of them a merge took further and exceed their page.
+struct Counted {
+    runs: usize,
+    grown: u64,
+    overflows: u64,
+}
+
+// What an axis comes to, and how many of its runs exceed their page.
+pub(crate) struct AxisCount {
+    pub tally: Tally,
+    pub overflows: u64,
+}
 
 // How many slots are taken on from a boundary that the title holds.
 fn resumed_fill(indexes: &[u32], sizes: &[u64], capacity: u64, last: u32) -> usize
@@ -70,15 +96,13 @@ fn title_end(title: Title, capacity: u64, indexes: &[u32], sizes: &[u64], n: usi
     n
 }
 
-// How many slots filling and the title give a run.
-fn taken_slots(k: Frame, indexes: &[u32], sizes: &[u64]) -> usize
+// How many slots a run has after the title's resumption, where filling gave n.
+fn taken_slots(k: Frame, indexes: &[u32], sizes: &[u64], n: usize) -> usize
     requires { ⌜ Slots (now indexes) (now sizes) ⌝ }
-    requires { ⌜ 0 < length (now sizes) ⌝ }
+    requires { ⌜ (n ≡ filled k (now indexes) (now sizes)) × (n ≤ length (now sizes)) ⌝ }
     ensures { λ r. ⌜ r ≡ taken k (now (indexes .entry)) (now (sizes .entry)) ⌝ }
-    ensures { λ r. ⌜ (1 ≤ r) × (r ≤ length (now (sizes .entry))) ⌝ }
+    ensures { λ r. ⌜ (n ≤ r) × (r ≤ length (now (sizes .entry))) ⌝ }
 {
-    let capacity = capacity_for(k, indexes[0]);
-    let n = natural_fill(sizes, capacity);
     if n >= indexes.len() {
         return n;
     }
@@ -98,44 +122,86 @@ fn merged_end(indexes: &[u32], n: usize, firsts: &[u32], lasts: &[u32], lo: u32,
     merge_step(indexes, n, held)
 }
 
-// Where a run that starts at the head of the slots ends.
+// The size of the first n slots, which are often as many as filling took.
+fn size_of(sizes: &[u64], n: usize, filling: Filling) -> u64
+    requires { ⌜ Small (now sizes) ⌝ }
+    requires { ⌜ (n ≤ length (now sizes)) × (filling .sum ≡ sum (take (filling .slots) (now sizes))) ⌝ }
+    ensures { λ r. ⌜ r ≡ sum (take n (now (sizes .entry))) ⌝ }
+{
+    if n == filling.slots {
+        return filling.sum;
+    }
+    total(&sizes[..n])
+}
+
+// Where a run that starts at the head of the slots ends, and its size.
 pub(crate) fn run_end(
     k: Frame,
     firsts: &[u32],
     lasts: &[u32],
     indexes: &[u32],
     sizes: &[u64],
-) -> RunEnd
+) -> Reach
     requires { ⌜ Slots (now indexes) (now sizes) ⌝ }
     requires { ⌜ 0 < length (now sizes) ⌝ }
-    ensures { λ r. ⌜ r ≡ runEnd k (now (firsts .entry)) (now (lasts .entry)) (now (indexes .entry)) (now (sizes .entry)) ⌝ }
+    ensures { λ r. ⌜
+        (ends (r .slots) (r .grown) ≡ runEnd k (now (firsts .entry)) (now (lasts .entry)) (now (indexes .entry)) (now (sizes .entry)))
+        × (r .size ≡ sum (take (r .slots) (now (sizes .entry))))
+        ⌝ }
     ensures { λ r. ⌜ (1 ≤ r .slots) × (r .slots ≤ length (now (sizes .entry))) × (r .grown ≤ 1) ⌝ }
 {
-    let n = taken_slots(k, indexes, sizes);
+    let capacity = capacity_for(k, indexes[0]);
+    let filling = natural_fill(sizes, capacity);
+    let n = taken_slots(k, indexes, sizes, filling.slots);
     let lo = k.lo;
     let hi = k.hi;
-    merged_end(indexes, n, firsts, lasts, lo, hi)
+    let end = merged_end(indexes, n, firsts, lasts, lo, hi);
+    let slots = end.slots;
+    Reach {
+        slots,
+        grown: end.grown,
+        size: size_of(sizes, slots, filling),
+    }
 }
 
-// Counts the runs of a stretch.
-fn count_runs(k: Frame, mfirsts: &[u32], mlasts: &[u32], indexes: &[u32], sizes: &[u64]) -> Counted
+// Counts the runs of a stretch, and how many of them exceed their page at a permille.
+fn count_runs(
+    page: PageSide,
+    permille: u16,
+    k: Frame,
+    mfirsts: &[u32],
+    mlasts: &[u32],
+    indexes: &[u32],
+    sizes: &[u64],
+) -> Counted
+    requires { ⌜ Low page ⌝ }
     requires { ⌜ Slots (now indexes) (now sizes) ⌝ }
-    ensures { λ r. ⌜ r ≡ counted (runs k (now (mfirsts .entry)) (now (mlasts .entry)) (now (indexes .entry)) (now (sizes .entry))) ⌝ }
-    ensures { λ r. ⌜ (r .runs ≤ length (now (sizes .entry))) × (r .grown ≤ length (now (sizes .entry))) ⌝ }
+    ensures { λ r. ⌜
+        (let rs = runs k (now (mfirsts .entry)) (now (mlasts .entry)) (now (indexes .entry)) (now (sizes .entry)) in
+        (r .runs ≡ length rs) × (r .grown ≡ expansions rs) × (r .overflows ≡ overflowing (spaceOf page) (k .title) permille false rs))
+        ⌝ }
+    ensures { λ r. ⌜ (let n = length (now (sizes .entry)) in (r .runs ≤ n) × (r .grown ≤ n) × (r .overflows ≤ n)) ⌝ }
 {
+    let title = k.title;
     let mut is = indexes;
     let mut ss = sizes;
     let mut count = 0;
     let mut grown = 0;
+    let mut overflows = 0;
     while ss.len() > 0 {
         let end = run_end(k, mfirsts, mlasts, is, ss);
         let n = end.slots;
+        overflows += excess(run_fits(page, title, permille, is[0], end.size));
         is = &is[n..];
         ss = &ss[n..];
         count += 1;
         grown += end.grown;
     }
-    Counted { runs: count, grown }
+    Counted {
+        runs: count,
+        grown,
+        overflows,
+    }
 }
 
 // Writes the numbers of a run to a lent list, from `at` on, and returns the place after them.
@@ -185,8 +251,7 @@ fn write_runs(
     while ss.len() > 0 {
         let end = run_end(k, mfirsts, mlasts, is, ss);
         let n = end.slots;
-        let t = total(&ss[..n]);
-        at = put_run(list, at, is[0], is[n - 1], t, manual);
+        at = put_run(list, at, is[0], is[n - 1], end.size, manual);
         manual = 0;
         is = &is[n..];
         ss = &ss[n..];
@@ -281,40 +346,75 @@ fn next_cut(k: Frame, mfirsts: &[u32], mlasts: &[u32], indexes: &[u32], prev: us
     }
 }
 
-// Counts the runs of an axis.
+// Counts the runs of an axis, and how many of them exceed their page at a permille.
 pub(crate) fn count_axis(
+    page: PageSide,
+    permille: u16,
     k: Frame,
     mfirsts: &[u32],
     mlasts: &[u32],
     breaks: &[u32],
     indexes: &[u32],
     sizes: &[u64],
-) -> Tally
+) -> AxisCount
+    requires { ⌜ Low page ⌝ }
     requires { ⌜ Slots (now indexes) (now sizes) ⌝ }
-    ensures { λ r. ⌜ r ≡ axisTally k (now (mfirsts .entry)) (now (mlasts .entry)) (now (indexes .entry)) (now (sizes .entry)) (now (breaks .entry)) ⌝ }
-    ensures { λ r. ⌜ (r .runs ≤ length (now (sizes .entry))) × (r .expansions ≤ length (now (sizes .entry))) × (r .shifts ≤ length (now (breaks .entry))) ⌝ }
+    ensures { λ r. ⌜
+        (let firsts = now (mfirsts .entry) in
+        let lasts = now (mlasts .entry) in
+        let is = now (indexes .entry) in
+        let ss = now (sizes .entry) in
+        let bs = now (breaks .entry) in
+        (r .tally ≡ axisTally k firsts lasts is ss bs)
+        × (r .overflows ≡ overflowing (spaceOf page) (k .title) permille false (axisRuns k firsts lasts is ss 0 bs)))
+        ⌝ }
+    ensures { λ r. ⌜
+        (let n = length (now (sizes .entry)) in
+        (r .tally .runs ≤ n) × (r .tally .expansions ≤ n) × (r .tally .shifts ≤ length (now (breaks .entry))) × (r .overflows ≤ n))
+        ⌝ }
 {
     let end = sizes.len();
     let mut prev = 0;
     let mut count = 0;
     let mut grown = 0;
+    let mut overflows = 0;
     let mut shifts = 0;
     let mut j = 0;
     while j < breaks.len() {
         let cut = next_cut(k, mfirsts, mlasts, indexes, prev, breaks[j]);
         let next = cut.place;
-        let t = count_runs(k, mfirsts, mlasts, &indexes[prev..next], &sizes[prev..next]);
+        let t = count_runs(
+            page,
+            permille,
+            k,
+            mfirsts,
+            mlasts,
+            &indexes[prev..next],
+            &sizes[prev..next],
+        );
         count += t.runs;
         grown += t.grown;
+        overflows += t.overflows;
         shifts += cut.shifted;
         prev = next;
         j += 1;
     }
-    let t = count_runs(k, mfirsts, mlasts, &indexes[prev..end], &sizes[prev..end]);
-    Tally {
-        runs: count + t.runs,
-        expansions: grown + t.grown,
-        shifts,
+    let t = count_runs(
+        page,
+        permille,
+        k,
+        mfirsts,
+        mlasts,
+        &indexes[prev..end],
+        &sizes[prev..end],
+    );
+    AxisCount {
+        tally: Tally {
+            runs: count + t.runs,
+            expansions: grown + t.grown,
+            shifts,
+        },
+        overflows: overflows + t.overflows,
     }
 }
 

@@ -1,7 +1,5 @@
 // How large a worksheet is printed: document 01, section "Scale".
-use crate::filling::total;
 use crate::runs::run_end;
-use planner_compare::wide;
 use planner_rules::ChosenScale;
 use planner_rules::Fit;
 use planner_rules::Frame;
@@ -12,7 +10,7 @@ use planner_setup::middle_of;
 use units::Fixed;
 use units::Length;
 ghost use mathlib.Core.Path.{_≡_};
-ghost use mathlib.Core.Bool.{_&&_};
+ghost use mathlib.Core.Bool.{false, cond, _&&_};
 ghost use Prim.Native.Nat.{_+_, _≤_, _^_};
 ghost use lib.IntN.{pos};
 ghost use lib.ListN.{length};
@@ -53,7 +51,7 @@ fn capacity_at(page: PageSide, permille: u16, titles: u64) -> u64
 }
 
 // Whether a size, scaled and rounded, is at most the side.
-pub(crate) fn fits_side(page: PageSide, permille: u16, size: u64) -> bool
+fn fits_side(page: PageSide, permille: u16, size: u64) -> bool
     requires { ⌜ size ≤ 2 ^ 53 ⌝ }
     ensures { λ r. ⌜ r ≡ fitsSide (spaceOf page) permille size ⌝ }
 {
@@ -64,23 +62,46 @@ pub(crate) fn fits_side(page: PageSide, permille: u16, size: u64) -> bool
     }
 }
 
-// What a run takes of a page: its size and the headings, and the titles where it lies past the title or its body is empty.
-pub(crate) fn printed(page: PageSide, title: Title, empty: bool, first: u64, size: u64) -> u64
+// What a run takes of a page: its size and the headings, and the titles where it lies past the title.
+fn printed(page: PageSide, title: Title, first: u32, size: u64) -> u64
     requires { ⌜ Low page ⌝ }
     requires { ⌜ size ≤ 2 ^ 50 ⌝ }
-    ensures { λ r. ⌜ r ≡ section.printed (spaceOf page) title empty first size ⌝ }
+    ensures { λ r. ⌜ r ≡ section.printed (spaceOf page) title false first size ⌝ }
     ensures { λ r. ⌜ r ≤ 2 ^ 53 ⌝ }
 {
-    if empty {
-        return size + page.titles + page.headings;
-    }
     let Title::Pair(_, last) = title else {
         return size + page.headings;
     };
-    if first > wide(last) {
+    if first > last {
         return size + page.titles + page.headings;
     }
     size + page.headings
+}
+
+// Whether a run that has slots is at most the side.
+pub(crate) fn run_fits(page: PageSide, title: Title, permille: u16, first: u32, size: u64) -> bool
+    requires { ⌜ Low page ⌝ }
+    requires { ⌜ size ≤ 2 ^ 50 ⌝ }
+    ensures { λ r. ⌜ r ≡ fitsSide (spaceOf page) permille (section.printed (spaceOf page) title false first size) ⌝ }
+{
+    let whole = printed(page, title, first, size);
+    fits_side(page, permille, whole)
+}
+
+// Whether the run of an axis without slots is: titles plus headings.
+pub(crate) fn empty_fits(page: PageSide, permille: u16) -> bool
+    requires { ⌜ Low page ⌝ }
+    ensures { λ r. ⌜ r ≡ fitsSide (spaceOf page) permille (page .titles + page .headings) ⌝ }
+{
+    fits_side(page, permille, page.titles + page.headings)
+}
+
+// How many runs one that fits, or does not, adds to those that overflow.
+pub(crate) fn excess(fits: bool) -> u64
+    ensures { λ r. ⌜ r ≡ cond fits 0 1 ⌝ }
+    ensures { λ r. ⌜ r ≤ 1 ⌝ }
+{
+    if fits { 0 } else { 1 }
 }
 
 // What the runs of an axis go by at a permille.
@@ -129,9 +150,7 @@ fn runs_pass(
         }
         let end = run_end(frame, mfirsts, mlasts, is, ss);
         let n = end.slots;
-        let t = total(&ss[..n]);
-        let whole = printed(page, title, false, wide(is[0]), t);
-        if !fits_side(page, permille, whole) {
+        if !run_fits(page, title, permille, is[0], end.size) {
             return false;
         }
         is = &is[n..];
@@ -154,7 +173,7 @@ fn fit_passes(
 {
     let page = fit.page;
     if sizes.len() == 0 {
-        return fits_side(page, permille, page.titles + page.headings);
+        return empty_fits(page, permille);
     }
     let frame = frame_at(fit, permille);
     runs_pass(

@@ -108,9 +108,9 @@ pub fn mark_of(cut: usize) -> u64
     if cut > 0 { 1 } else { 0 }
 }
 
-// The final cut of an axis, of what was counted: an axis without runs gets one.
-pub fn final_cut(tally: Tally) -> FinalCut
-    ensures { λ r. ⌜ r ≡ cutFrom tally ⌝ }
+// The final cut of an axis, of what was counted and so many overflowing runs: an axis without runs gets one.
+pub fn final_cut(tally: Tally, overflows: u64) -> FinalCut
+    ensures { λ r. ⌜ r ≡ cutFrom tally overflows ⌝ }
 {
     let empty = tally.runs == 0;
     FinalCut {
@@ -118,5 +118,6 @@ pub fn final_cut(tally: Tally) -> FinalCut
         empty,
         expansions: tally.expansions,
         shifts: tally.shifts,
+        overflows,
     }
 }

@@ -1,27 +1,36 @@
 -- `planner::filling::fill_by_eight` meets its contract. The loop's invariant: what is taken, and what the definition still takes from here, is the
 -- whole. Assumes nothing.
-use Rattle.planner_rules.proofs.Laws.{more-part, natural-start, length-mid, small-mid}
-use lib.ListN.{length, drop}
+use Rattle.planner_rules.proofs.Laws.{more-part, natural-start, sum-one, sum-many, length-mid, small-mid}
+use lib.ListN.{length, take, drop}
 use Prim.Native.Nat.{_+_, _*_, _-_, _≤_}
 use mathlib.Core.Path.{_≡_, _∙_}
 use borrow.Author.Needs.{needs}
 use native.Mathlib.Omega.{arith}
 use Rattle.planner.proofs.filling.fill_by_eight.Statement.{statement}
 use Rattle.planner.proofs.filling.fill_by_eight.Tie as tie
+use Rattle.planner_rules.specs.Slots.{sum}
 use Rattle.planner_rules.specs.Runs.{more, natural}
 
 abbrev Inv-loop : tie.InvT-loop
-Inv-loop sizes capacity sum₀ n₀ sum n =
-    (1 ≤ n) × (n ≤ length sizes) × (sum ≤ 1073741824 * n) × (n + more capacity sum (drop n sizes) ≡ natural capacity sizes)
+Inv-loop sizes capacity t₀ n₀ t n =
+    (1 ≤ n) × (n ≤ length sizes) × (t ≤ 1073741824 * n) × (n + more capacity t (drop n sizes) ≡ natural capacity sizes) × (t ≡ sum (take n sizes))
 
 abbrev μ-loop : tie.MeasureT-loop
-μ-loop sizes capacity sum₀ n₀ sum n = length sizes - n
+μ-loop sizes capacity t₀ n₀ t n = length sizes - n
 
 shared-slice-read-sum : tie.Need-shared-slice-read-sum Inv-loop μ-loop
 shared-slice-read-sum c = search needs
 
 loop-holds : tie.Need-loop-holds Inv-loop μ-loop
-loop-holds c = (search needs, search needs, omega (arith, c .before .before .pre .0 .each 0), natural-start _ _ (c .before .before .pre .1))
+unfolding sum
+loop-holds c =
+    let s : tie.Start Inv-loop μ-loop = search in (
+      search needs,
+      search needs,
+      omega (arith, s .pre .0 .each 0),
+      natural-start _ _ (s .pre .1),
+      omega (arith, sum-one 0 (s .args .sizes .now) (s .pre .1)),
+    )
 
 sub-loop : tie.Need-sub-loop Inv-loop μ-loop
 sub-loop c = search needs
@@ -58,7 +67,7 @@ add-next c =
 returns : tie.Need-returns Inv-loop μ-loop
 returns c =
     let at-loop : tie.At-loop Inv-loop μ-loop = search in
-    let l = at-loop .loop in (l .inv .3, (l .inv .0, l .inv .1, l .inv .2))
+    let l = at-loop .loop in (l .inv .3, (l .inv .4, (l .inv .0, l .inv .1, l .inv .2)))
 
 add-n : tie.Need-add-n Inv-loop μ-loop
 add-n c = search needs
@@ -76,10 +85,11 @@ loop-again c =
       omega arith,
       omega (arith, e .1),
       rw (e .0) (omega (arith, more-part (s .args .capacity) (l .sum) 8 (l .n) (s .args .sizes .now) (omega arith) (omega (arith, e .0)))),
+      omega (arith, l .inv .4, e .0, sum-many (l .n) 8 (s .args .sizes .now)),
     )
 
 returns-2 : tie.Need-returns-2 Inv-loop μ-loop
-returns-2 c = let l = c .before .loop in (l .inv .3, (l .inv .0, l .inv .1, l .inv .2))
+returns-2 c = let l = c .before .loop in (l .inv .3, (l .inv .4, (l .inv .0, l .inv .1, l .inv .2)))
 
 pub fill-by-eight-spec : {M : Type 1} → statement M
 fill-by-eight-spec =

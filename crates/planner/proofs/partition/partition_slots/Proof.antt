@@ -34,9 +34,9 @@ start d = search
 abbrev counting : tie.After-room-in → tie.After-count-axis
 counting d = search
 
-counted : (d : tie.After-room-in) → counting d .count-axis .result .runs ≡ length (all (start d))
+counted : (d : tie.After-room-in) → counting d .count-axis .result .tally .runs ≡ length (all (start d))
 unfolding axisTally
-counted d = ap (λ (t : Tally). t .runs) (counting d .count-axis .ensures .0)
+counted d = ap (λ (t : Tally). t .runs) (counting d .count-axis .ensures .0 .0)
 
 abbrev asked : tie.Else1 → tie.After-room-in
 asked e = search
@@ -73,9 +73,9 @@ returns-2 c =
     let s = start (asked e) in
     let n = counting (asked e) .count-axis in
     let l = s .args .list .now in
-    let r : roomFor (all s) (tally s) (roomIn l) ≡ given (n .result) =
-    room-enough (all s) (tally s) (roomIn l) (fits e) ∙ ap (λ (x : Tally). given x) (sym (n .ensures .0)) in
-    answers _ (all s) (n .result) _ l _ r (w .write-axis .ensures)
+    let r : roomFor (all s) (tally s) (roomIn l) ≡ given (n .result .tally) =
+    room-enough (all s) (tally s) (roomIn l) (fits e) ∙ ap (λ (x : Tally). given x) (sym (n .ensures .0 .0)) in
+    answers _ (all s) (n .result .tally) _ l _ r (w .write-axis .ensures)
 
 pub partition-slots-spec : {M : Type 1} → statement M
 partition-slots-spec =

@@ -1,31 +1,36 @@
 -- `planner::runs::count_axis` meets its contract. The loop's invariant: what is counted, and what the axis has from the last kept cut on, is all.
 -- Assumes nothing.
 use mathlib.Core.Path.{_≡_, sym, ap, _∙_}
+use mathlib.Core.Bool.{false}
 use mathlib.Core.List.{List, _++_}
 use Prim.Native.Nat.{ℕ, _+_, _-_, _≤_}
 use native.Mathlib.Omega.{arith}
 use lib.ListN.{length, drop, length-append}
-use Rattle.planner_rules.specs.declared.runs.Counted.{Counted}
 use Rattle.planner_rules.specs.Runs.{Run, axisRuns, shifts, stretch, axisTally, tallies, runs, expansions}
 use Rattle.planner_rules.specs.Slots.{mid}
-use Rattle.planner_rules.specs.Lent.{counted}
+use Rattle.planner_rules.specs.Scale.{spaceOf}
+use Rattle.planner_rules.specs.Pages.{overflowing}
 use Rattle.planner_rules.proofs.AxisLaws.{stretch-length, stretch-expansions, axis-more, axis-end, shifts-more, shifts-end, expansions-append}
+use Rattle.planner_rules.proofs.OverflowLaws.{stretch-overflowing, overflowing-append}
 use Rattle.planner_rules.proofs.Laws.{length-mid, slots-mid}
 use borrow.Author.Needs.{needs}
 use Rattle.planner.proofs.runs.count_axis.Statement.{statement}
 use Rattle.planner.proofs.runs.count_axis.Tie as tie
 
 abbrev Inv-loop : tie.InvT-loop
-Inv-loop k mfirsts mlasts breaks indexes sizes end₀ prev₀ count₀ grown₀ shifted₀ j₀ prev count grown shifted j =
-    (j ≤ length breaks) × (prev ≤ length sizes) × (count ≤ prev) × (grown ≤ prev) × (shifted ≤ j)
+Inv-loop page permille k mfirsts mlasts breaks indexes sizes end prev₀ count₀ grown₀ overflows₀ shifted₀ j₀ prev count grown overflows shifted j =
+    (j ≤ length breaks) × (prev ≤ length sizes) × (count ≤ prev) × (grown ≤ prev) × (overflows ≤ prev) × (shifted ≤ j)
     × (count + length (axisRuns k mfirsts mlasts indexes sizes prev (drop j breaks)) ≡ length (axisRuns k mfirsts mlasts indexes sizes 0 breaks))
     × (grown + expansions (axisRuns k mfirsts mlasts indexes sizes prev (drop j breaks)) ≡ expansions (axisRuns k mfirsts mlasts indexes sizes 0 breaks))
+    × (overflows + overflowing (spaceOf page) (k .title) permille false (axisRuns k mfirsts mlasts indexes sizes prev (drop j breaks)) ≡ overflowing
+    (spaceOf page) (k .title) permille false (axisRuns k mfirsts mlasts indexes sizes 0 breaks))
     × (shifted + shifts k mfirsts mlasts indexes prev (drop j breaks) ≡ shifts k mfirsts mlasts indexes 0 breaks)
 
 abbrev μ-loop : tie.MeasureT-loop
-μ-loop k mfirsts mlasts breaks indexes sizes end₀ prev₀ count₀ grown₀ shifted₀ j₀ prev count grown shifted j = length breaks - j
+μ-loop page permille k mfirsts mlasts breaks indexes sizes end prev₀ count₀ grown₀ overflows₀ shifted₀ j₀ prev count grown overflows shifted j =
+    length breaks - j
 
--- the runs from a cut on and their shifts, and the runs between two cuts, as they were counted
+-- the runs from a cut on and their shifts, the runs between two cuts, and how many of some exceed their page, as they were counted
 abbrev from : tie.Start Inv-loop μ-loop → ℕ → List ℕ → List Run
 from s = let a = s .args in axisRuns (a .k) (a .mfirsts .now) (a .mlasts .now) (a .indexes .now) (a .sizes .now)
 
@@ -35,12 +40,20 @@ shifts-from s = let a = s .args in shifts (a .k) (a .mfirsts .now) (a .mlasts .n
 abbrev between : tie.Start Inv-loop μ-loop → ℕ → ℕ → List Run
 between s = let a = s .args in stretch (a .k) (a .mfirsts .now) (a .mlasts .now) (a .indexes .now) (a .sizes .now)
 
-runs-between : (s : tie.Start Inv-loop μ-loop) (b e : ℕ) (t : Counted) →
+abbrev exceeding : tie.Start Inv-loop μ-loop → List Run → ℕ
+exceeding s = let a = s .args in overflowing (spaceOf (a .page)) (a .k .title) (a .permille) false
+
+runs-between : (s : tie.Start Inv-loop μ-loop) (b e n g o : ℕ) →
     let a = s .args in
-    t ≡ counted (runs (a .k) (a .mfirsts .now) (a .mlasts .now) (mid b e (a .indexes .now)) (mid b e (a .sizes .now)))
-    → (t .runs ≡ length (between s b e)) × (t .grown ≡ expansions (between s b e))
-runs-between s b e t h =
-    (ap (λ (r : Counted). r .runs) h ∙ sym (stretch-length _ _ _ _ _ b e), ap (λ (r : Counted). r .grown) h ∙ sym (stretch-expansions _ _ _ _ _ b e))
+    let rs = runs (a .k) (a .mfirsts .now) (a .mlasts .now) (mid b e (a .indexes .now)) (mid b e (a .sizes .now)) in
+    (n ≡ length rs) × (g ≡ expansions rs) × (o ≡ exceeding s rs)
+    → (n ≡ length (between s b e)) × (g ≡ expansions (between s b e)) × (o ≡ exceeding s (between s b e))
+runs-between s b e n g o h =
+    let a = s .args in (
+      h .0 ∙ sym (stretch-length _ _ _ _ _ b e),
+      h .1 ∙ sym (stretch-expansions _ _ _ _ _ b e),
+      h .2 ∙ sym (stretch-overflowing (spaceOf (a .page)) (a .k .title) (a .permille) _ _ _ _ _ b e false),
+    )
 
 -- once the next cut is known: it lies within, and what is left begins with the stretch up to it
 abbrev start : tie.After-next-cut Inv-loop μ-loop → tie.Start Inv-loop μ-loop
@@ -50,7 +63,7 @@ abbrev turn : tie.After-next-cut Inv-loop μ-loop → tie.In-loop Inv-loop μ-lo
 turn d = search
 
 cut-in : (d : tie.After-next-cut Inv-loop μ-loop) → d .next-cut .result .place ≤ length (start d .args .sizes .now)
-cut-in d = omega (arith, d .next-cut .ensures .1 .1, start d .pre .even)
+cut-in d = omega (arith, d .next-cut .ensures .1 .1, start d .pre .1 .even)
 
 turning : (d : tie.After-next-cut Inv-loop μ-loop) →
     let s = start d in
@@ -87,7 +100,7 @@ shared-slice-read-next-cut c = search needs
 next-cut-requires : tie.Need-next-cut-requires Inv-loop μ-loop
 next-cut-requires c κs =
     let s : tie.Start Inv-loop μ-loop = search in
-    (s .pre .rising, omega (arith, s .pre .even))
+    (s .pre .1 .rising, omega (arith, s .pre .1 .even))
 
 mul-count-runs : tie.Need-mul-count-runs Inv-loop μ-loop
 mul-count-runs c = search needs
@@ -116,7 +129,7 @@ part-count-runs-end-2 c = search needs
 count-runs-requires : tie.Need-count-runs-requires Inv-loop μ-loop
 count-runs-requires c κs =
     let d : tie.After-next-cut Inv-loop μ-loop = search in
-    slots-mid (turn d .before .loop .prev) _ _ _ (cut-in d) (start d .pre)
+    (start d .pre .0, slots-mid (turn d .before .loop .prev) _ _ _ (cut-in d) (start d .pre .1))
 
 add-count : tie.Need-add-count Inv-loop μ-loop
 add-count c = search needs
@@ -124,10 +137,13 @@ add-count c = search needs
 add-grown : tie.Need-add-grown Inv-loop μ-loop
 add-grown c = search needs
 
+add-overflows : tie.Need-add-overflows Inv-loop μ-loop
+add-overflows c = search needs
+
 add-shifts : tie.Need-add-shifts Inv-loop μ-loop
 add-shifts c =
     let d : tie.After-next-cut Inv-loop μ-loop = search in
-    omega (arith, d .next-cut .ensures .1 .2, turn d .before .loop .inv .4, turn d .loop-test .taken, start d .good)
+    omega (arith, d .next-cut .ensures .1 .2, turn d .before .loop .inv .5, turn d .loop-test .taken, start d .good)
 
 add-j : tie.Need-add-j Inv-loop μ-loop
 add-j c =
@@ -142,11 +158,12 @@ loop-again c =
     let d : tie.After-next-cut Inv-loop μ-loop = search in
     let w : tie.After-count-runs Inv-loop μ-loop = search in
     let s = start d in
+    let a = s .args in
     let l = turn d .before .loop in
     let t = w .count-runs in
     let cut = d .next-cut in
     let p = cut .result .place in
-    let counts = runs-between s (l .prev) p _ (t .ensures .0) in
+    let counts = runs-between s (l .prev) p _ _ _ (t .ensures .0) in
     let here = between s (l .prev) p in
     let there = from s p (drop (l .j + 1) (s .args .breaks .now)) in
     let len = length-mid (l .prev) p (s .args .sizes .now) (cut-in d) in (
@@ -154,10 +171,12 @@ loop-again c =
       cut-in d,
       omega (arith, t .ensures .1 .0, len, cut .ensures .1 .0, l .inv .2),
       omega (arith, t .ensures .1 .1, len, cut .ensures .1 .0, l .inv .3),
-      omega (arith, cut .ensures .1 .2, l .inv .4),
-      omega (arith, ap length (turning d .0), length-append here there, counts .0, l .inv .5),
-      omega (arith, ap expansions (turning d .0), expansions-append here there, counts .1, l .inv .6),
-      omega (arith, turning d .1, l .inv .7),
+      omega (arith, t .ensures .1 .2, len, cut .ensures .1 .0, l .inv .4),
+      omega (arith, cut .ensures .1 .2, l .inv .5),
+      omega (arith, ap length (turning d .0), length-append here there, counts .0, l .inv .6),
+      omega (arith, ap expansions (turning d .0), expansions-append here there, counts .1, l .inv .7),
+      omega (arith, ap (exceeding s) (turning d .0), overflowing-append (spaceOf (a .page)) (a .k .title) (a .permille) false here there, counts .2, l .inv .8),
+      omega (arith, turning d .1, l .inv .9),
     )
 
 mul-count-runs-3 : tie.Need-mul-count-runs-3 Inv-loop μ-loop
@@ -188,32 +207,39 @@ count-runs-requires-2 : tie.Need-count-runs-requires-2 Inv-loop μ-loop
 count-runs-requires-2 c κs =
     let s : tie.Start Inv-loop μ-loop = search in
     let l : tie.At-loop Inv-loop μ-loop = search in
-    slots-mid (l .loop .prev) (length (s .args .sizes .now)) _ _ (omega arith) (s .pre)
+    (s .pre .0, slots-mid (l .loop .prev) (length (s .args .sizes .now)) _ _ (omega arith) (s .pre .1))
 
-add-t30 : tie.Need-add-t30 Inv-loop μ-loop
-add-t30 c = search needs
+add-t33 : tie.Need-add-t33 Inv-loop μ-loop
+add-t33 c = search needs
 
-add-t40 : tie.Need-add-t40 Inv-loop μ-loop
-add-t40 c = search needs
+add-t43 : tie.Need-add-t43 Inv-loop μ-loop
+add-t43 c = search needs
+
+add-t45 : tie.Need-add-t45 Inv-loop μ-loop
+add-t45 c = search needs
 
 returns : tie.Need-returns Inv-loop μ-loop
 unfolding axisTally
 returns c =
     let e : tie.After-loop Inv-loop μ-loop = search in
+    let w : tie.After-count-runs2 Inv-loop μ-loop = search in
     let s = begun e in
-    let t = c .before .before .count-runs2 in
+    let t = w .count-runs2 in
     let l = e .before .loop in
     let a = s .args in
-    let counts = runs-between s (l .prev) (length (a .sizes .now)) _ (t .ensures .0) in
+    let counts = runs-between s (l .prev) (length (a .sizes .now)) _ _ _ (t .ensures .0) in
     let len = length-mid (l .prev) (length (a .sizes .now)) (a .sizes .now) (omega arith) in
-    let n : l .count + t .result .runs ≡ length (from s 0 (a .breaks .now)) = omega (arith, ap length (ending e .0), counts .0, l .inv .5) in
-    let g : l .grown + t .result .grown ≡ expansions (from s 0 (a .breaks .now)) = omega (arith, ap expansions (ending e .0), counts .1, l .inv .6) in
-    let m : l .shifts ≡ shifts-from s 0 (a .breaks .now) = omega (arith, ending e .1, l .inv .7) in (
-      (λ i. tallies (n i) (g i) (m i)),
+    let n : l .count + t .result .runs ≡ length (from s 0 (a .breaks .now)) = omega (arith, ap length (ending e .0), counts .0, l .inv .6) in
+    let g : l .grown + t .result .grown ≡ expansions (from s 0 (a .breaks .now)) = omega (arith, ap expansions (ending e .0), counts .1, l .inv .7) in
+    let o : l .overflows + t .result .overflows ≡ exceeding s (from s 0 (a .breaks .now)) =
+    omega (arith, ap (exceeding s) (ending e .0), counts .2, l .inv .8) in
+    let m : l .shifts ≡ shifts-from s 0 (a .breaks .now) = omega (arith, ending e .1, l .inv .9) in (
+      ((λ i. tallies (n i) (g i) (m i)), o),
       (
         omega (arith, l .inv .2, l .inv .1, t .ensures .1 .0, len),
         omega (arith, l .inv .3, l .inv .1, t .ensures .1 .1, len),
-        omega (arith, l .inv .4, l .inv .0),
+        omega (arith, l .inv .5, l .inv .0),
+        omega (arith, l .inv .4, l .inv .1, t .ensures .1 .2, len),
       ),
     )
 
@@ -238,6 +264,7 @@ count-axis-spec =
     count-runs-requires
     add-count
     add-grown
+    add-overflows
     add-shifts
     add-j
     loop-less
@@ -251,6 +278,7 @@ count-axis-spec =
     part-count-runs-start-4
     part-count-runs-end-4
     count-runs-requires-2
-    add-t30
-    add-t40
+    add-t33
+    add-t43
+    add-t45
     returns)

@@ -1,14 +1,13 @@
 -- `planner::runs::write_runs` meets its contract. The loop's invariant: what is written, and the runs of the slots that are left, are all.
 -- Assumes nothing.
-use mathlib.Core.Path.{refl, sym, ap, subst, _∙_}
+use mathlib.Core.Path.{refl, ap, subst, _∙_}
 use mathlib.Core.List.{List}
 use Prim.Native.Nat.{ℕ, _+_, _-_, _≤_}
 use lib.ListN.{length, getD, take}
-use lib.Seq.{length-take-le}
 use Rattle.planner_rules.specs.declared.runs.RunEnd.{RunEnd}
 use Rattle.planner_rules.specs.Slots.{Slots, sum}
 use Rattle.planner_rules.specs.Runs.{Run, run, runs, firstMarked, withMark}
-use Rattle.planner_rules.proofs.Laws.{part, slots-part, small-take}
+use Rattle.planner_rules.proofs.Laws.{part, slots-part}
 use Rattle.planner_rules.proofs.Lent.{Writing, writing-start, writing-one, writing-done, flat-length}
 use Rattle.planner_rules.proofs.AxisLaws.{turn-marked, none-marked, some-marked}
 use borrow.Author.Needs.{needs}
@@ -34,9 +33,6 @@ turn put = search
 abbrev ended : tie.After-put-run Inv-loop μ-loop → tie.After-run-end Inv-loop μ-loop
 ended put = search
 
-abbrev summed : tie.After-put-run Inv-loop μ-loop → tie.After-total Inv-loop μ-loop
-summed put = search
-
 -- in a turn there is room for one more run
 room : (c : tie.In-loop Inv-loop μ-loop) → let l = c .before .loop in l .at + 4 ≤ length (l .list)
 room c =
@@ -60,14 +56,6 @@ loop-holds c =
 
 run-end-requires : tie.Need-run-end-requires Inv-loop μ-loop
 run-end-requires c κs = search needs
-
-slice-aggregate-total : tie.Need-slice-aggregate-total Inv-loop μ-loop
-slice-aggregate-total c = sym (length-take-le _ _ (c .before .run-end .ensures .1 .1))
-
-total-requires : tie.Need-total-requires Inv-loop μ-loop
-total-requires c κs =
-    let at-loop : tie.At-loop Inv-loop μ-loop = search in
-    small-take _ _ (c .before .run-end .ensures .1 .1) (at-loop .loop .inv .0 .small)
 
 shared-slice-read-put-run : tie.Need-shared-slice-read-put-run Inv-loop μ-loop
 shared-slice-read-put-run c = search needs
@@ -122,14 +110,14 @@ loop-again c =
     let a = start put .args in
     let e = ended put .run-end in
     let n = e .result .slots in
-    let slots-are = ap (λ (r : RunEnd). r .slots) (e .ensures .0) in
+    let slots-are = ap (λ (r : RunEnd). r .slots) (e .ensures .0 .0) in
     let is = l .is .now in
     let ss = l .ss .now in
     let whole = firstMarked (a .mark) (runs (a .k) (a .mfirsts .now) (a .mlasts .now) (a .indexes .now) (a .sizes .now)) in
     let left = firstMarked 0 (runs (a .k) (a .mfirsts .now) (a .mlasts .now) (part n is) (part n ss)) in
     let here = withMark (l .manual) (run (a .k) (a .mfirsts .now) (a .mlasts .now) is ss) in
     let last-is = ap (λ (m : ℕ). getD is (m - 1) 0) slots-are in
-    let size-is = summed put .total .ensures ∙ ap (λ (m : ℕ). sum (take m ss)) slots-are in
+    let size-is = e .ensures .0 .1 ∙ ap (λ (m : ℕ). sum (take m ss)) slots-are in
     let more = turn-marked (a .k) (a .mfirsts .now) (a .mlasts .now) (l .manual) n is ss (l .inv .0) (t .loop-test .taken) slots-are (e .ensures .1 .0) in (
       slots-part n is ss (l .inv .0),
       rw (put .put-run .ensures .0)
@@ -156,8 +144,6 @@ write-runs-spec =
     μ-loop
     loop-holds
     run-end-requires
-    slice-aggregate-total
-    total-requires
     shared-slice-read-put-run
     sub-put-run
     mul-put-run

@@ -22,19 +22,16 @@ body s = let a = s .args in bodyFor (a .fit .stretch) (a .mfirsts .now) (a .mlas
 abbrev head : tie.Start → List ℕ → List ℕ → Run
 head s = let a = s .args in run (readyFrame (a .fit) (a .permille)) (a .mfirsts .now) (a .mlasts .now)
 
-add-fits-side : tie.Need-add-fits-side
-add-fits-side c = search needs
-
-fits-side-requires : tie.Need-fits-side-requires
-fits-side-requires c κs = search needs
+empty-fits-requires : tie.Need-empty-fits-requires
+empty-fits-requires c κs = search needs
 
 returns : tie.Need-returns
 unfolding runsAt runs
 returns c =
     let s : tie.Start = search in
     let a = s .args in
-    c .fits-side .ensures ∙ no-runs (spaceOf (a .fit .page)) (body s) (a .fit .target) (a .permille)
-    (none (head s) (a .indexes .now) (a .sizes .now) (omega (arith, c .before .before .if1 .taken)))
+    c .empty-fits .ensures ∙ no-runs (spaceOf (a .fit .page)) (body s) (a .fit .target) (a .permille)
+    (none (head s) (a .indexes .now) (a .sizes .now) (omega (arith, c .before .if1 .taken)))
 
 frame-at-requires : tie.Need-frame-at-requires
 frame-at-requires c κs = search needs
@@ -57,8 +54,7 @@ pub fit-passes-spec : {M : Type 1} → statement M
 fit-passes-spec =
     tie.close
     (tie.spec
-    add-fits-side
-    fits-side-requires
+    empty-fits-requires
     returns
     frame-at-requires
     runs-pass-requires

@@ -6,7 +6,6 @@ use mathlib.Core.List.{List, _∷_}
 use Prim.Native.Nat.{ℕ, _+_, _≤_}
 use native.Mathlib.Omega.{arith}
 use lib.ListN.{length, getD, take}
-use lib.Seq.{length-take-le}
 use borrow.Author.Tests.{not-true, not-false}
 use Rattle.planner_rules.specs.declared.runs.RunEnd.{RunEnd}
 use Rattle.planner_rules.specs.Slots.{Slots, sum}
@@ -63,30 +62,27 @@ whole e =
     let l = turning e .before .loop in
     ap (passing s (l .count))
     (sym (turn (head s) (e .run-end .result .slots) (l .is .now) (l .ss .now) (l .inv .0) (turning e .loop-test .taken)
-    (ap (λ (r : RunEnd). r .slots) (e .run-end .ensures .0))
+    (ap (λ (r : RunEnd). r .slots) (e .run-end .ensures .0 .0))
     (e .run-end .ensures .1 .0))) ∙ l .inv .1
 
 -- what was asked of this turn's run
-abbrev ended : tie.After-fits-side Inv-loop μ-loop → tie.After-run-end Inv-loop μ-loop
+abbrev ended : tie.After-run-fits Inv-loop μ-loop → tie.After-run-end Inv-loop μ-loop
 ended f = search
 
-fits-here : (f : tie.After-fits-side Inv-loop μ-loop) →
+fits-here : (f : tie.After-run-fits Inv-loop μ-loop) →
     let s = start (ended f) in
     let a = s .args in
     let l = turning (ended f) .before .loop in
-    f .fits-side .result ≡ fitsSide (spaceOf (a .page)) (a .permille)
+    f .run-fits .result ≡ fitsSide (spaceOf (a .page)) (a .permille)
     (rendered (spaceOf (a .page)) (titled (a .frame .title)) (head s (l .is .now) (l .ss .now)))
 unfolding run
 fits-here f =
-    let after-total : tie.After-total Inv-loop μ-loop = search in
-    let after-wide : tie.After-wide Inv-loop μ-loop = search in
     let e = ended f in
     let l = turning e .before .loop in
     let a = start e .args in
-    let size-is = after-total .total .ensures ∙ ap (λ (r : RunEnd). sum (take (r .slots) (l .ss .now))) (e .run-end .ensures .0) in
-    f .fits-side .ensures ∙ ap (fitsSide (spaceOf (a .page)) (a .permille))
-    (rw (after-wide .wide .ensures) at (f .before .printed .ensures .0)
-    ∙ ap (printed (spaceOf (a .page)) (a .frame .title) false (getD (l .is .now) 0 0)) size-is)
+    let size-is = e .run-end .ensures .0 .1 ∙ ap (λ (r : RunEnd). sum (take (r .slots) (l .ss .now))) (e .run-end .ensures .0 .0) in
+    f .run-fits .ensures
+    ∙ ap (λ (n : ℕ). fitsSide (spaceOf (a .page)) (a .permille) (printed (spaceOf (a .page)) (a .frame .title) false (getD (l .is .now) 0 0) n)) size-is
 
 loop-holds : tie.Need-loop-holds Inv-loop μ-loop
 loop-holds c =
@@ -113,36 +109,21 @@ returns c =
 run-end-requires : tie.Need-run-end-requires Inv-loop μ-loop
 run-end-requires c κs = search needs
 
-slice-aggregate-total : tie.Need-slice-aggregate-total Inv-loop μ-loop
-slice-aggregate-total c = sym (length-take-le _ _ (c .before .run-end .ensures .1 .1))
+shared-slice-read-run-fits : tie.Need-shared-slice-read-run-fits Inv-loop μ-loop
+shared-slice-read-run-fits c = search needs
 
-total-requires : tie.Need-total-requires Inv-loop μ-loop
-total-requires c κs =
-    let at-loop : tie.At-loop Inv-loop μ-loop = search in
-    small-take _ _ (c .before .run-end .ensures .1 .1) (at-loop .loop .inv .0 .small)
-
-shared-slice-read-wide : tie.Need-shared-slice-read-wide Inv-loop μ-loop
-shared-slice-read-wide c = search needs
-
-wide-requires : tie.Need-wide-requires Inv-loop μ-loop
-wide-requires c κs = search needs
-
-printed-requires : tie.Need-printed-requires Inv-loop μ-loop
-printed-requires c κs =
+run-fits-requires : tie.Need-run-fits-requires Inv-loop μ-loop
+run-fits-requires c κs =
     let e : tie.After-run-end Inv-loop μ-loop = search in
-    let after-total : tie.After-total Inv-loop μ-loop = search in
     let n = e .run-end .result .slots in
     let l = turning e .before .loop in (
       start e .pre .0,
       omega (
         arith,
-        after-total .total .ensures,
+        e .run-end .ensures .0 .1,
         small-sum (take n (l .ss .now)) (small-take n (l .ss .now) (e .run-end .ensures .1 .1) (l .inv .0 .small)),
       ),
     )
-
-fits-side-requires : tie.Need-fits-side-requires Inv-loop μ-loop
-fits-side-requires c κs = c .printed .ensures .1
 
 returns-2 : tie.Need-returns-2 Inv-loop μ-loop
 returns-2 c =
@@ -179,7 +160,7 @@ loop-less c = search needs
 
 loop-again : tie.Need-loop-again Inv-loop μ-loop
 loop-again c =
-    let f : tie.After-fits-side Inv-loop μ-loop = search in
+    let f : tie.After-run-fits Inv-loop μ-loop = search in
     let e = ended f in
     let n = e .run-end .result .slots in
     let l = turning e .before .loop in (
@@ -208,12 +189,8 @@ runs-pass-spec =
     meets-target-requires
     returns
     run-end-requires
-    slice-aggregate-total
-    total-requires
-    shared-slice-read-wide
-    wide-requires
-    printed-requires
-    fits-side-requires
+    shared-slice-read-run-fits
+    run-fits-requires
     returns-2
     mul-is
     sub-is
