@@ -3,6 +3,8 @@ use crate::places;
 use crate::text;
 use geometry::MarginSetting;
 use geometry::Setting;
+use planner_rules::Areas;
+use planner_rules::CellLimit;
 use planner_rules::Listing;
 use planner_rules::PageOrder;
 use planner_rules::Plan;
@@ -15,7 +17,7 @@ use planner_rules::Title;
 // The most runs of these plans.
 const ROW_RUNS: usize = 5;
 
-const COLUMN_RUNS: usize = 2;
+const COLUMN_RUNS: usize = 3;
 
 fn settings(percent: Setting, order: PageOrder) -> Settings {
     Settings {
@@ -29,6 +31,7 @@ fn settings(percent: Setting, order: PageOrder) -> Settings {
         order,
         headings: false,
         page_limit: 10000,
+        cell_limit: CellLimit::Absent,
     }
 }
 
@@ -40,6 +43,25 @@ fn range(last_row: u32, last_column: u32) -> PrintRange {
         last_row,
         last_column,
     }
+}
+
+// So many areas, of at most three.
+fn areas_of(count: usize, first: PrintRange, second: PrintRange, third: PrintRange) -> Areas {
+    Areas {
+        count,
+        first,
+        second,
+        third,
+        fourth: third,
+        fifth: third,
+        sixth: third,
+        seventh: third,
+        eighth: third,
+    }
+}
+
+fn one_area(range: PrintRange) -> Areas {
+    areas_of(1, range, range, range)
 }
 
 // Says what is answered, and how many pages are written.
@@ -71,7 +93,7 @@ fn listed(plan: Plan, row_runs: &[u64], column_runs: &[u64]) {
 // Plans slots, and lists the pages.
 fn planned(
     settings: Settings,
-    range: PrintRange,
+    areas: Areas,
     row_indexes: &[u32],
     row_sizes: &[u64],
     column_indexes: &[u32],
@@ -82,7 +104,7 @@ fn planned(
     let mut column_runs = [0u64; COLUMN_RUNS * RUN_NUMBERS];
     let planning = planner::plan_pages(
         settings,
-        range,
+        areas,
         Title::Absent,
         Title::Absent,
         row_indexes,
@@ -109,7 +131,7 @@ fn planned(
 fn example(order: PageOrder) {
     planned(
         settings(Setting::Absent, order),
-        range(2, 1),
+        one_area(range(2, 1)),
         &[0, 1, 2],
         &[400000, 400000, 400000],
         &[0, 1],
@@ -122,7 +144,7 @@ fn example(order: PageOrder) {
 fn break_case() {
     planned(
         settings(Setting::Absent, PageOrder::DownThenOver),
-        range(2, 0),
+        one_area(range(2, 0)),
         &[0, 1, 2],
         &[400000, 400000, 400000],
         &[],
@@ -135,11 +157,51 @@ fn break_case() {
 fn five_case() {
     planned(
         settings(Setting::Given(200), PageOrder::DownThenOver),
-        range(4, 0),
+        one_area(range(4, 0)),
         &[0, 1, 2, 3, 4],
         &[400000, 400000, 400000, 400000, 400000],
         &[0],
         &[400000],
+        &[],
+    )
+}
+
+// Two areas that overlap: three rows of a column, then two rows of two columns.
+fn two_areas() {
+    let rows = range(2, 0);
+    let columns = range(1, 1);
+    planned(
+        settings(Setting::Absent, PageOrder::DownThenOver),
+        areas_of(2, rows, columns, columns),
+        &[0, 1, 2],
+        &[400000, 400000, 400000],
+        &[0, 1],
+        &[400000, 400000],
+        &[],
+    )
+}
+
+// Three areas of a page each, in job order: the last cell, the first one, and one without a slot.
+fn three_areas() {
+    let last = PrintRange {
+        first_row: 2,
+        first_column: 1,
+        last_row: 2,
+        last_column: 1,
+    };
+    let outside = PrintRange {
+        first_row: 3,
+        first_column: 5,
+        last_row: 4,
+        last_column: 6,
+    };
+    planned(
+        settings(Setting::Absent, PageOrder::DownThenOver),
+        areas_of(3, last, range(0, 0), outside),
+        &[0, 1, 2],
+        &[400000, 400000, 400000],
+        &[0, 1],
+        &[400000, 400000],
         &[],
     )
 }
@@ -153,4 +215,8 @@ pub(crate) fn all_cases() {
     break_case();
     text::word(b"five pages, four places\n");
     five_case();
+    text::word(b"two areas\n");
+    two_areas();
+    text::word(b"three areas\n");
+    three_areas();
 }

@@ -1,6 +1,16 @@
-// Pages of a plan: document 01, section "Pages".
+// Pages of a plan: document 01, section "Pages", and document 02, request T-02.
+mod areas;
+
+use crate::areas::has_more;
+use crate::areas::runs_before;
+use crate::areas::runs_fit;
+use crate::areas::walk;
+use planner_areas::at_most_eight;
+use planner_areas::plan_at;
 use planner_compare::index_of;
 use planner_questions::room_in;
+use planner_rules::AreaPlan;
+use planner_rules::Found;
 use planner_rules::Listing;
 use planner_rules::Page;
 use planner_rules::PageAnswer;
@@ -9,13 +19,16 @@ use planner_rules::PageRun;
 use planner_rules::Place;
 use planner_rules::Plan;
 use planner_rules::RUN_NUMBERS;
+use planner_rules::RunCounts;
+use planner_rules::Spot;
 ghost use mathlib.Core.Path.{_≡_};
-ghost use Prim.Native.Nat.{_*_, _≤_, _<_};
+ghost use Prim.Native.Nat.{_+_, _≤_, _<_};
 ghost use lib.ListN.{length};
+ghost use Rattle.planner_rules.specs.Areas.{plansIn, overAreas};
 ghost use Rattle.planner_rules.specs.Lent.{roomIn};
 ghost use Rattle.planner_rules.specs.Pages as section;
 
-// The place of the page that has so many pages before it.
+// The place of the page of an area that has so many of its pages before it.
 fn place_of(order: PageOrder, row_runs: usize, column_runs: usize, before: usize) -> Place
     requires { ⌜ 0 < «row_runs» ⌝ }
     requires { ⌜ 0 < «column_runs» ⌝ }
@@ -48,19 +61,30 @@ fn run_at(list: &[u64], empty_body: bool, number: usize) -> PageRun
     }
 }
 
-// The page that has so many pages before it.
-fn page_after(before: usize, plan: Plan, row_runs: &[u64], column_runs: &[u64]) -> Page
-    requires { ⌜ plan .«row_runs» ≤ roomIn (now «row_runs») ⌝ }
-    requires { ⌜ plan .«column_runs» ≤ roomIn (now «column_runs») ⌝ }
-    requires { ⌜ before < plan .«row_runs» * plan .«column_runs» ⌝ }
-    ensures { λ r. ⌜ r ≡ section.pageAfter plan (now («row_runs» .entry)) (now («column_runs» .entry)) before ⌝ }
+// The page of an area that has so many of its pages before it, where so many runs stand before the area's.
+fn page_at(
+    order: PageOrder,
+    area: AreaPlan,
+    runs: RunCounts,
+    before: usize,
+    row_runs: &[u64],
+    column_runs: &[u64],
+) -> Page
+    requires { ⌜ runs .rows + area .«row_runs» ≤ roomIn (now «row_runs») ⌝ }
+    requires { ⌜ runs .columns + area .«column_runs» ≤ roomIn (now «column_runs») ⌝ }
+    requires { ⌜ before < section.pagesIn area ⌝ }
+    ensures { λ r. ⌜
+        r ≡ section.areaPageAfter order area (section.afterRuns (runs .rows) (now («row_runs» .entry)))
+        (section.afterRuns (runs .columns) (now («column_runs» .entry))) before
+        ⌝ }
 {
-    let order = plan.order;
-    let place = place_of(order, plan.row_runs, plan.column_runs, before);
+    let place = place_of(order, area.row_runs, area.column_runs, before);
     let vertical = place.vertical;
     let horizontal = place.horizontal;
-    let rows = run_at(row_runs, plan.rows_empty, vertical);
-    let columns = run_at(column_runs, plan.columns_empty, horizontal);
+    let row_run = runs.rows + vertical;
+    let column_run = runs.columns + horizontal;
+    let rows = run_at(row_runs, area.rows_empty, row_run);
+    let columns = run_at(column_runs, area.columns_empty, column_run);
     Page {
         vertical,
         horizontal,
@@ -69,83 +93,116 @@ fn page_after(before: usize, plan: Plan, row_runs: &[u64], column_runs: &[u64]) 
     }
 }
 
-// 14: by division, for the product of the run counts may be too large for a number.
-fn has_page(plan: Plan, number: u64) -> bool
-    ensures { λ r. ⌜ r ≡ section.hasPage plan number ⌝ }
+// The page at a spot, over the lists of runs that were lent to the plan.
+fn spot_page(plan: Plan, spot: Spot, row_runs: &[u64], column_runs: &[u64]) -> Page
+    requires { ⌜ section.rowRuns (plansIn (plan .areas)) ≤ roomIn (now «row_runs») ⌝ }
+    requires { ⌜ section.columnRuns (plansIn (plan .areas)) ≤ roomIn (now «column_runs») ⌝ }
+    requires { ⌜ section.Stands (plansIn (plan .areas)) spot ⌝ }
+    ensures { λ r. ⌜ r ≡ section.spotPage (plan .order) (plansIn (plan .areas)) (now («row_runs» .entry)) (now («column_runs» .entry)) spot ⌝ }
+{
+    let areas = plan.areas;
+    let area = plan_at(areas, spot.area);
+    let runs = runs_before(areas, spot.area);
+    let order = plan.order;
+    page_at(order, area, runs, spot.before, row_runs, column_runs)
+}
+
+// Where the page with a number stands.
+pub fn page_spot(plan: Plan, number: u64) -> Found
+    ensures { λ r. ⌜ r ≡ section.spotOf plan number ⌝ }
 {
     if number == 0 {
-        return false;
+        return Found::Nothing;
     }
     let before = number - 1;
     if before >= plan.pages {
-        return false;
+        return Found::Nothing;
     }
-    if plan.row_runs == 0 {
-        return false;
+    let areas = plan.areas;
+    let spot = walk(areas, before as usize);
+    if spot.area < at_most_eight(areas.count) {
+        Found::At(spot)
+    } else {
+        Found::Nothing
     }
-    before as usize / plan.row_runs < plan.column_runs
 }
 
-// 11 of lists with room for so many runs: its number where the answer is no, or 0.
-fn lists_no(plan: Plan, row_room: usize, column_room: usize) -> u8
-    ensures { λ r. ⌜ r ≡ section.listsNo plan «row_room» «column_room» ⌝ }
+// The page of an area with a number among its own, over lists that hold its runs at the front.
+pub fn area_page(
+    order: PageOrder,
+    area: AreaPlan,
+    number: u64,
+    row_runs: &[u64],
+    column_runs: &[u64],
+) -> PageAnswer
+    ensures { λ r. ⌜ section.pageOutcome r ≡ section.areaNumbered order area (now («row_runs» .entry)) (now («column_runs» .entry)) number ⌝ }
 {
-    if plan.row_runs > row_room {
-        return 11;
+    if area.row_runs > room_in(row_runs.len()) {
+        return PageAnswer::Refused(11);
     }
-    if plan.column_runs > column_room {
-        return 11;
+    if area.column_runs > room_in(column_runs.len()) {
+        return PageAnswer::Refused(11);
     }
-    0
-}
-
-// The first of the questions 11 and 14 whose answer is no, or 0.
-fn first_no(plan: Plan, number: u64, row_room: usize, column_room: usize) -> u8
-    ensures { λ r. ⌜ r ≡ section.firstNo plan number «row_room» «column_room» ⌝ }
-{
-    let refusal = lists_no(plan, row_room, column_room);
-    if refusal > 0 {
-        return refusal;
+    if number == 0 {
+        return PageAnswer::Refused(14);
     }
-    if has_page(plan, number) { 0 } else { 14 }
+    let before = (number - 1) as usize;
+    if !has_more(area, before) {
+        return PageAnswer::Refused(14);
+    }
+    let none = RunCounts {
+        rows: 0,
+        columns: 0,
+    };
+    PageAnswer::Value(page_at(order, area, none, before, row_runs, column_runs))
 }
 
 // The page of a plan with a number from 1 to its count, over the lists of runs that were lent to the plan.
 pub fn page_numbered(plan: Plan, number: u64, row_runs: &[u64], column_runs: &[u64]) -> PageAnswer
     ensures { λ r. ⌜ section.pageOutcome r ≡ section.pageNumbered plan (now («row_runs» .entry)) (now («column_runs» .entry)) number ⌝ }
 {
-    let refusal = first_no(
-        plan,
-        number,
-        room_in(row_runs.len()),
-        room_in(column_runs.len()),
-    );
-    if refusal > 0 {
-        return PageAnswer::Refused(refusal);
+    let areas = plan.areas;
+    if !runs_fit(areas, room_in(row_runs.len()), room_in(column_runs.len())) {
+        return PageAnswer::Refused(11);
     }
-    PageAnswer::Value(page_after((number - 1) as usize, plan, row_runs, column_runs))
+    let found = page_spot(plan, number);
+    match found {
+        Found::At(spot) => PageAnswer::Value(spot_page(plan, spot, row_runs, column_runs)),
+        Found::Nothing => PageAnswer::Refused(14),
+    }
 }
 
-// How many pages a plan has: by division, for the product of the run counts may be too large for a number.
+// The page of a plan that has so many pages before it.
+fn page_after(before: usize, plan: Plan, row_runs: &[u64], column_runs: &[u64]) -> Page
+    requires { ⌜ section.rowRuns (plansIn (plan .areas)) ≤ roomIn (now «row_runs») ⌝ }
+    requires { ⌜ section.columnRuns (plansIn (plan .areas)) ≤ roomIn (now «column_runs») ⌝ }
+    requires { ⌜ before < overAreas section.pagesIn (plansIn (plan .areas)) ⌝ }
+    ensures { λ r. ⌜ r ≡ section.pageAfter plan (now («row_runs» .entry)) (now («column_runs» .entry)) before ⌝ }
+{
+    let areas = plan.areas;
+    let spot = walk(areas, before);
+    spot_page(plan, spot, row_runs, column_runs)
+}
+
+// How many pages a plan has: a walk that takes off as many as it says tells whether its areas have so many.
 fn page_count(plan: Plan) -> u64
     ensures { λ r. ⌜ r ≡ section.pageCount plan ⌝ }
 {
-    if plan.row_runs == 0 {
-        return 0;
-    }
-    if (plan.pages as usize) / plan.row_runs < plan.column_runs {
+    let areas = plan.areas;
+    let spot = walk(areas, plan.pages as usize);
+    if spot.area < at_most_eight(areas.count) {
         return plan.pages;
     }
-    (plan.row_runs * plan.column_runs) as u64
+    plan.pages - spot.before as u64
 }
 
 // What `list_pages` answers where so many pages have room.
 fn listing(room: usize, plan: Plan, row_runs: &[u64], column_runs: &[u64]) -> Listing
     ensures { λ r. ⌜ section.listOutcome r ≡ section.listPages plan (now («row_runs» .entry)) (now («column_runs» .entry)) room ⌝ }
 {
-    let refusal = lists_no(plan, room_in(row_runs.len()), room_in(column_runs.len()));
-    if refusal > 0 {
-        return Listing::Refused(refusal);
+    let areas = plan.areas;
+    if !runs_fit(areas, room_in(row_runs.len()), room_in(column_runs.len())) {
+        return Listing::Refused(11);
     }
     let count = page_count(plan);
     if count > room as u64 {

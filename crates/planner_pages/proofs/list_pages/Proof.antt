@@ -57,7 +57,8 @@ use denote.Triple.Walked.{says, Stays, stay-dropped, stay-slice, walkOf, goes-dr
 use denote.Exit.{yes}
 use Rattle.units.specs.Outcome.{Outcome}
 use Rattle.planner_rules.specs.Lent.{roomIn}
-use Rattle.planner_rules.specs.Pages.{pagesOf, pageAfter, listPages, listOutcome, countIn}
+use Rattle.planner_rules.specs.Areas.{plansIn, overAreas}
+use Rattle.planner_rules.specs.Pages.{pagesIn, pagesOf, rowRuns, columnRuns, pageAfter, listPages, listOutcome, countIn}
 use Rattle.planner_rules.specs.declared.pages.Page.{Page}
 use Rattle.planner_rules.specs.declared.pages.Plan.{Plan}
 use Rattle.planner_rules.specs.declared.pages.Listing.{Listing}
@@ -244,9 +245,9 @@ module _ {M : Type 1} (𝓤 : URA M) (H : Heap 𝓤) (A : Atoms 𝓤) (W : Given
   asks-page i i-fits h =
       let asked = page-asked p rows columns np i h in
       qed W (‵ Own ∷ Tokens ∷ []) ∵ owned ! usize (Is usize) (uint-makes 𝓤 H A W w64) i _ (refl, i-fits) $ fjoin ! $ move ! (1 ∷ 0 ∷ []) $ join ! $
-      use0 W (raw (fact 𝓤 (i < p .«row_runs» * p .«column_runs»))) (factI 𝓤 _ (emp 𝓤) (asked .1 .1)) $
-      use0 W (raw (fact 𝓤 (p .«column_runs» ≤ roomIn columns))) (factI 𝓤 _ (emp 𝓤) (asked .1 .0)) $ join ! $
-      use0 W (raw (fact 𝓤 (p .«row_runs» ≤ roomIn rows))) (factI 𝓤 _ (emp 𝓤) (asked .0)) $ join ! $ move ! (1 ∷ 0 ∷ []) $ done !
+      use0 W (raw (fact 𝓤 (i < overAreas pagesIn (plansIn (p .areas))))) (factI 𝓤 _ (emp 𝓤) (asked .1 .1)) $
+      use0 W (raw (fact 𝓤 (columnRuns (plansIn (p .areas)) ≤ roomIn columns))) (factI 𝓤 _ (emp 𝓤) (asked .1 .0)) $ join ! $
+      use0 W (raw (fact 𝓤 (rowRuns (plansIn (p .areas)) ≤ roomIn rows))) (factI 𝓤 _ (emp 𝓤) (asked .0)) $ join ! $ move ! (1 ∷ 0 ∷ []) $ done !
 
   listed : (r : Listing) → ent 𝓤 (Listed r) (fact 𝓤 (listOutcome r ≡ told))
   listed r = exE 𝓤 _ (λ ws. snd∗ 𝓤 (sem 𝓤 H A (lasts listing.ended (κ₁, (κ₂, tt)) (to-listing .0 .3) ws)) (fact 𝓤 (listOutcome r ≡ told)))

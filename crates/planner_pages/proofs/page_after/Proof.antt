@@ -1,41 +1,30 @@
--- `planner_pages::page_after` meets its contract: the place is among the runs. Assumes nothing.
-use mathlib.Core.Path.{ap}
-use native.Mathlib.Omega.{arith}
-use Rattle.planner_rules.specs.declared.pages.Place.{Place}
-use Rattle.planner_rules.proofs.PageLaws.{vertical-below, horizontal-below}
-use Rattle.planner_rules.proofs.PagesCode.{some-rows, some-columns, page-there}
+-- `planner_pages::page_after` meets its contract: the walk ends at the page. Assumes nothing.
+use mathlib.Core.Path.{sym, subst}
+use Rattle.planner_rules.specs.Areas.{plansIn}
+use Rattle.planner_rules.specs.Pages.{Stands, pageAfter}
+use Rattle.planner_rules.proofs.AreaPages.{walk-in, walk-ends}
+use borrow.Author.Needs.{needs}
 use Rattle.planner_pages.proofs.page_after.Statement.{statement}
 use Rattle.planner_pages.proofs.page_after.Tie as tie
 
-place-of-requires : tie.Need-place-of-requires
-place-of-requires c κs =
-    let s : tie.Start = search in
-    let p = s .args .plan in
-    let h = s .pre .1 .1 in
-    (some-rows (p .«row_runs») (p .«column_runs») (s .args .before) h, some-columns (p .«row_runs») (p .«column_runs») (s .args .before) h)
+walk-requires : tie.Need-walk-requires
+walk-requires c κs = search needs
 
-run-at-requires : tie.Need-run-at-requires
-run-at-requires c κs =
-    let s : tie.Start = search in
-    let p = s .args .plan in
-    let below = vertical-below (p .«row_runs») (p .«column_runs») (s .args .before) (s .pre .1 .1) (p .order) in
-    omega (arith, ap (λ (k : Place). k .vertical) (c .place-of .ensures), below, s .pre .0)
-
-run-at-requires-2 : tie.Need-run-at-requires-2
-run-at-requires-2 c κs =
-    let s : tie.Start = search in
-    let p = s .args .plan in
-    let below = horizontal-below (p .«row_runs») (p .«column_runs») (s .args .before) (s .pre .1 .1) (p .order) in
-    omega (arith, ap (λ (k : Place). k .horizontal) (c .before .place-of .ensures), below, s .pre .1 .0)
+spot-page-requires : tie.Need-spot-page-requires
+spot-page-requires c κs =
+    let start : tie.Start = search in
+    let spot : tie.After-walk = search in
+    let areas = plansIn (start .args .plan .areas) in
+    let before = start .args .before in (
+      start .pre .0,
+      (start .pre .1 .0, subst (Stands areas) (sym (spot .walk .ensures)) (walk-ends before areas .in-area (walk-in before areas (start .pre .1 .1)))),
+    )
 
 returns : tie.Need-returns
+unfolding pageAfter
 returns c =
-    let start : tie.Start = search in
-    let d : tie.After-place-of = search in
-    let a = start .args in
-    page-there (a .plan) (a .row-runs .now) (a .column-runs .now) (a .before) (d .place-of .result) (c .before .run-at .result) (c .run-at2 .result)
-    (d .place-of .ensures) (c .before .run-at .ensures) (c .run-at2 .ensures)
+    let spot : tie.After-walk = search in
+    rw (spot .walk .ensures) at (c .spot-page .ensures)
 
 pub page-after-spec : {M : Type 1} → statement M
-page-after-spec =
-    tie.close (tie.spec place-of-requires run-at-requires run-at-requires-2 returns)
+page-after-spec = tie.close (tie.spec walk-requires spot-page-requires returns)

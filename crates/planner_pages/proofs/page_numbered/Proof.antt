@@ -1,30 +1,27 @@
--- `planner_pages::page_numbered` meets its contract: its first no refuses, and else there is the page. Assumes nothing.
-use mathlib.Core.Path.{_≡_, ap, _∙_}
-use Prim.Native.Nat.{_≤_}
-use native.Mathlib.Omega.{arith}
+-- `planner_pages::page_numbered` meets its contract: its first no refuses, and else the spot has the page or there is none. Assumes nothing.
+use mathlib.Core.Path.{_≡_, sym, ap, _∙_}
+use mathlib.Core.Bool.{true}
+use borrow.Author.Tests.{not-true, not-false}
 use Rattle.units.specs.Outcome.{given}
-use Rattle.planner_rules.specs.Lent.{roomIn}
-use Rattle.planner_rules.specs.Pages.{firstNo}
-use Rattle.planner_rules.proofs.PagesCode.{Answers, is-refused, is-answered}
+use Rattle.planner_rules.specs.Pages.{holdsRuns}
+use Rattle.planner_rules.proofs.PagesCode.{rooms-of, page-few, page-missing, page-stands, page-found}
 use borrow.Author.Needs.{needs}
 use Rattle.planner_pages.proofs.page_numbered.Statement.{statement}
 use Rattle.planner_pages.proofs.page_numbered.Tie as tie
 
--- what is asked of the lists and the number, by the lists' room
-asked : (f : tie.After-first-no) →
+-- 11 of the lists, by their room
+asked : (f : tie.After-runs-fit) →
     let start : tie.Start = search in
     let a = start .args in
-    f .first-no .result ≡ firstNo (a .plan) (a .number) (roomIn (a .row-runs .now)) (roomIn (a .column-runs .now))
-asked f = let rows : tie.After-room-in = search in rw (rows .room-in .ensures, f .before .room-in2 .ensures) at (f .first-no .ensures)
+    f .runs-fit .result ≡ holdsRuns (a .plan) (a .row-runs .now) (a .column-runs .now)
+asked f = let rows : tie.After-room-in = search in rw (rows .room-in .ensures, f .before .room-in2 .ensures) at (f .runs-fit .ensures)
 
-answers : (f : tie.After-first-no) →
+-- past 11 the lists hold the runs
+held : (d : tie.Else1) →
     let start : tie.Start = search in
     let a = start .args in
-    f .first-no .result ≤ 0 → Answers (a .plan) (a .number) (a .row-runs .now) (a .column-runs .now)
-answers f =
-    let start : tie.Start = search in
-    let a = start .args in
-    is-answered (a .plan) (a .number) (a .row-runs .now) (a .column-runs .now) (f .first-no .result) (asked f)
+    holdsRuns (a .plan) (a .row-runs .now) (a .column-runs .now) ≡ true
+held d = let f : tie.After-runs-fit = search in sym (asked f) ∙ not-false (f .runs-fit .result) (d .if1 .left)
 
 room-in-requires : tie.Need-room-in-requires
 room-in-requires c κs = search needs
@@ -32,28 +29,61 @@ room-in-requires c κs = search needs
 room-in-requires-2 : tie.Need-room-in-requires-2
 room-in-requires-2 c κs = search needs
 
-first-no-requires : tie.Need-first-no-requires
-first-no-requires c κs = search needs
+runs-fit-requires : tie.Need-runs-fit-requires
+runs-fit-requires c κs = search needs
 
 returns : tie.Need-returns
 returns c =
     let start : tie.Start = search in
-    let f : tie.After-first-no = search in
+    let f : tie.After-runs-fit = search in
     let a = start .args in
-    is-refused (a .plan) (a .number) (a .row-runs .now) (a .column-runs .now) (f .first-no .result) (asked f) (c .if1 .taken)
+    page-few (a .plan) (a .row-runs .now) (a .column-runs .now) (a .number) (sym (asked f) ∙ not-true (f .runs-fit .result) (c .if1 .taken))
 
-sub-page-after : tie.Need-sub-page-after
-sub-page-after c = omega (arith, answers (c .before) (c .if1 .left) .from-one)
+page-spot-requires : tie.Need-page-spot-requires
+page-spot-requires c κs = search needs
 
-page-after-requires : tie.Need-page-after-requires
-page-after-requires c κs =
-    let w = answers (c .before) (c .if1 .left) in
-    (w .row-room, (w .column-room, w .to-last))
+enum-known-found : tie.Need-enum-known-found
+enum-known-found c = search needs
+
+spot-page-requires : tie.Need-spot-page-requires
+spot-page-requires c κs =
+    let start : tie.Start = search in
+    let past : tie.Else1 = search in
+    let d : tie.After-page-spot = search in
+    let a = start .args in
+    let rooms = rooms-of (a .plan) (a .row-runs .now) (a .column-runs .now) (held past) in
+    let spot : tie.After-found = search in
+    let t = spot .found .given in (
+      rooms .0,
+      (
+        rooms .1,
+        page-stands (a .plan) (a .row-runs .now) (a .column-runs .now) (a .number) (held past) (d .page-spot .result) (d .page-spot .ensures) (t .0 .0)
+            (t .1),
+      ),
+    )
+
+enum-told : tie.Need-enum-told
+enum-told c = search needs
 
 returns-2 : tie.Need-returns-2
 returns-2 c =
-    let f : tie.After-first-no = search in
-    ap given (c .page-after .ensures) ∙ answers f (c .before .if1 .left) .page-is
+    let start : tie.Start = search in
+    let past : tie.Else1 = search in
+    let d : tie.After-page-spot = search in
+    let a = start .args in
+    let spot : tie.After-found = search in
+    let t = spot .found .given in
+    ap given (c .spot-page .ensures)
+    ∙ page-found (a .plan) (a .row-runs .now) (a .column-runs .now) (a .number) (held past) (d .page-spot .result) (d .page-spot .ensures) (t .0 .0) (t .1)
+
+returns-3 : tie.Need-returns-3
+returns-3 c =
+    let start : tie.Start = search in
+    let past : tie.Else1 = search in
+    let d : tie.After-page-spot = search in
+    let a = start .args in
+    page-missing (a .plan) (a .row-runs .now) (a .column-runs .now) (a .number) (held past) (d .page-spot .result) (d .page-spot .ensures)
+    (c .enum-told .given .1)
 
 pub page-numbered-spec : {M : Type 1} → statement M
 page-numbered-spec =
@@ -61,8 +91,11 @@ page-numbered-spec =
     (tie.spec
     room-in-requires
     room-in-requires-2
-    first-no-requires
+    runs-fit-requires
     returns
-    sub-page-after
-    page-after-requires
-    returns-2)
+    page-spot-requires
+    enum-known-found
+    spot-page-requires
+    enum-told
+    returns-2
+    returns-3)
