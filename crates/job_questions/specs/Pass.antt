@@ -1,14 +1,15 @@
--- What one pass over the records carries from record to record, for the private functions of `src/questions.rt`. Assumes nothing.
-use Prim.Native.Nat.{ℕ, suc, _+_, _<_, _^_}
-use mathlib.Core.Bool.{Bool, true, false, cond, _&&_, _||_}
+-- What one pass over the records carries from record to record, for the private functions of `src/lib.rt`. Assumes nothing.
+use Prim.Native.Nat.{ℕ, _+_, _<_, _^_}
+use mathlib.Core.Bool.{Bool, true, cond, _&&_}
 use mathlib.Core.List.{List, [], _∷_}
 use lib.Dec.{leb, ltb, eqb}
 use Rattle.job_records.specs.Records.{AR, RW, CL, MR, BR, BC, rank, records}
 use Rattle.units.specs.Grid.{lastRow, lastColumn}
+use Rattle.planner_rules.specs.Areas.{oneToEight}
 use Rattle.job_questions.specs.Verdict.{asked, follows, flagOk, notReversed, inGrid, sized, question1, question2, question3}
 use Rattle.job_records.specs.declared.records.Record.{Record}
 use Rattle.job_questions.specs.declared.Asked.{Asked}
-use Rattle.job_questions.specs.declared.Asked.the-variants.{Flag, Cells, InRows, InColumns, Other}
+use Rattle.job_questions.specs.declared.Asked.the-variants.{Flag, Rectangle, InRows, InColumns, Other}
 use Rattle.job_questions.specs.declared.Fine.{Fine}
 use Rattle.job_questions.specs.declared.Items.{Items}
 use Rattle.job_questions.specs.declared.State.{State}
@@ -34,7 +35,7 @@ placed top next i = cond (leb next i && leb i top) (i + 1) beyond
 -- the next row that may come, after a record
 abbrev pub rowsAfter : ℕ → Asked → ℕ
 rowsAfter n (Flag x) = n
-rowsAfter n (Cells r) = n
+rowsAfter n (Rectangle r) = n
 rowsAfter n (InRows s) = placed lastRow n (s .index)
 rowsAfter n (InColumns s) = n
 rowsAfter n Other = n
@@ -42,7 +43,7 @@ rowsAfter n Other = n
 -- the next column that may come, after a record
 abbrev pub columnsAfter : ℕ → Asked → ℕ
 columnsAfter n (Flag x) = n
-columnsAfter n (Cells r) = n
+columnsAfter n (Rectangle r) = n
 columnsAfter n (InRows s) = n
 columnsAfter n (InColumns s) = placed lastColumn n (s .index)
 columnsAfter n Other = n
@@ -54,6 +55,7 @@ oneMore n k j = n + cond (eqb k j) 1 0
 -- the items counted, after a record with the rank k
 abbrev pub counted : Items → ℕ → Items
 counted c k = record {
+  areas = oneMore (c .areas) k AR;
   rows = oneMore (c .rows) k RW;
   columns = oneMore (c .columns) k CL;
   merges = oneMore (c .merges) k MR;
@@ -63,6 +65,7 @@ counted c k = record {
 
 -- so few that one more can be counted
 pub record Few (c : Items) : Type 0 where
+  pub areas : c .areas < 2 ^ 32
   pub rows : c .rows < 2 ^ 32
   pub columns : c .columns < 2 ^ 32
   pub merges : c .merges < 2 ^ 32
@@ -74,11 +77,10 @@ abbrev pub start : State
 start = record {
   rank = 0;
   ordered = true;
-  area = false;
   fine = record { flag = true; first = true; grid = true; size = true };
   rows = 0;
   columns = 0;
-  items = record { rows = 0; columns = 0; merges = 0; «row_breaks» = 0; «column_breaks» = 0 };
+  items = record { areas = 0; rows = 0; columns = 0; merges = 0; «row_breaks» = 0; «column_breaks» = 0 };
 }
 
 -- the state of a pass after one more record
@@ -86,7 +88,6 @@ abbrev pub advanced : State → Record → State
 advanced t r = record {
   rank = rank r;
   ordered = t .ordered && follows (t .rank) (rank r);
-  area = t .area || eqb (rank r) AR;
   fine = bothFine (t .fine) (fine (asked r));
   rows = rowsAfter (t .rows) (asked r);
   columns = columnsAfter (t .columns) (asked r);
@@ -103,19 +104,20 @@ unfoldable pub surveyed : List ℕ → Survey
 surveyed s =
     cond (question1 s) (cond (question2 s) (cond (question3 s) (Whole (after start (records s))) (Stopped 3)) (Stopped 2)) (Stopped 1)
 
--- the number of the first no, from n on, or 0
-unfoldable pub firstNo : ℕ → List Bool → ℕ
-firstNo n [] = 0
-firstNo n (q ∷ qs) = cond q (firstNo (suc n) qs) n
+-- the number of the first no, or 0
+unfoldable pub firstNo : List (ℕ × Bool) → ℕ
+firstNo [] = 0
+firstNo ((n, q) ∷ qs) = cond q (firstNo qs) n
 
--- the first of the questions 4 to 9 that is answered no, or 0
-unfoldable pub answer : Bool → State → ℕ
-answer equally-long t =
-    firstNo 4
-    ((t .ordered && t .area)
-    ∷ t .fine .flag
-    ∷ (equally-long && t .fine .first)
-    ∷ t .fine .grid
-    ∷ (ltb (t .rows) beyond && ltb (t .columns) beyond)
-    ∷ t .fine .size
+-- the first of the questions 4 to 7, 15, 8 and 9 that is answered no, or 0; 15 is not the pass's
+unfoldable pub answer : Bool → Bool → State → ℕ
+answer equally-long cells t =
+    firstNo
+    ((4, t .ordered && oneToEight (t .items .areas))
+    ∷ (5, t .fine .flag)
+    ∷ (6, equally-long && t .fine .first)
+    ∷ (7, t .fine .grid)
+    ∷ (15, cells)
+    ∷ (8, ltb (t .rows) beyond && ltb (t .columns) beyond)
+    ∷ (9, t .fine .size)
     ∷ [])

@@ -1,4 +1,4 @@
-// The questions 1 to 9 put to a job, in one pass over its records: document 01, section "Questions in order".
+// The questions 1 to 9 and 15 put to a job, all but 15 in one pass over its records: document 01, section "Questions in order".
 use job_records::ColumnSlot;
 use job_records::Range;
 use job_records::Record;
@@ -13,23 +13,35 @@ use job_records::ranks::RANGE;
 use job_records::ranks::ROW_BREAKS;
 use job_records::ranks::ROWS;
 use job_records::read_record;
+use job_settings::areas_for;
+use job_walk::areas_of;
+use job_walk::cell_limit_of;
+use planner_areas::cells_hold;
+use planner_rules::CellLimit;
 use units::LARGEST_SIZE;
 use units::MAX_WORKSHEET_COLUMN;
 use units::MAX_WORKSHEET_ROW;
 ghost use mathlib.Core.Path.{_≡_};
-ghost use Prim.Native.Nat.{_+_, _<_, _^_};
-ghost use Rattle.job_records.specs.Records.{rank};
-ghost use Rattle.job_questions.specs.Verdict.{asked, follows, firstsOk, gridOk, sizeOk, verdictLent, verdict, checkedOutcome};
-ghost use Rattle.job_questions.specs.Pass.{fine, bothFine, placed, rowsAfter, columnsAfter, oneMore, counted, Few, start, advanced, surveyed, answer};
+ghost use Prim.Native.Nat.{_<_, _^_};
+ghost use lib.ListN.{length};
+ghost use Rattle.job_records.specs.Records.{rank, AR, records, marked};
+ghost use Rattle.job_walk.specs.Walk.{Sorted};
+ghost use Rattle.job_questions.specs.Verdict.{asked, follows, firstsOk, gridOk, sizeOk, question15, verdictLent, verdict, checkedOutcome};
+ghost use Rattle.job_questions.specs.Pass.{fine, bothFine, placed, rowsAfter, columnsAfter, oneMore, counted, Few};
+ghost use Rattle.job_questions.specs.Pass.{start, advanced, after, surveyed, answer};
 
 // The most bytes of a job.
 pub const MOST_BYTES: usize = 60_000;
+
+// The most areas of a job.
+pub const MOST_AREAS: usize = 8;
 
 // Above every index: what no slot may follow.
 const BEYOND: u64 = 0x1_0000_0000;
 
 // How many records repeat of each kind.
 pub struct Items {
+    pub areas: usize,
     pub rows: usize,
     pub columns: usize,
     pub merges: usize,
@@ -46,7 +58,7 @@ pub enum Checked {
 // What the questions 5 to 9 ask of a record.
 pub(crate) enum Asked {
     Flag(u8),
-    Cells(Range),
+    Rectangle(Range),
     InRows(RowSlot),
     InColumns(ColumnSlot),
     Other,
@@ -64,7 +76,6 @@ pub(crate) struct Fine {
 pub(crate) struct State {
     pub rank: u8,
     pub ordered: bool,
-    pub area: bool,
     pub fine: Fine,
     pub rows: u64,
     pub columns: u64,
@@ -83,12 +94,12 @@ fn asked_of(found: Record) -> Asked
     match found {
         Record::Fit(x) => Asked::Flag(x),
         Record::Order(x) => Asked::Flag(x),
-        Record::Area(a) => Asked::Cells(a),
+        Record::Area(a) => Asked::Rectangle(a),
         Record::Row(s) => Asked::InRows(s),
         Record::Column(s) => Asked::InColumns(s),
         Record::Merged(m) => {
             let a = m.cells;
-            Asked::Cells(a)
+            Asked::Rectangle(a)
         }
         _ => Asked::Other,
     }
@@ -97,7 +108,8 @@ fn asked_of(found: Record) -> Asked
 fn follows_on(last: u8, next: u8) -> bool
     ensures { λ r. ⌜ r ≡ follows last next ⌝ }
 {
-    (last < next) | ((last == next) & ((ROWS <= next) & (next <= COLUMN_BREAKS)))
+    let repeats = (next == RANGE) | ((ROWS <= next) & (next <= COLUMN_BREAKS));
+    (last < next) | ((last == next) & repeats)
 }
 
 fn firsts_ok(a: Range) -> bool
@@ -136,7 +148,7 @@ fn fine_of(what: Asked) -> Fine
             f.flag = x <= 1;
             f
         }
-        Asked::Cells(a) => {
+        Asked::Rectangle(a) => {
             f.first = firsts_ok(a);
             f.grid = grid_ok(a);
             f
@@ -208,6 +220,7 @@ fn count(c: Items, rank: u8) -> Items
     ensures { λ r. ⌜ r ≡ counted c rank ⌝ }
 {
     Items {
+        areas: one_more(c.areas, rank, RANGE),
         rows: one_more(c.rows, rank, ROWS),
         columns: one_more(c.columns, rank, COLUMNS),
         merges: one_more(c.merges, rank, MERGES),
@@ -227,7 +240,6 @@ fn advance(t: State, found: Record) -> State
     State {
         rank,
         ordered: t.ordered & follows_on(t.rank, rank),
-        area: t.area | (rank == RANGE),
         fine: both(earlier, fine_of(what)),
         rows: rows_after(t.rows, what),
         columns: columns_after(t.columns, what),
@@ -241,7 +253,6 @@ fn beginning() -> State
     State {
         rank: 0,
         ordered: true,
-        area: false,
         fine: Fine {
             flag: true,
             first: true,
@@ -251,6 +262,7 @@ fn beginning() -> State
         rows: 0,
         columns: 0,
         items: Items {
+            areas: 0,
             rows: 0,
             columns: 0,
             merges: 0,
@@ -260,11 +272,28 @@ fn beginning() -> State
     }
 }
 
-// The number of the first of the questions 4 to 9 that is answered no, or 0. Slices that make up one list are equally long, or not.
-fn first_no(equally_long: bool, t: State) -> u8
-    ensures { λ r. ⌜ r ≡ answer «equally_long» t ⌝ }
+// 15 of a job with so many areas, whose records are in order.
+fn cells_ok(bytes: &[u8], count: usize) -> bool
+    requires { ⌜ Sorted 0 (records (now bytes)) ⌝ }
+    requires { ⌜ count ≡ length (marked AR (records (now bytes))) ⌝ }
+    ensures { λ r. ⌜ r ≡ question15 (now (bytes .entry)) ⌝ }
 {
-    if !(t.ordered & t.area) {
+    let limit = cell_limit_of(bytes);
+    let CellLimit::Given(_) = limit else {
+        return true;
+    };
+    let read = areas_of(bytes, count);
+    let areas = areas_for(read);
+    cells_hold(limit, areas)
+}
+
+// The first of the questions 4 to 7, 15, 8 and 9 that is answered no, or 0. Slices that make up one list are equally long, or not.
+fn first_no(bytes: &[u8], equally_long: bool, t: State) -> u8
+    requires { ⌜ t ≡ after start (records (now bytes)) ⌝ }
+    ensures { λ r. ⌜ r ≡ answer «equally_long» (question15 (now (bytes .entry))) t ⌝ }
+{
+    let areas = t.items.areas;
+    if !(t.ordered & ((1 <= areas) & (areas <= MOST_AREAS))) {
         return 4;
     }
     if !t.fine.flag {
@@ -276,7 +305,12 @@ fn first_no(equally_long: bool, t: State) -> u8
     if !t.fine.grid {
         return 7;
     }
-    if !((t.rows < BEYOND) & (t.columns < BEYOND)) {
+    let held = cells_ok(bytes, areas);
+    let rising = (t.rows < BEYOND) & (t.columns < BEYOND);
+    if !held {
+        return 15;
+    }
+    if !rising {
         return 8;
     }
     if !t.fine.size {
@@ -318,7 +352,7 @@ pub fn check_job_lent(bytes: &[u8], equally_long: bool) -> Checked
     match found {
         Survey::Stopped(number) => Checked::Refused(number),
         Survey::Whole(state) => {
-            let number = first_no(equally_long, state);
+            let number = first_no(bytes, equally_long, state);
             if number > 0 {
                 return Checked::Refused(number);
             }

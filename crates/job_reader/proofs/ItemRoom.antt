@@ -1,7 +1,7 @@
--- How many items a number of bytes can bring: a record has the bytes of its mark. A job whose questions 1 to 9 are answered yes is read
--- whole where the lists hold its items. Assumes nothing.
+-- How many items a number of bytes can bring: a record has the bytes of its mark. A job whose questions are answered yes is read whole where
+-- the lists hold its items. Assumes nothing.
 use mathlib.Core.Path.{_≡_, refl, sym, ap, _∙_}
-use mathlib.Core.Bool.{Bool, true, false, cond}
+use mathlib.Core.Bool.{Bool, true, false, cond, _&&_, _||_}
 use mathlib.Core.List.{List, [], _∷_}
 use Prim.Native.Nat.{ℕ, zero, suc, pred, _+_, _*_, _≤_, _<_}
 use native.Mathlib.Omega.{arith}
@@ -15,11 +15,12 @@ use Rattle.job_records.specs.declared.records.Step.the-variants.{Read, Nothing}
 use Rattle.job_questions.specs.declared.Items.{Items}
 use Rattle.job_records.specs.Records.{Format, Found, RW, CL, MR, BR, BC, found, find, formats, known, headRecord, step, rank, isEnd, used, onto}
 use Rattle.job_records.specs.Records.{recordsFrom, records, marked}
-use Rattle.job_questions.specs.Verdict.{question6, questions, inOrder, verdictLent, itemsOf}
+use Rattle.job_questions.specs.Verdict.{questions, inOrder, verdictLent, itemsOf}
 use Rattle.job_reader.specs.Reading.{Lists, evenLists, roomIn, fitIn, asked, jobOf, readJob}
 use Rattle.job_records.proofs.RecordLaws.{same-found, in-whole, step-found, step-used, split}
 use Rattle.job_questions.proofs.PassLaws.{All}
-use Rattle.job_reader.proofs.ReadingLaws.{all-given}
+use Rattle.planner_rules.proofs.QuestionLaws.{both}
+use Rattle.job_reader.proofs.ReadingLaws.{all-given, all-past}
 
 -- ---- the bytes of a mark
 
@@ -121,47 +122,41 @@ items-fit n room w s l =
 
 -- ---- a job that is questioned with yes is read
 
-pub all-in-order : {A : Type 0} (v : A) (n : ℕ) (qs : List Bool) → All qs → inOrder n qs v ≡ given v
-all-in-order v n [] a = refl
-all-in-order v n (q ∷ qs) a = rw (a .0) (all-in-order v (suc n) qs (a .1))
-
 module _ (s : List ℕ) (items : Items) (e : verdictLent true s ≡ given items) where
-  is-given : given items ≡ inOrder 1 (questions true s) (itemsOf (records s))
+  is-given : given items ≡ inOrder (questions true s) (itemsOf (records s))
   unfolding verdictLent
   is-given = sym e
 
   pub all-answered : All (questions true s)
-  all-answered = all-given (itemsOf (records s)) 1 (questions true s) items is-given
+  all-answered = all-given (itemsOf (records s)) (questions true s) items is-given
 
   pub read-whole : (l : Lists) → evenLists l ≡ true → fitIn (itemsOf (records s)) (roomIn l) ≡ true → readJob s l ≡ given (jobOf (records s))
   unfolding readJob
   read-whole l even f =
-      let a = all-answered in
-      let six : question6 (evenLists l) s ≡ true = ap (λ (b : Bool). question6 b s) even ∙ a .1 .1 .1 .1 .1 .0 in
-      all-in-order (jobOf (records s)) 1 (asked (evenLists l) (roomIn l) s) (
-        a .0,
-        (
-          a .1 .0,
-          (
-            a .1 .1 .0,
-            (
-              a .1 .1 .1 .0,
-              (a .1 .1 .1 .1 .0, (six, (a .1 .1 .1 .1 .1 .1 .0, (a .1 .1 .1 .1 .1 .1 .1 .0, (a .1 .1 .1 .1 .1 .1 .1 .1 .0, (refl, (f, tt))))))),
-            ),
-          ),
-        ),
-      )
+      ap (λ (b : Bool). inOrder (asked b (roomIn l) s) (jobOf (records s))) even
+      ∙ sym (all-past (jobOf (records s)) ((11, fitIn (itemsOf (records s)) (roomIn l)) ∷ []) (questions true s) all-answered)
+      ∙ ap (λ (b : Bool). inOrder ((11, b) ∷ []) (jobOf (records s))) f
 
--- ---- which numbers 1 to 9 give, and how many rows and columns a job has
+-- ---- which numbers the questions give, and how many rows and columns a job has
 
-in-order-low : {A : Type 0} (v : A) (n m : ℕ) (qs : List Bool) → inOrder n qs v ≡ refused m → m < n + length qs
-in-order-low v n m [] e = let z : _≡_ {A = ℕ} 0 1 = cc in absurd (omega arith)
-in-order-low v n m (true ∷ qs) e = let i = in-order-low v (suc n) m qs e in omega arith
-in-order-low v n m (false ∷ qs) e = let i : n ≡ m = cc in omega arith
+-- the numbers of the questions that are put to the bytes
+abbrev pub isAsked : ℕ → Bool
+isAsked n = (leb 1 n && leb n 9) || eqb n 15
 
-pub verdict-low : (even : Bool) (s : List ℕ) (n : ℕ) → verdictLent even s ≡ refused n → n ≤ 9
+-- a test that the numbers of some questions pass
+abbrev passed : (ℕ → Bool) → List (ℕ × Bool) → Bool
+passed p [] = true
+passed p ((n, q) ∷ qs) = p n && passed p qs
+
+in-order-passed : {A : Type 0} (v : A) (p : ℕ → Bool) (m : ℕ) (qs : List (ℕ × Bool)) → passed p qs ≡ true → inOrder qs v ≡ refused m → p m ≡ true
+in-order-passed v p m [] t e = let z : _≡_ {A = ℕ} 0 1 = cc in absurd (omega arith)
+in-order-passed v p m ((n, true) ∷ qs) t e = in-order-passed v p m qs (both (p n) (passed p qs) t .1) e
+in-order-passed v p m ((n, false) ∷ qs) t e = let i : n ≡ m = cc in ap p (sym i) ∙ both (p n) (passed p qs) t .0
+
+-- so a number such as 0, 10 or 11 is none: there `isAsked` is false
+pub verdict-number : (even : Bool) (s : List ℕ) (n : ℕ) → verdictLent even s ≡ refused n → isAsked n ≡ true
 unfolding verdictLent
-verdict-low even s n e = let i = in-order-low (itemsOf (records s)) 1 n (questions even s) e in omega arith
+verdict-number even s n e = in-order-passed (itemsOf (records s)) isAsked n (questions even s) refl e
 
 module _ (s : List ℕ) (items : Items) (e : verdictLent true s ≡ given items) where
   short : length s ≤ 60000

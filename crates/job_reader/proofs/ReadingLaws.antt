@@ -1,8 +1,8 @@
 -- Laws for the call that reads a job into lent lists. Assumes nothing.
 use mathlib.Core.Path.{_≡_, refl, sym, ap, ap₂, _∙_}
 use mathlib.Core.Bool.{Bool, true, false, cond}
-use mathlib.Core.List.{List, [], _∷_, _++_, map}
-use Prim.Native.Nat.{ℕ, suc, _+_, _-_, _≤_}
+use mathlib.Core.List.{List, [], _∷_, _++_, map, append-nil}
+use Prim.Native.Nat.{ℕ, _-_, _≤_}
 use native.Mathlib.Omega.{arith}
 use lib.ListN.{length, take, drop}
 use borrow.Author.Tests.{eqb-true, leb-true}
@@ -14,91 +14,85 @@ use Rattle.job_questions.specs.declared.Checked.{Checked}
 use Rattle.job_questions.specs.declared.Checked.the-variants as checked
 use Rattle.job_settings.specs.declared.JobSettings.{JobSettings}
 use Rattle.job_reader.specs.declared.lists.Reading.the-variants.{Value, Refused}
-use Rattle.job_records.specs.Records.{RW, CL, MR, BR, BC, field, records, marked, values}
-use Rattle.job_questions.specs.Verdict.{ordered, hasArea, questions, inOrder, itemsOf, verdictLent, checkedOutcome}
+use Rattle.job_records.specs.Records.{AR, RW, CL, MR, BR, BC, field, records, marked, values}
+use Rattle.job_questions.specs.Verdict.{ordered, questions, inOrder, itemsOf, verdictLent, checkedOutcome}
 use Rattle.job_reader.specs.Settings.{settingsOf}
-use Rattle.job_reader.specs.Walk.{Sorted, From, Past}
+use Rattle.job_walk.specs.Walk.{Sorted}
+use Rattle.job_reader.specs.Walk.{From, Past}
 use Rattle.job_reader.specs.Reading.{Lists, evenLists, roomIn, fitIn, asked, admitted, admittedTo, jobOf, readJob, JobRead, Room, AllWritten}
+use Rattle.planner_rules.specs.Areas.{oneToEight}
 use Rattle.planner_rules.proofs.QuestionLaws.{both}
 use Rattle.job_records.proofs.RecordLaws.{part}
-use Rattle.job_questions.proofs.PassLaws.{All}
-use Rattle.job_reader.proofs.WalkLaws.{sorted-of}
+use Rattle.job_questions.proofs.PassLaws.{All, sorted-of}
 
 -- ---- questions in order, whatever is given at the end
 
 module _ {A B : Type 0} (v : A) (w : B) where
-  pub in-order-given : (n : ℕ) (qs : List Bool) (x : A) → given x ≡ inOrder n qs v → (x ≡ v) × (given w ≡ inOrder n qs w)
-  in-order-given n [] x e = (cc, refl)
-  in-order-given n (true ∷ qs) x e = in-order-given (suc n) qs x e
-  in-order-given n (false ∷ qs) x e = let z : _≡_ {A = ℕ} 0 1 = cc in absurd (omega arith)
+  pub in-order-given : (qs : List (ℕ × Bool)) (x : A) → given x ≡ inOrder qs v → (x ≡ v) × (given w ≡ inOrder qs w)
+  in-order-given [] x e = (cc, refl)
+  in-order-given ((n, true) ∷ qs) x e = in-order-given qs x e
+  in-order-given ((n, false) ∷ qs) x e = let z : _≡_ {A = ℕ} 0 1 = cc in absurd (omega arith)
 
-  pub in-order-refused : (n : ℕ) (qs : List Bool) (x : ℕ) → refused x ≡ inOrder n qs v → refused x ≡ inOrder n qs w
-  in-order-refused n [] x e = let z : _≡_ {A = ℕ} 0 1 = cc in absurd (omega arith)
-  in-order-refused n (true ∷ qs) x e = in-order-refused (suc n) qs x e
-  in-order-refused n (false ∷ qs) x e = let i : x ≡ n = cc in ap refused i
+  -- a no among some questions is the first among more
+  in-order-more : (more : List (ℕ × Bool)) (x : ℕ) (qs : List (ℕ × Bool)) → refused x ≡ inOrder qs v → refused x ≡ inOrder (qs ++ more) w
+  in-order-more more x [] e = let z : _≡_ {A = ℕ} 0 1 = cc in absurd (omega arith)
+  in-order-more more x ((n, true) ∷ qs) e = in-order-more more x qs e
+  in-order-more more x ((n, false) ∷ qs) e = let i : x ≡ n = cc in ap refused i
 
--- a no among some questions is the first among more
-in-order-more : {A B : Type 0} (v : A) (w : B) (more : List Bool) (n x : ℕ) (qs : List Bool) → refused x ≡ inOrder n qs v → refused x ≡ inOrder n
-    (qs ++ more) w
-in-order-more v w more n x [] e = let z : _≡_ {A = ℕ} 0 1 = cc in absurd (omega arith)
-in-order-more v w more n x (true ∷ qs) e = in-order-more v w more (suc n) x qs e
-in-order-more v w more n x (false ∷ qs) e = let i : x ≡ n = cc in ap refused i
+  pub in-order-refused : (qs : List (ℕ × Bool)) (x : ℕ) → refused x ≡ inOrder qs v → refused x ≡ inOrder qs w
+  in-order-refused qs x e = rw (append-nil qs) at (in-order-more [] x qs e)
 
-pub all-given : {A : Type 0} (v : A) (n : ℕ) (qs : List Bool) (x : A) → given x ≡ inOrder n qs v → All qs
-all-given v n [] x e = tt
-all-given v n (true ∷ qs) x e = (refl, all-given v (suc n) qs x e)
-all-given v n (false ∷ qs) x e = let z : _≡_ {A = ℕ} 0 1 = cc in absurd (omega arith)
+pub all-given : {A : Type 0} (v : A) (qs : List (ℕ × Bool)) (x : A) → given x ≡ inOrder qs v → All qs
+all-given v [] x e = tt
+all-given v ((n, true) ∷ qs) x e = (refl, all-given v qs x e)
+all-given v ((n, false) ∷ qs) x e = let z : _≡_ {A = ℕ} 0 1 = cc in absurd (omega arith)
+
+-- where some are answered yes, the others decide
+pub all-past : {A : Type 0} (v : A) (more qs : List (ℕ × Bool)) → All qs → inOrder more v ≡ inOrder (qs ++ more) v
+all-past v more [] a = refl
+all-past v more ((n, q) ∷ qs) a = rw (a .0) (all-past v more qs (a .1))
 
 -- ---- question 11, after the others
 
 module _ (even : Bool) (s : List ℕ) (room : Items) (f : Checked) (e : checkedOutcome f ≡ verdictLent even s) where
   pub admit-no : (n : ℕ) → f ≡ checked.Refused n → refused n ≡ admitted even room s
   unfolding verdictLent admitted
-  admit-no n k = in-order-more (itemsOf (records s)) (itemsOf (records s)) (true ∷ fitIn (itemsOf (records s)) room ∷ []) 1 n (questions even s)
+  admit-no n k =
+      in-order-more (itemsOf (records s)) (itemsOf (records s)) ((11, fitIn (itemsOf (records s)) room) ∷ []) n (questions even s)
       (sym (ap checkedOutcome k) ∙ e)
 
   module _ (items : Items) (k : f ≡ checked.Value items) where
-    is-questioned : given items ≡ inOrder 1 (questions even s) (itemsOf (records s))
+    is-questioned : given items ≡ inOrder (questions even s) (itemsOf (records s))
     unfolding verdictLent
     is-questioned = sym (ap checkedOutcome k) ∙ e
 
     counted : items ≡ itemsOf (records s)
-    counted = in-order-given (itemsOf (records s)) (itemsOf (records s)) 1 (questions even s) items is-questioned .0
+    counted = in-order-given (itemsOf (records s)) (itemsOf (records s)) (questions even s) items is-questioned .0
 
-    past-nine : inOrder 10 (true ∷ fitIn (itemsOf (records s)) room ∷ []) (itemsOf (records s)) ≡ admitted even room s
+    past-nine : inOrder ((11, fitIn (itemsOf (records s)) room) ∷ []) (itemsOf (records s)) ≡ admitted even room s
     unfolding admitted
     past-nine =
-        let a = all-given (itemsOf (records s)) 1 (questions even s) items is-questioned in
-        rw (
-          a .0,
-          a .1 .0,
-          a .1 .1 .0,
-          a .1 .1 .1 .0,
-          a .1 .1 .1 .1 .0,
-          a .1 .1 .1 .1 .1 .0,
-          a .1 .1 .1 .1 .1 .1 .0,
-          a .1 .1 .1 .1 .1 .1 .1 .0,
-          a .1 .1 .1 .1 .1 .1 .1 .1 .0,
-        )
+        all-past (itemsOf (records s)) ((11, fitIn (itemsOf (records s)) room) ∷ []) (questions even s)
+        (all-given (itemsOf (records s)) (questions even s) items is-questioned)
 
     pub admit-fits : (b : Bool) → b ≡ fitIn items room → cond b (given items) (refused 11) ≡ admitted even room s
     admit-fits b i =
-        ap (λ (q : Bool). cond q (given items) (refused 11)) i ∙ ap (λ (c : Items). inOrder 10 (true ∷ fitIn c room ∷ []) c) counted ∙ past-nine
+        ap (λ (q : Bool). cond q (given items) (refused 11)) i ∙ ap (λ (c : Items). inOrder ((11, fitIn c room) ∷ []) c) counted ∙ past-nine
 
 -- ---- what a job that is admitted tells
 
-read-given : (s : List ℕ) (l : Lists) → given (jobOf (records s)) ≡ inOrder 1 (asked (evenLists l) (roomIn l) s) (jobOf (records s))
+read-given : (s : List ℕ) (l : Lists) → given (jobOf (records s)) ≡ inOrder (asked (evenLists l) (roomIn l) s) (jobOf (records s))
     → given (jobOf (records s)) ≡ readJob s l
 unfolding readJob
 read-given s l h = h
 
 read-refused : (s : List ℕ) (l : Lists) (n : ℕ) → refused n ≡ admittedTo s l → refused n ≡ readJob s l
 unfolding admitted readJob
-read-refused s l n h = in-order-refused (itemsOf (records s)) (jobOf (records s)) 1 (asked (evenLists l) (roomIn l) s) n h
+read-refused s l n h = in-order-refused (itemsOf (records s)) (jobOf (records s)) (asked (evenLists l) (roomIn l) s) n h
 
 -- the job s is admitted to the lists l, and has these items
 pub record Admitted (s : List ℕ) (l : Lists) (items : Items) : Type 0 where
-  pub is : given items ≡ inOrder 1 (asked (evenLists l) (roomIn l) s) (itemsOf (records s))
+  pub is : given items ≡ inOrder (asked (evenLists l) (roomIn l) s) (itemsOf (records s))
 
 pub admitted-is : {s : List ℕ} {l : Lists} {items : Items} {f : Checked} → checkedOutcome f ≡ admittedTo s l → f ≡ checked.Value items → Admitted s l items
 unfolding admitted
@@ -106,10 +100,15 @@ admitted-is e k = record { is = sym (ap checkedOutcome k) ∙ e }
 
 module _ {s : List ℕ} {l : Lists} {items : Items} (w : Admitted s l items) where
   all : All (asked (evenLists l) (roomIn l) s)
-  all = all-given (itemsOf (records s)) 1 (asked (evenLists l) (roomIn l) s) items (w .is)
+  all = all-given (itemsOf (records s)) (asked (evenLists l) (roomIn l) s) items (w .is)
 
   pub given-sorted : Sorted 0 (records s)
-  given-sorted = sorted-of 0 (records s) (both (ordered 0 (records s)) (hasArea (records s)) (all .1 .1 .1 .0) .0)
+  given-sorted = sorted-of 0 (records s) (both (ordered 0 (records s)) (oneToEight (length (marked AR (records s)))) (all .1 .1 .1 .0) .0)
+
+  pub given-areas : items .areas ≡ length (marked AR (records s))
+  given-areas =
+      ap (λ (c : Items). c .areas)
+      (in-order-given (itemsOf (records s)) (itemsOf (records s)) (asked (evenLists l) (roomIn l) s) items (w .is) .0)
 
   pub given-room : Room s l
   given-room = record { even = both (evenLists l) _ (all .1 .1 .1 .1 .1 .0) .0; fits = all .1 .1 .1 .1 .1 .1 .1 .1 .1 .1 .0 }
@@ -118,7 +117,7 @@ module _ {s : List ℕ} {l : Lists} {items : Items} (w : Admitted s l items) whe
   pub job-given : {after : Lists} {set : JobSettings} → set ≡ settingsOf (records s) → AllWritten s l after → JobRead s
       (Value (record { settings = set; items = items })) l after
   job-given i v =
-      let g = in-order-given (itemsOf (records s)) (jobOf (records s)) 1 (asked (evenLists l) (roomIn l) s) items (w .is) in
+      let g = in-order-given (itemsOf (records s)) (jobOf (records s)) (asked (evenLists l) (roomIn l) s) items (w .is) in
       let q : given (jobOf (records s)) ≡ readJob s l = read-given s l (g .1) in
       record {
         answer = ap₂ (λ (x : JobSettings) (y : Items). given (record { settings = x; items = y })) i (g .0) ∙ q;

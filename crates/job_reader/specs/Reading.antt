@@ -2,14 +2,14 @@
 use mathlib.Core.Path.{_≡_}
 use Prim.Native.Nat.{ℕ}
 use mathlib.Core.Bool.{Bool, true, _&&_}
-use mathlib.Core.List.{List, [], _∷_}
+use mathlib.Core.List.{List, [], _∷_, _++_}
 use lib.ListN.{length}
 use lib.Dec.{leb, eqb}
 use Rattle.units.specs.Outcome.{Outcome, given, refused}
 use Rattle.planner_rules.specs.Slots.{written}
 use Rattle.planner_rules.specs.Partition.{lent}
 use Rattle.job_records.specs.Records.{RW, CL, MR, BR, BC, records, values}
-use Rattle.job_questions.specs.Verdict.{question1, question2, question3, question4, question5, question6, question7, question8, question9, inOrder, itemsOf}
+use Rattle.job_questions.specs.Verdict.{questions, inOrder, itemsOf}
 use Rattle.job_reader.specs.Settings.{settingsOf}
 use Rattle.job_records.specs.declared.records.Record.{Record}
 use Rattle.job_questions.specs.declared.Items.{Items}
@@ -52,9 +52,10 @@ evenLists l =
     && (eqb (length (l .merge-first-rows)) (length (l .merge-first-columns)) && (eqb (length (l .merge-first-rows)) (length (l .merge-last-rows))
     && eqb (length (l .merge-first-rows)) (length (l .merge-last-columns)))))
 
--- how many items the lent lists hold
+-- how many items the lent lists hold, and the most areas, for which no list is lent
 abbrev pub roomIn : Lists → Items
 roomIn l = record {
+  areas = 8;
   rows = length (l .row-indexes);
   columns = length (l .column-indexes);
   merges = length (l .merge-first-rows);
@@ -68,25 +69,13 @@ fitIn items room =
     leb (items .rows) (room .rows) && (leb (items .columns) (room .columns) && (leb (items .merges) (room .merges)
     && (leb (items .«row_breaks») (room .«row_breaks») && leb (items .«column_breaks») (room .«column_breaks»))))
 
--- the questions of this call; 10 asks of arithmetic, and there is none
-abbrev pub asked : Bool → Items → List ℕ → List Bool
-asked equally-long room s =
-    question1 s
-    ∷ question2 s
-    ∷ question3 s
-    ∷ question4 s
-    ∷ question5 s
-    ∷ question6 equally-long s
-    ∷ question7 s
-    ∷ question8 s
-    ∷ question9 s
-    ∷ true
-    ∷ fitIn (itemsOf (records s)) room
-    ∷ []
+-- the questions of this call: those of the bytes, and 11
+abbrev pub asked : Bool → Items → List ℕ → List (ℕ × Bool)
+asked equally-long room s = questions equally-long s ++ ((11, fitIn (itemsOf (records s)) room) ∷ [])
 
 -- how many items are read
 unfoldable pub admitted : Bool → Items → List ℕ → Outcome Items
-admitted equally-long room s = inOrder 1 (asked equally-long room s) (itemsOf (records s))
+admitted equally-long room s = inOrder (asked equally-long room s) (itemsOf (records s))
 
 -- what is asked of a job, and of the lists that are lent for its items
 abbrev pub admittedTo : List ℕ → Lists → Outcome Items
@@ -98,7 +87,7 @@ jobOf rs = record { settings = settingsOf rs; items = itemsOf rs }
 
 -- a job read to lent lists
 unfoldable pub readJob : List ℕ → Lists → Outcome Job
-readJob s l = inOrder 1 (asked (evenLists l) (roomIn l) s) (jobOf (records s))
+readJob s l = inOrder (asked (evenLists l) (roomIn l) s) (jobOf (records s))
 
 -- the value or the number that each case of `Reading` stands for
 abbrev pub readingOutcome : Reading → Outcome Job

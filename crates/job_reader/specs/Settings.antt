@@ -5,8 +5,7 @@ use Rattle.geometry.specs.declared.paper.Setting.{Setting}
 use Rattle.geometry.specs.declared.paper.Setting.the-variants as number
 use Rattle.planner_rules.specs.declared.titles.Title.{Title}
 use Rattle.planner_rules.specs.declared.titles.Title.the-variants as title
-use Rattle.job_records.specs.Records.{PC, LA, MG, SC, FW, FH, FT, OD, HD, LP, AR, TR, TC, field, marked}
-use Rattle.job_records.specs.declared.records.Range.{Range}
+use Rattle.job_records.specs.Records.{PC, LA, MG, SC, FW, FH, FT, OD, HD, LP, UC, AR, TR, TC, field, marked}
 use Rattle.job_records.specs.declared.records.Record.{Record}
 use Rattle.job_settings.specs.declared.MarginsRead.{MarginsRead}
 use Rattle.job_settings.specs.declared.MarginsRead.the-variants as margins
@@ -15,8 +14,9 @@ use Rattle.job_settings.specs.declared.FlagSetting.the-variants as flag
 use Rattle.job_settings.specs.declared.LimitSetting.{LimitSetting}
 use Rattle.job_settings.specs.declared.LimitSetting.the-variants as limit
 use Rattle.job_settings.specs.declared.JobSettings.{JobSettings}
+use Rattle.job_walk.specs.Areas.{cellLimitFrom, areasFrom}
 
--- ---- a setting, from the records with its mark: "Only RW, CL, MR, BR and BC repeat", so there is one at most
+-- ---- a setting, from the records with its mark: but for AR, there is one at most
 
 -- "PC paper u16", "SC percent u16", "FW, FH targets u16"
 abbrev pub numberFrom : List Record → Setting
@@ -44,15 +44,6 @@ abbrev pub limitFrom : List Record → LimitSetting
 limitFrom [] = limit.Absent
 limitFrom (r ∷ rs) = limit.Given (field 0 r)
 
--- what stands for a range that is not there: question 4 finds it there
-abbrev pub nowhere : Range
-nowhere = record { «first_row» = 0; «first_column» = 0; «last_row» = 0; «last_column» = 0 }
-
--- "AR range u32, u16, u32, u16 as first row, first column, last row, last column"
-abbrev pub rangeFrom : List Record → Range
-rangeFrom [] = nowhere
-rangeFrom (r ∷ rs) = record { «first_row» = field 0 r; «first_column» = field 1 r; «last_row» = field 2 r; «last_column» = field 3 r }
-
 -- "A title is absent or a pair first, last.": "TR two u32; TC two u16"
 abbrev pub titleFrom : List Record → Title
 titleFrom [] = title.Absent
@@ -71,7 +62,8 @@ settingsOf rs = record {
   order = flagFrom (marked OD rs);
   headings = isThere (marked HD rs);
   «page_limit» = limitFrom (marked LP rs);
-  range = rangeFrom (marked AR rs);
+  «cell_limit» = cellLimitFrom (marked UC rs);
+  areas = areasFrom (marked AR rs);
   «row_title» = titleFrom (marked TR rs);
   «column_title» = titleFrom (marked TC rs);
 }

@@ -2,43 +2,25 @@
 -- For the private functions of `src/settings.rt` and `src/lists.rt`. Assumes nothing.
 use mathlib.Core.Path.{_≡_}
 use mathlib.Core.Bool.{Bool, cond, _||_}
-use mathlib.Core.List.{List, [], _∷_}
+use mathlib.Core.List.{List}
 use Prim.Native.Nat.{ℕ, _≤_}
 use lib.Dec.{eqb}
 use lib.ListN.{length, drop}
 use lib.IntN.{natAbs}
-use Rattle.job_records.specs.Records.{PC, SC, FW, FH, FT, OD, RW, CL, BR, BC, rank, isEnd, field, marked, records}
+use Rattle.job_records.specs.Records.{PC, SC, FW, FH, FT, OD, RW, CL, BR, BC, rank, field, marked, records}
 use Rattle.job_records.specs.declared.records.Range.{Range}
 use Rattle.job_records.specs.declared.records.RowSlot.{RowSlot}
 use Rattle.job_records.specs.declared.records.ColumnSlot.{ColumnSlot}
 use Rattle.job_records.specs.declared.records.Record.{Record}
-use Rattle.job_records.specs.declared.records.Step.{Step}
-use Rattle.job_records.specs.declared.records.Step.the-variants.{Read, Nothing}
-use Rattle.job_reader.specs.declared.settings.Next.{Next}
-use Rattle.job_reader.specs.declared.settings.Next.the-variants.{Kind, Stop}
-use Rattle.job_reader.specs.declared.settings.Lookup.{Lookup}
-use Rattle.job_reader.specs.declared.settings.Lookup.the-variants.{Found, Missing}
+use Rattle.job_walk.specs.declared.Next.{Next}
+use Rattle.job_walk.specs.declared.Next.the-variants.{Kind, Stop}
+use Rattle.job_walk.specs.Walk.{Sorted}
 use Rattle.job_reader.specs.declared.lists.Measured.{Measured}
 
--- the record before the EN that a step found
-unfoldable pub before : Step → Next
-before Nothing = Stop
-before (Read r n) = cond (isEnd r) Stop (Kind r n)
-
--- such a record, where its mark is k
+-- the next record, where its mark is k
 unfoldable pub ofKind : ℕ → Next → Next
 ofKind k Stop = Stop
 ofKind k (Kind r n) = cond (eqb (rank r) k) (Kind r n) Stop
-
--- the first of some records
-abbrev pub firstOf : List Record → Lookup
-firstOf [] = Missing
-firstOf (r ∷ rs) = Found r
-
--- marks from k on that never fall
-abbrev pub Sorted : ℕ → List Record → Type 0
-Sorted k [] = Unit {0}
-Sorted k (r ∷ rs) = (k ≤ rank r) × Sorted (rank r) rs
 
 -- s is the part of b that has the marks from k on
 pub record From (k : ℕ) (b s : List ℕ) : Type 0 where

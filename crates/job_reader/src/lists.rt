@@ -1,9 +1,8 @@
 // The items of a job, read into lent lists: document 01, sections "Jobs" and "Questions in order".
-use crate::settings::Next;
-use crate::settings::next_record;
 use crate::settings::settings_of;
 use job_questions::Checked;
 use job_questions::Items;
+use job_questions::MOST_AREAS;
 use job_questions::check_job_lent;
 use job_records::ColumnSlot;
 use job_records::Range;
@@ -16,6 +15,8 @@ use job_records::ranks::MERGES;
 use job_records::ranks::ROW_BREAKS;
 use job_records::ranks::ROWS;
 use job_settings::JobSettings;
+use job_walk::Next;
+use job_walk::next_record;
 use units::Fixed;
 ghost use mathlib.Core.Path.{_≡_};
 ghost use mathlib.Core.Bool.{true};
@@ -25,7 +26,8 @@ ghost use lib.ListN.{length};
 ghost use Rattle.planner_rules.specs.Slots.{written};
 ghost use Rattle.job_records.specs.Records.{RW, MR, BR, rank, step, records, marked, values, field};
 ghost use Rattle.job_questions.specs.Verdict.{checkedOutcome};
-ghost use Rattle.job_reader.specs.Walk.{before, ofKind, Sorted, Past, isSlot, isBreak, measured};
+ghost use Rattle.job_walk.specs.Walk.{before, Sorted};
+ghost use Rattle.job_reader.specs.Walk.{ofKind, Past, isSlot, isBreak, measured};
 ghost use Rattle.job_reader.specs.Walk as walk;
 ghost use Rattle.job_reader.specs.Reading.{lists, evenLists, fitIn, admitted, admittedTo, Room, AllWritten, JobRead};
 
@@ -347,6 +349,7 @@ fn admit_to(
         merge_last_columns,
     );
     let room = Items {
+        areas: MOST_AREAS,
         rows: row_indexes.len(),
         columns: column_indexes.len(),
         merges: merge_first_rows.len(),
@@ -410,7 +413,7 @@ pub fn read_job(
                 row_breaks,
                 column_breaks,
             );
-            let settings = settings_of(bytes);
+            let settings = settings_of(bytes, items.areas);
             Reading::Value(Job { settings, items })
         }
     }

@@ -1,11 +1,7 @@
 // The settings of a job, each with whether its record is there: document 01, section "Jobs".
 use geometry::Setting;
-use job_records::Range;
 use job_records::Record;
-use job_records::Step;
-use job_records::rank_of;
 use job_records::ranks::COLUMN_TITLE;
-use job_records::ranks::END;
 use job_records::ranks::FIT;
 use job_records::ranks::FIT_HEIGHT;
 use job_records::ranks::FIT_WIDTH;
@@ -16,71 +12,30 @@ use job_records::ranks::ORDER;
 use job_records::ranks::PAGE_LIMIT;
 use job_records::ranks::PAPER;
 use job_records::ranks::PERCENT;
-use job_records::ranks::RANGE;
 use job_records::ranks::ROW_TITLE;
-use job_records::read_record;
 use job_settings::FlagSetting;
 use job_settings::JobSettings;
 use job_settings::LimitSetting;
 use job_settings::MarginsRead;
+use job_walk::Lookup;
+use job_walk::areas_of;
+use job_walk::cell_limit_of;
+use job_walk::find_record;
 use planner_rules::Title;
 ghost use mathlib.Core.Path.{_≡_};
 ghost use mathlib.Core.Bool.{true};
-ghost use Rattle.job_records.specs.Records.{step, records, marked, MG, LP, AR, TR, TC};
+ghost use lib.ListN.{length};
+ghost use Rattle.job_records.specs.Records.{records, marked, MG, LP, AR, TR, TC};
+ghost use Rattle.job_walk.specs.Walk.{Sorted};
 ghost use Rattle.job_reader.specs.Settings as section;
-ghost use Rattle.job_reader.specs.Walk.{before, firstOf, Sorted, isNumber, isFlag};
-
-// The next record before the EN and how many bytes it has, or none.
-pub(crate) enum Next {
-    Kind(Record, usize),
-    Stop,
-}
-
-// The first record of a kind, if there is one.
-pub(crate) enum Lookup {
-    Found(Record),
-    Missing,
-}
-
-pub(crate) fn next_record(s: &[u8]) -> Next
-    ensures { λ r. ⌜ r ≡ before (step (now (s .entry))) ⌝ }
-{
-    let Step::Read(found, used) = read_record(s) else {
-        return Next::Stop;
-    };
-    if rank_of(found) == END {
-        return Next::Stop;
-    }
-    Next::Kind(found, used)
-}
-
-// The record with the rank `wanted`.
-fn find_record(bytes: &[u8], wanted: u8) -> Lookup
-    requires { ⌜ Sorted 0 (records (now bytes)) ⌝ }
-    ensures { λ r. ⌜ r ≡ firstOf (marked wanted (records (now (bytes .entry)))) ⌝ }
-{
-    let mut s = bytes;
-    loop {
-        let Next::Kind(found, used) = next_record(s) else {
-            return Lookup::Missing;
-        };
-        let rank = rank_of(found);
-        if rank == wanted {
-            return Lookup::Found(found);
-        }
-        if rank > wanted {
-            return Lookup::Missing;
-        }
-        s = &s[used..];
-    }
-}
+ghost use Rattle.job_reader.specs.Walk.{isNumber, isFlag};
 
 fn number_of(bytes: &[u8], wanted: u8) -> Setting
     requires { ⌜ Sorted 0 (records (now bytes)) ⌝ }
     requires { ⌜ isNumber wanted ≡ true ⌝ }
     ensures { λ r. ⌜ r ≡ section.numberFrom (marked wanted (records (now (bytes .entry)))) ⌝ }
 {
-    let Lookup::Found(found) = find_record(bytes, wanted) else {
+    let Lookup::Found(found) = find_record(bytes, wanted, 0) else {
         return Setting::Absent;
     };
     match found {
@@ -97,7 +52,7 @@ fn flag_of(bytes: &[u8], wanted: u8) -> FlagSetting
     requires { ⌜ isFlag wanted ≡ true ⌝ }
     ensures { λ r. ⌜ r ≡ section.flagFrom (marked wanted (records (now (bytes .entry)))) ⌝ }
 {
-    let Lookup::Found(found) = find_record(bytes, wanted) else {
+    let Lookup::Found(found) = find_record(bytes, wanted, 0) else {
         return FlagSetting::Absent;
     };
     match found {
@@ -111,7 +66,7 @@ fn is_there(bytes: &[u8], wanted: u8) -> bool
     requires { ⌜ Sorted 0 (records (now bytes)) ⌝ }
     ensures { λ r. ⌜ r ≡ section.isThere (marked wanted (records (now (bytes .entry)))) ⌝ }
 {
-    let Lookup::Found(_) = find_record(bytes, wanted) else {
+    let Lookup::Found(_) = find_record(bytes, wanted, 0) else {
         return false;
     };
     true
@@ -121,7 +76,7 @@ fn margins_of(bytes: &[u8]) -> MarginsRead
     requires { ⌜ Sorted 0 (records (now bytes)) ⌝ }
     ensures { λ r. ⌜ r ≡ section.marginsFrom (marked MG (records (now (bytes .entry)))) ⌝ }
 {
-    let Lookup::Found(found) = find_record(bytes, MARGINS) else {
+    let Lookup::Found(found) = find_record(bytes, MARGINS, 0) else {
         return MarginsRead::Absent;
     };
     let Record::Margin(margins) = found else {
@@ -134,7 +89,7 @@ fn limit_of(bytes: &[u8]) -> LimitSetting
     requires { ⌜ Sorted 0 (records (now bytes)) ⌝ }
     ensures { λ r. ⌜ r ≡ section.limitFrom (marked LP (records (now (bytes .entry)))) ⌝ }
 {
-    let Lookup::Found(found) = find_record(bytes, PAGE_LIMIT) else {
+    let Lookup::Found(found) = find_record(bytes, PAGE_LIMIT, 0) else {
         return LimitSetting::Absent;
     };
     let Record::Limit(limit) = found else {
@@ -143,35 +98,11 @@ fn limit_of(bytes: &[u8]) -> LimitSetting
     LimitSetting::Given(limit)
 }
 
-fn nowhere() -> Range
-    ensures { λ r. ⌜ r ≡ section.nowhere ⌝ }
-{
-    Range {
-        first_row: 0,
-        first_column: 0,
-        last_row: 0,
-        last_column: 0,
-    }
-}
-
-fn range_of(bytes: &[u8]) -> Range
-    requires { ⌜ Sorted 0 (records (now bytes)) ⌝ }
-    ensures { λ r. ⌜ r ≡ section.rangeFrom (marked AR (records (now (bytes .entry)))) ⌝ }
-{
-    let Lookup::Found(found) = find_record(bytes, RANGE) else {
-        return nowhere();
-    };
-    let Record::Area(cells) = found else {
-        return nowhere();
-    };
-    cells
-}
-
 fn row_title_of(bytes: &[u8]) -> Title
     requires { ⌜ Sorted 0 (records (now bytes)) ⌝ }
     ensures { λ r. ⌜ r ≡ section.titleFrom (marked TR (records (now (bytes .entry)))) ⌝ }
 {
-    let Lookup::Found(found) = find_record(bytes, ROW_TITLE) else {
+    let Lookup::Found(found) = find_record(bytes, ROW_TITLE, 0) else {
         return Title::Absent;
     };
     let Record::TitleRows(first, last) = found else {
@@ -184,7 +115,7 @@ fn column_title_of(bytes: &[u8]) -> Title
     requires { ⌜ Sorted 0 (records (now bytes)) ⌝ }
     ensures { λ r. ⌜ r ≡ section.titleFrom (marked TC (records (now (bytes .entry)))) ⌝ }
 {
-    let Lookup::Found(found) = find_record(bytes, COLUMN_TITLE) else {
+    let Lookup::Found(found) = find_record(bytes, COLUMN_TITLE, 0) else {
         return Title::Absent;
     };
     let Record::TitleColumns(first, last) = found else {
@@ -193,8 +124,10 @@ fn column_title_of(bytes: &[u8]) -> Title
     Title::Pair(first as u32, last as u32)
 }
 
-pub(crate) fn settings_of(bytes: &[u8]) -> JobSettings
+// The settings of a job with so many areas.
+pub(crate) fn settings_of(bytes: &[u8], areas: usize) -> JobSettings
     requires { ⌜ Sorted 0 (records (now bytes)) ⌝ }
+    requires { ⌜ areas ≡ length (marked AR (records (now bytes))) ⌝ }
     ensures { λ r. ⌜ r ≡ section.settingsOf (records (now (bytes .entry))) ⌝ }
 {
     JobSettings {
@@ -208,7 +141,8 @@ pub(crate) fn settings_of(bytes: &[u8]) -> JobSettings
         order: flag_of(bytes, ORDER),
         headings: is_there(bytes, HEADINGS),
         page_limit: limit_of(bytes),
-        range: range_of(bytes),
+        cell_limit: cell_limit_of(bytes),
+        areas: areas_of(bytes, areas),
         row_title: row_title_of(bytes),
         column_title: column_title_of(bytes),
     }

@@ -13,7 +13,7 @@ use Rattle.job_records.specs.declared.records.RowSlot.{RowSlot}
 use Rattle.job_records.specs.declared.records.ColumnSlot.{ColumnSlot}
 use Rattle.job_records.specs.declared.records.MarginBits.{MarginBits}
 use Rattle.job_records.specs.declared.records.Record.{Record}
-use Rattle.job_records.specs.declared.records.Record.the-variants.{Paper, Landscape, Margin, Scale, Wide, High, Fit, Order, Headings, Limit, Area}
+use Rattle.job_records.specs.declared.records.Record.the-variants.{Paper, Landscape, Margin, Scale, Wide, High, Fit, Order, Headings, Limit, Cells, Area}
 use Rattle.job_records.specs.declared.records.Record.the-variants.{TitleRows, TitleColumns, Row, Column, Merged, RowBreak, ColumnBreak, End}
 use Rattle.job_records.specs.declared.records.Step.{Step}
 use Rattle.job_records.specs.declared.records.Step.the-variants.{Read, Nothing}
@@ -78,6 +78,8 @@ formats =
     ∷ format 72 68 (λ s. Headings) 2
     -- "LP page limit u64"
     ∷ format 76 80 (λ s. Limit (u64At s 2)) 10
+    -- document 02, T-02: "UC, u64, between LP and AR"
+    ∷ format 85 67 (λ s. Cells (u64At s 2)) 10
     -- "AR range u32, u16, u32, u16"
     ∷ format 65 82 (λ s. Area (rangeAt s)) 14
     -- "TR two u32"
@@ -114,7 +116,7 @@ find m (f ∷ fs) s = cond (eqb m (f .mark)) (found (f .kind s) (f .bytes)) (fin
 
 -- the formats of the settings, which stand first, for the private functions of `src/records.rt`
 abbrev pub settings : List Format
-settings = take 13 formats
+settings = take 14 formats
 
 -- how many bytes the record of a mark has, for the private functions of `src/records.rt`; 0 where the formats have no such mark
 unfoldable pub sizeIn : List Format → ℕ → ℕ
@@ -181,32 +183,35 @@ HD = 9
 abbrev pub LP : ℕ
 LP = 10
 
+abbrev pub UC : ℕ
+UC = 11
+
 abbrev pub AR : ℕ
-AR = 11
+AR = 12
 
 abbrev pub TR : ℕ
-TR = 12
+TR = 13
 
 abbrev pub TC : ℕ
-TC = 13
+TC = 14
 
 abbrev pub RW : ℕ
-RW = 14
+RW = 15
 
 abbrev pub CL : ℕ
-CL = 15
+CL = 16
 
 abbrev pub MR : ℕ
-MR = 16
+MR = 17
 
 abbrev pub BR : ℕ
-BR = 17
+BR = 18
 
 abbrev pub BC : ℕ
-BC = 18
+BC = 19
 
 abbrev pub EN : ℕ
-EN = 19
+EN = 20
 
 -- the place of a record's mark
 abbrev pub rank : Record → ℕ
@@ -220,6 +225,7 @@ rank (Fit x) = FT
 rank (Order x) = OD
 rank Headings = HD
 rank (Limit x) = LP
+rank (Cells x) = UC
 rank (Area a) = AR
 rank (TitleRows f l) = TR
 rank (TitleColumns f l) = TC
@@ -294,6 +300,7 @@ fields (Fit x) = x ∷ []
 fields (Order x) = x ∷ []
 fields Headings = []
 fields (Limit x) = x ∷ []
+fields (Cells x) = x ∷ []
 fields (Area a) = cellsOf a
 fields (TitleRows f l) = f ∷ l ∷ []
 fields (TitleColumns f l) = f ∷ l ∷ []

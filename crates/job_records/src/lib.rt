@@ -6,6 +6,7 @@ mod records;
 pub use little_endian::float;
 pub use little_endian::signed;
 pub use records::ColumnSlot;
+pub use records::JobAreas;
 pub use records::MarginBits;
 pub use records::Merge;
 pub use records::Range;

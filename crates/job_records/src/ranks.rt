@@ -30,29 +30,32 @@ pub const HEADINGS: u8 = 9;
 // LP
 pub const PAGE_LIMIT: u8 = 10;
 
+// UC
+pub const CELL_LIMIT: u8 = 11;
+
 // AR
-pub const RANGE: u8 = 11;
+pub const RANGE: u8 = 12;
 
 // TR
-pub const ROW_TITLE: u8 = 12;
+pub const ROW_TITLE: u8 = 13;
 
 // TC
-pub const COLUMN_TITLE: u8 = 13;
+pub const COLUMN_TITLE: u8 = 14;
 
 // RW
-pub const ROWS: u8 = 14;
+pub const ROWS: u8 = 15;
 
 // CL
-pub const COLUMNS: u8 = 15;
+pub const COLUMNS: u8 = 16;
 
 // MR
-pub const MERGES: u8 = 16;
+pub const MERGES: u8 = 17;
 
 // BR
-pub const ROW_BREAKS: u8 = 17;
+pub const ROW_BREAKS: u8 = 18;
 
 // BC
-pub const COLUMN_BREAKS: u8 = 18;
+pub const COLUMN_BREAKS: u8 = 19;
 
 // EN
-pub const END: u8 = 19;
+pub const END: u8 = 20;

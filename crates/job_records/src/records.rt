@@ -3,6 +3,7 @@ use crate::little_endian::signed;
 use crate::little_endian::u16_at;
 use crate::little_endian::u32_at;
 use crate::little_endian::u64_at;
+use crate::ranks::CELL_LIMIT;
 use crate::ranks::COLUMN_BREAKS;
 use crate::ranks::COLUMN_TITLE;
 use crate::ranks::COLUMNS;
@@ -33,6 +34,19 @@ pub struct Range {
     pub first_column: u16,
     pub last_row: u32,
     pub last_column: u16,
+}
+
+// The print areas of a job, at most eight, in job order; what stands past their count is no area.
+pub struct JobAreas {
+    pub count: usize,
+    pub first: Range,
+    pub second: Range,
+    pub third: Range,
+    pub fourth: Range,
+    pub fifth: Range,
+    pub sixth: Range,
+    pub seventh: Range,
+    pub eighth: Range,
 }
 
 // A measured row. The size stands first: behind the index a range would end inside it, and a `Record` would be written in halves.
@@ -74,6 +88,7 @@ pub enum Record {
     Order(u8),
     Headings,
     Limit(u64),
+    Cells(u64),
     Area(Range),
     TitleRows(u32, u32),
     TitleColumns(u16, u16),
@@ -158,6 +173,8 @@ const HD: u16 = 0x4448;
 
 const LP: u16 = 0x504c;
 
+const UC: u16 = 0x4355;
+
 const AR: u16 = 0x5241;
 
 const TR: u16 = 0x5254;
@@ -185,7 +202,7 @@ fn size_of(mark: u16) -> usize
         FT | OD => 3,
         PC | SC | FW | FH | BC => 4,
         TC | BR => 6,
-        LP | TR => 10,
+        LP | UC | TR => 10,
         CL => 12,
         AR | RW | MR => 14,
         MG => 50,
@@ -209,6 +226,7 @@ fn setting_at(s: &[u8], mark: u16) -> Step
         OD => Step::Read(Record::Order(s[2]), 3),
         HD => Step::Read(Record::Headings, 2),
         LP => Step::Read(Record::Limit(u64_at(s, 2)), 10),
+        UC => Step::Read(Record::Cells(u64_at(s, 2)), 10),
         AR => Step::Read(Record::Area(range_at(s)), 14),
         TR => Step::Read(Record::TitleRows(u32_at(s, 2), u32_at(s, 6)), 10),
         TC => Step::Read(Record::TitleColumns(u16_at(s, 2), u16_at(s, 4)), 6),
@@ -261,6 +279,7 @@ pub fn rank_of(found: Record) -> u8
         Record::Order(_) => ORDER,
         Record::Headings => HEADINGS,
         Record::Limit(_) => PAGE_LIMIT,
+        Record::Cells(_) => CELL_LIMIT,
         Record::Area(_) => RANGE,
         Record::TitleRows(_, _) => ROW_TITLE,
         Record::TitleColumns(_, _) => COLUMN_TITLE,

@@ -11,8 +11,10 @@ use Rattle.planner_rules.specs.declared.pages.PageOrder.{PageOrder}
 use Rattle.planner_rules.specs.declared.pages.PageOrder.the-variants.{DownThenOver, OverThenDown}
 use Rattle.planner_rules.specs.declared.planning.Settings.{Settings}
 use Rattle.planner_rules.specs.declared.planning.PrintRange.{PrintRange}
+use Rattle.planner_rules.specs.declared.planning.Areas.{Areas}
 use Rattle.job_records.specs.LittleEndian.{f64Of}
 use Rattle.job_records.specs.declared.records.Range.{Range}
+use Rattle.job_records.specs.declared.records.JobAreas.{JobAreas}
 use Rattle.job_records.specs.declared.records.MarginBits.{MarginBits}
 use Rattle.job_settings.specs.declared.MarginsRead.{MarginsRead}
 use Rattle.job_settings.specs.declared.MarginsRead.the-variants as margins
@@ -77,8 +79,23 @@ settingsFor j = record {
   order = orderFor (j .order);
   headings = j .headings;
   «page_limit» = limitOf (j .«page_limit»);
+  «cell_limit» = j .«cell_limit»;
 }
 
--- the range as the planner takes it
+-- a range as the planner takes it
 abbrev pub rangeFor : Range → PrintRange
 rangeFor a = record { «first_row» = a .«first_row»; «first_column» = a .«first_column»; «last_row» = a .«last_row»; «last_column» = a .«last_column» }
+
+-- the areas as the planner takes them
+abbrev pub areasFor : JobAreas → Areas
+areasFor j = record {
+  count = j .count;
+  first = rangeFor (j .first);
+  second = rangeFor (j .second);
+  third = rangeFor (j .third);
+  fourth = rangeFor (j .fourth);
+  fifth = rangeFor (j .fifth);
+  sixth = rangeFor (j .sixth);
+  seventh = rangeFor (j .seventh);
+  eighth = rangeFor (j .eighth);
+}

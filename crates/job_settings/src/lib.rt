@@ -2,9 +2,12 @@
 use geometry::MarginSetting;
 use geometry::Margins;
 use geometry::Setting;
+use job_records::JobAreas;
 use job_records::MarginBits;
 use job_records::Range;
 use job_records::float;
+use planner_rules::Areas;
+use planner_rules::CellLimit;
 use planner_rules::PageOrder;
 use planner_rules::PrintRange;
 use planner_rules::Settings;
@@ -40,7 +43,8 @@ pub struct JobSettings {
     pub order: FlagSetting,
     pub headings: bool,
     pub page_limit: LimitSetting,
-    pub range: Range,
+    pub cell_limit: CellLimit,
+    pub areas: JobAreas,
     pub row_title: Title,
     pub column_title: Title,
 }
@@ -126,6 +130,7 @@ pub fn settings_for(read: JobSettings) -> Settings
     let fit_height = read.fit_height;
     let order = read.order;
     let limit = read.page_limit;
+    let cell_limit = read.cell_limit;
     Settings {
         paper,
         landscape: read.landscape,
@@ -137,10 +142,11 @@ pub fn settings_for(read: JobSettings) -> Settings
         order: order_for(order),
         headings: read.headings,
         page_limit: page_limit(limit),
+        cell_limit,
     }
 }
 
-// The range as the planner takes it.
+// A range as the planner takes it.
 pub fn range_for(cells: Range) -> PrintRange
     ensures { λ r. ⌜ r ≡ section.rangeFor cells ⌝ }
 {
@@ -149,5 +155,30 @@ pub fn range_for(cells: Range) -> PrintRange
         first_column: cells.first_column as u32,
         last_row: cells.last_row,
         last_column: cells.last_column as u32,
+    }
+}
+
+// The areas as the planner takes them.
+pub fn areas_for(read: JobAreas) -> Areas
+    ensures { λ r. ⌜ r ≡ section.areasFor read ⌝ }
+{
+    let first = read.first;
+    let second = read.second;
+    let third = read.third;
+    let fourth = read.fourth;
+    let fifth = read.fifth;
+    let sixth = read.sixth;
+    let seventh = read.seventh;
+    let eighth = read.eighth;
+    Areas {
+        count: read.count,
+        first: range_for(first),
+        second: range_for(second),
+        third: range_for(third),
+        fourth: range_for(fourth),
+        fifth: range_for(fifth),
+        sixth: range_for(sixth),
+        seventh: range_for(seventh),
+        eighth: range_for(eighth),
     }
 }

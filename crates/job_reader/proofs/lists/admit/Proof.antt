@@ -1,4 +1,4 @@
--- `job_reader::lists::admit` meets its contract: 1 to 9, then whether the items fit. Assumes nothing.
+-- `job_reader::lists::admit` meets its contract: the questions of the bytes, then whether the items fit. Assumes nothing.
 use mathlib.Core.Path.{_≡_}
 use mathlib.Core.Bool.{cond}
 use Rattle.units.specs.Outcome.{given, refused}
@@ -8,7 +8,7 @@ use borrow.Author.Needs.{needs}
 use Rattle.job_reader.proofs.lists.admit.Statement.{statement}
 use Rattle.job_reader.proofs.lists.admit.Tie as tie
 
--- the first nine questions have a yes: the last is whether the items fit
+-- those have a yes: the last is whether the items fit
 fits : (d : tie.After-fit-in) →
     let start : tie.Start = search in
     let after-checked2 : tie.After-checked2 = search in

@@ -2,7 +2,7 @@
 use mathlib.Core.Path.{sym, ap}
 use Rattle.job_records.specs.Records.{field}
 use Rattle.job_reader.specs.Walk.{isBreak}
-use Rattle.job_reader.proofs.WalkLaws.{no-kind}
+use Rattle.job_walk.proofs.Arms.{no-kind}
 use borrow.Author.Needs.{needs}
 use Rattle.job_reader.proofs.lists.break_of.Statement.{statement}
 use Rattle.job_reader.proofs.lists.break_of.Tie as tie

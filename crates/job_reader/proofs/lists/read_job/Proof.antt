@@ -1,7 +1,7 @@
 -- `job_reader::lists::read_job` meets its contract. Assumes nothing.
 use mathlib.Core.Path.{refl}
 use Rattle.job_reader.specs.Reading.{Lists, lists}
-use Rattle.job_reader.proofs.ReadingLaws.{Admitted, admitted-is, given-sorted, given-room, job-given, job-refused}
+use Rattle.job_reader.proofs.ReadingLaws.{Admitted, admitted-is, given-sorted, given-areas, given-room, job-given, job-refused}
 use Rattle.job_reader.proofs.lists.read_job.Statement.{statement}
 use Rattle.job_reader.proofs.lists.read_job.Tie as tie
 
@@ -41,7 +41,9 @@ write-items-requires c κs =
     (given-sorted (given d), given-room (given d))
 
 settings-of-requires : tie.Need-settings-of-requires
-settings-of-requires c κs = given-sorted (given (search))
+settings-of-requires c κs =
+    let d : tie.After-admitted2 = search in
+    (given-sorted (given d), given-areas (given d))
 
 same-length : tie.Need-same-length
 same-length c = refl

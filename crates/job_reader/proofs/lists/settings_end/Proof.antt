@@ -1,13 +1,14 @@
 -- `job_reader::lists::settings_end` meets its contract. Assumes nothing.
 use lib.ListN.{length}
-use Rattle.job_reader.proofs.WalkLaws.{Going, going-start, going-on, past-end, past-at, Used, walk-used}
+use Rattle.job_walk.proofs.WalkLaws.{Used, walk-used}
+use Rattle.job_reader.proofs.WalkLaws.{Going, going-start, going-on, past-end, past-at}
 use borrow.Author.Needs.{needs}
 use native.Mathlib.Omega.{arith}
 use Rattle.job_reader.proofs.lists.settings_end.Statement.{statement}
 use Rattle.job_reader.proofs.lists.settings_end.Tie as tie
 
 abbrev Inv-loop : tie.InvT-loop
-Inv-loop bytes s₀ s = Going 0 14 bytes s
+Inv-loop bytes s₀ s = Going 0 15 bytes s
 
 abbrev μ-loop : tie.MeasureT-loop
 μ-loop bytes s₀ s = length s
@@ -21,7 +22,7 @@ used d =
     walk-used (at-loop .loop .s .now) (d .before .before .next-record .ensures) (d .found .given .1)
 
 loop-holds : tie.Need-loop-holds Inv-loop μ-loop
-loop-holds c = going-start 0 14 (c .before .args .bytes .now) (c .before .pre)
+loop-holds c = going-start 0 15 (c .before .args .bytes .now) (c .before .pre)
 
 next-record-requires : tie.Need-next-record-requires Inv-loop μ-loop
 next-record-requires c κs = search needs

@@ -1,7 +1,7 @@
 -- `job_reader::lists::slot_of` meets its contract. Assumes nothing.
 use mathlib.Core.Path.{sym, ap, _∙_}
 use Rattle.job_reader.specs.Walk.{isSlot, measured}
-use Rattle.job_reader.proofs.WalkLaws.{no-kind}
+use Rattle.job_walk.proofs.Arms.{no-kind}
 use borrow.Author.Needs.{needs}
 use Rattle.job_reader.proofs.lists.slot_of.Statement.{statement}
 use Rattle.job_reader.proofs.lists.slot_of.Tie as tie

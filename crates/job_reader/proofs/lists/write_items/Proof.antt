@@ -24,7 +24,7 @@ job d =
 abbrev rows : tie.After-settings-end → List ℕ
 rows d = left (job d) (d .settings-end .result)
 
-rows-from : (d : tie.After-settings-end) → From 14 (job d) (rows d)
+rows-from : (d : tie.After-settings-end) → From 15 (job d) (rows d)
 rows-from d = part-from (d .settings-end .ensures)
 
 abbrev columns : tie.After-write-slots → List ℕ
@@ -34,7 +34,7 @@ columns d =
 
 columns-from : (d : tie.After-write-slots) →
     let after-settings-end : tie.After-settings-end = search in
-    From 15 (job after-settings-end) (columns d)
+    From 16 (job after-settings-end) (columns d)
 columns-from d =
     let after-settings-end : tie.After-settings-end = search in
     from-on (rows-from after-settings-end) (d .write-slots .ensures .0) (omega arith)
@@ -46,7 +46,7 @@ merges d =
 
 merges-from : (d : tie.After-write-slots2) →
     let after-settings-end : tie.After-settings-end = search in
-    From 16 (job after-settings-end) (merges d)
+    From 17 (job after-settings-end) (merges d)
 merges-from d =
     let after-write-slots : tie.After-write-slots = search in
     from-on (columns-from after-write-slots) (d .write-slots2 .ensures .0) (omega arith)
@@ -58,7 +58,7 @@ row-breaks d =
 
 row-breaks-from : (d : tie.After-write-merges) →
     let after-settings-end : tie.After-settings-end = search in
-    From 17 (job after-settings-end) (row-breaks d)
+    From 18 (job after-settings-end) (row-breaks d)
 row-breaks-from d =
     let after-write-slots2 : tie.After-write-slots2 = search in
     from-on (merges-from after-write-slots2) (d .write-merges .ensures .0) (omega arith)
@@ -70,7 +70,7 @@ column-breaks d =
 
 column-breaks-from : (d : tie.After-write-breaks) →
     let after-settings-end : tie.After-settings-end = search in
-    From 18 (job after-settings-end) (column-breaks d)
+    From 19 (job after-settings-end) (column-breaks d)
 column-breaks-from d =
     let after-write-merges : tie.After-write-merges = search in
     from-on (row-breaks-from after-write-merges) (d .write-breaks .ensures .0) (omega arith)

@@ -14,11 +14,11 @@ use Rattle.job_reader.proofs.lists.write_merges.Tie as tie
 
 abbrev Inv-loop : tie.InvT-loop
 Inv-loop bytes first-rows₀ first-columns₀ last-rows₀ last-columns₀ s₀ k₀ first-rows first-columns last-rows last-columns s k =
-    Going 16 17 bytes s
-    × Numbers 16 0 bytes s k first-rows₀ first-rows
-    × Numbers 16 1 bytes s k first-columns₀ first-columns
-    × Numbers 16 2 bytes s k last-rows₀ last-rows
-    × Numbers 16 3 bytes s k last-columns₀ last-columns
+    Going 17 18 bytes s
+    × Numbers 17 0 bytes s k first-rows₀ first-rows
+    × Numbers 17 1 bytes s k first-columns₀ first-columns
+    × Numbers 17 2 bytes s k last-rows₀ last-rows
+    × Numbers 17 3 bytes s k last-columns₀ last-columns
 
 abbrev μ-loop : tie.MeasureT-loop
 μ-loop bytes first-rows₀ first-columns₀ last-rows₀ last-columns₀ s₀ k₀ first-rows first-columns last-rows last-columns s k = length s
@@ -27,7 +27,7 @@ abbrev μ-loop : tie.MeasureT-loop
 next : (d : tie.After-found Inv-loop μ-loop) →
     let start : tie.Start Inv-loop μ-loop = search in
     let at-loop : tie.At-loop Inv-loop μ-loop = search in
-    Comes 16 (start .args .bytes .now) (at-loop .loop .s .now) (d .found .given .0 .0) (d .found .given .0 .1 .0)
+    Comes 17 (start .args .bytes .now) (at-loop .loop .s .now) (d .found .given .0 .0) (d .found .given .0 .1 .0)
 next d =
     let at-loop : tie.At-loop Inv-loop μ-loop = search in
     kind-next (at-loop .loop .inv .0) (d .before .before .next-of .ensures) (d .found .given .1)
@@ -55,7 +55,7 @@ place d =
 loop-holds : tie.Need-loop-holds Inv-loop μ-loop
 loop-holds c =
     let start : tie.Start Inv-loop μ-loop = search in (
-      going-start 16 _ (start .args .bytes .now) (start .pre .0),
+      going-start 17 _ (start .args .bytes .now) (start .pre .0),
       one-start (start .pre .1 .0),
       one-start (omega arith),
       one-start (omega arith),

@@ -5,7 +5,8 @@ use Rattle.job_records.specs.declared.records.Record.{Record}
 use Rattle.job_records.specs.Records.{records, marked}
 use Rattle.job_reader.specs.Settings.{flagFrom}
 use Rattle.job_reader.specs.Walk.{isFlag}
-use Rattle.job_reader.proofs.WalkLaws.{Looked, from-none, from-one, found-kind}
+use Rattle.job_walk.proofs.WalkLaws.{Looked, looked-marked, from-none, from-one}
+use Rattle.job_walk.proofs.Arms.{found-kind}
 use borrow.Author.Needs.{needs}
 use Rattle.job_reader.proofs.settings.flag_of.Statement.{statement}
 use Rattle.job_reader.proofs.settings.flag_of.Tie as tie
@@ -13,8 +14,10 @@ use Rattle.job_reader.proofs.settings.flag_of.Tie as tie
 -- what the search for the record says
 looked : (d : tie.After-find-record) →
     let start : tie.Start = search in
-    Looked (start .args .wanted) (records (start .args .bytes .now)) (d .find-record .result)
-looked d = record { is = d .find-record .ensures }
+    Looked (start .args .wanted) (marked (start .args .wanted) (records (start .args .bytes .now))) (d .find-record .result)
+looked d =
+    let start : tie.Start = search in
+    looked-marked _ _ (start .pre .0) (d .find-record .ensures)
 
 -- the record that was found has the setting
 given : (d : tie.After-found) {r : Record} → d .found .given .0 .0 ≡ r →
@@ -23,7 +26,7 @@ given : (d : tie.After-found) {r : Record} → d .found .given .0 .0 ≡ r →
 given d e = from-one (looked (d .before .before)) flagFrom (d .found .given .1) e (λ t. refl)
 
 find-record-requires : tie.Need-find-record-requires
-find-record-requires c κs = c .before .pre .0
+find-record-requires c κs = search needs
 
 enum-known-found : tie.Need-enum-known-found
 enum-known-found c = search needs

@@ -1,8 +1,8 @@
 -- `job_reader::settings::is_there` meets its contract. Assumes nothing.
 use mathlib.Core.Path.{refl}
-use Rattle.job_records.specs.Records.{records}
+use Rattle.job_records.specs.Records.{records, marked}
 use Rattle.job_reader.specs.Settings.{isThere}
-use Rattle.job_reader.proofs.WalkLaws.{Looked, from-none, from-one}
+use Rattle.job_walk.proofs.WalkLaws.{Looked, looked-marked, from-none, from-one}
 use borrow.Author.Needs.{needs}
 use Rattle.job_reader.proofs.settings.is_there.Statement.{statement}
 use Rattle.job_reader.proofs.settings.is_there.Tie as tie
@@ -10,11 +10,13 @@ use Rattle.job_reader.proofs.settings.is_there.Tie as tie
 -- what the search for the record says
 looked : (d : tie.After-find-record) →
     let start : tie.Start = search in
-    Looked (start .args .wanted) (records (start .args .bytes .now)) (d .find-record .result)
-looked d = record { is = d .find-record .ensures }
+    Looked (start .args .wanted) (marked (start .args .wanted) (records (start .args .bytes .now))) (d .find-record .result)
+looked d =
+    let start : tie.Start = search in
+    looked-marked _ _ (start .pre) (d .find-record .ensures)
 
 find-record-requires : tie.Need-find-record-requires
-find-record-requires c κs = c .before .pre
+find-record-requires c κs = search needs
 
 enum-told : tie.Need-enum-told
 enum-told c = search needs

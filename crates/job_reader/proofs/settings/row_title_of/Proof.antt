@@ -1,8 +1,9 @@
 -- `job_reader::settings::row_title_of` meets its contract. Assumes nothing.
 use mathlib.Core.Path.{refl}
-use Rattle.job_records.specs.Records.{records}
+use Rattle.job_records.specs.Records.{records, marked}
 use Rattle.job_reader.specs.Settings.{titleFrom}
-use Rattle.job_reader.proofs.WalkLaws.{Looked, from-none, from-one, found-no-other}
+use Rattle.job_walk.proofs.WalkLaws.{Looked, looked-marked, from-none, from-one}
+use Rattle.job_walk.proofs.Arms.{found-no-other}
 use borrow.Author.Needs.{needs}
 use Rattle.job_reader.proofs.settings.row_title_of.Statement.{statement}
 use Rattle.job_reader.proofs.settings.row_title_of.Tie as tie
@@ -10,11 +11,13 @@ use Rattle.job_reader.proofs.settings.row_title_of.Tie as tie
 -- what the search for the record says
 looked : (d : tie.After-find-record) →
     let start : tie.Start = search in
-    Looked 12 (records (start .args .bytes .now)) (d .find-record .result)
-looked d = record { is = d .find-record .ensures }
+    Looked 13 (marked 13 (records (start .args .bytes .now))) (d .find-record .result)
+looked d =
+    let start : tie.Start = search in
+    looked-marked _ _ (start .pre) (d .find-record .ensures)
 
 find-record-requires : tie.Need-find-record-requires
-find-record-requires c κs = c .before .pre
+find-record-requires c κs = search needs
 
 enum-known-found : tie.Need-enum-known-found
 enum-known-found c = search needs

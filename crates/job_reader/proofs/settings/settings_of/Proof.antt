@@ -1,6 +1,15 @@
 -- `job_reader::settings::settings_of` meets its contract. Assumes nothing.
+use mathlib.Core.Path.{ap, ap₂, _∙_}
+use Rattle.job_records.specs.Records.{UC, records}
+use Rattle.job_walk.specs.Areas.{cellLimitFrom}
+use Rattle.job_walk.proofs.WalkLaws.{in-place, all-areas}
+use borrow.Author.Needs.{needs}
 use Rattle.job_reader.proofs.settings.settings_of.Statement.{statement}
 use Rattle.job_reader.proofs.settings.settings_of.Tie as tie
+
+-- the way back from the limits on
+abbrev start : tie.After-limit-of → tie.Start
+start d = search
 
 number-of-requires : tie.Need-number-of-requires
 number-of-requires c κs = search
@@ -32,20 +41,28 @@ is-there-requires-2 c κs = search
 limit-of-requires : tie.Need-limit-of-requires
 limit-of-requires c κs = search
 
-range-of-requires : tie.Need-range-of-requires
-range-of-requires c κs = search
+cell-limit-of-requires : tie.Need-cell-limit-of-requires
+cell-limit-of-requires c κs = search needs
+
+areas-of-requires : tie.Need-areas-of-requires
+areas-of-requires c κs = search needs
 
 row-title-of-requires : tie.Need-row-title-of-requires
-row-title-of-requires c κs = search
+row-title-of-requires c κs =
+    let limited : tie.After-limit-of = search in
+    start limited .pre .0
 
 column-title-of-requires : tie.Need-column-title-of-requires
-column-title-of-requires c κs = search
+column-title-of-requires c κs =
+    let limited : tie.After-limit-of = search in
+    start limited .pre .0
 
 returns : tie.Need-returns
 returns c =
     let after-row-title-of = c .before in
-    let after-range-of = after-row-title-of .before in
-    let after-limit-of = after-range-of .before in
+    let after-areas-of = after-row-title-of .before in
+    let after-cell-limit-of = after-areas-of .before in
+    let after-limit-of = after-cell-limit-of .before in
     let after-is-there2 = after-limit-of .before in
     let after-flag-of2 = after-is-there2 .before in
     let after-flag-of = after-flag-of2 .before in
@@ -55,10 +72,13 @@ returns c =
     let after-margins-of = after-number-of2 .before in
     let after-is-there = after-margins-of .before in
     let after-number-of = after-is-there .before in
+    let s : tie.Start = after-number-of .before .before in
+    let rs = records (s .args .bytes .now) in
     rw (
       c .column-title-of .ensures,
       after-row-title-of .row-title-of .ensures,
-      after-range-of .range-of .ensures,
+      after-areas-of .areas-of .ensures ∙ all-areas _ rs (s .pre .0) (s .pre .1),
+      after-cell-limit-of .cell-limit-of .ensures ∙ ap cellLimitFrom (in-place 0 UC rs (s .pre .0)),
       after-limit-of .limit-of .ensures,
       after-is-there2 .is-there2 .ensures,
       after-flag-of2 .flag-of2 .ensures,
@@ -85,7 +105,8 @@ settings-of-spec =
     flag-of-requires-2
     is-there-requires-2
     limit-of-requires
-    range-of-requires
+    cell-limit-of-requires
+    areas-of-requires
     row-title-of-requires
     column-title-of-requires
     returns)

@@ -37,7 +37,7 @@ u16-at-requires c κs = sized (search) (c .match .keys5)
 
 setting-at-requires : tie.Need-setting-at-requires
 unfolding formats
-setting-at-requires c κs = le-trans (size-front 13 formats _) (c .before .before .pre)
+setting-at-requires c κs = le-trans (size-front 14 formats _) (c .before .before .pre)
 
 returns : tie.Need-returns
 unfolding find formats
@@ -67,7 +67,7 @@ returns-7 : tie.Need-returns-7
 unfolding formats
 returns-7 c =
     let start : tie.Start = search in
-    c .setting-at .ensures ∙ find-front 13 formats (start .args .s .now) _ (c .before .match .rest)
+    c .setting-at .ensures ∙ find-front 14 formats (start .args .s .now) _ (c .before .match .rest)
 
 pub known-at-spec : {M : Type 1} → statement M
 known-at-spec =

@@ -61,6 +61,9 @@ enum-told-18 c = c .match .keys18
 enum-told-19 : tie.Need-enum-told-19
 enum-told-19 c = c .match .keys19
 
+enum-told-20 : tie.Need-enum-told-20
+enum-told-20 c = c .match .keys20
+
 returns : tie.Need-returns
 returns c = sym (ap rank (c .enum-told .given .1))
 
@@ -118,6 +121,9 @@ returns-18 c = sym (ap rank (c .enum-told18 .given .1))
 returns-19 : tie.Need-returns-19
 returns-19 c = sym (ap rank (c .enum-told19 .given .1))
 
+returns-20 : tie.Need-returns-20
+returns-20 c = sym (ap rank (c .enum-told20 .given .1))
+
 pub rank-of-spec : {M : Type 1} → statement M
 rank-of-spec =
     tie.close
@@ -141,6 +147,7 @@ rank-of-spec =
     enum-told-17
     enum-told-18
     enum-told-19
+    enum-told-20
     returns
     returns-2
     returns-3
@@ -159,4 +166,5 @@ rank-of-spec =
     returns-16
     returns-17
     returns-18
-    returns-19)
+    returns-19
+    returns-20)

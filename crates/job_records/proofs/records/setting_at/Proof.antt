@@ -47,25 +47,29 @@ u64-at-requires : tie.Need-u64-at-requires
 unfolding sizeIn formats
 u64-at-requires c κs = sized (search) (c .match .keys10)
 
+u64-at-requires-2 : tie.Need-u64-at-requires-2
+unfolding sizeIn formats
+u64-at-requires-2 c κs = sized (search) (c .match .keys11)
+
 range-at-requires : tie.Need-range-at-requires
 unfolding sizeIn formats
-range-at-requires c κs = sized (search) (c .match .keys11)
+range-at-requires c κs = sized (search) (c .match .keys12)
 
 u32-at-requires : tie.Need-u32-at-requires
 unfolding sizeIn formats
-u32-at-requires c κs = within _ 10 _ tt (sized (search) (c .match .keys12))
+u32-at-requires c κs = within _ 10 _ tt (sized (search) (c .match .keys13))
 
 u32-at-requires-2 : tie.Need-u32-at-requires-2
 unfolding sizeIn formats
-u32-at-requires-2 c κs = sized (search) (c .before .match .keys12)
+u32-at-requires-2 c κs = sized (search) (c .before .match .keys13)
 
 u16-at-requires-5 : tie.Need-u16-at-requires-5
 unfolding sizeIn formats
-u16-at-requires-5 c κs = within _ 6 _ tt (sized (search) (c .match .keys13))
+u16-at-requires-5 c κs = within _ 6 _ tt (sized (search) (c .match .keys14))
 
 u16-at-requires-6 : tie.Need-u16-at-requires-6
 unfolding sizeIn formats
-u16-at-requires-6 c κs = sized (search) (c .before .match .keys13)
+u16-at-requires-6 c κs = sized (search) (c .before .match .keys14)
 
 returns : tie.Need-returns
 unfolding find formats
@@ -109,19 +113,23 @@ returns-10 c = rw (c .u64-at .ensures) (found (search) (c .before .match .keys10
 
 returns-11 : tie.Need-returns-11
 unfolding find formats
-returns-11 c = rw (c .range-at .ensures) (found (search) (c .before .match .keys11))
+returns-11 c = rw (c .u64-at2 .ensures) (found (search) (c .before .match .keys11))
 
 returns-12 : tie.Need-returns-12
 unfolding find formats
-returns-12 c = rw (c .u32-at2 .ensures, c .before .u32-at .ensures) (found (search) (c .before .before .match .keys12))
+returns-12 c = rw (c .range-at .ensures) (found (search) (c .before .match .keys12))
 
 returns-13 : tie.Need-returns-13
 unfolding find formats
-returns-13 c = rw (c .u16-at6 .ensures, c .before .u16-at5 .ensures) (found (search) (c .before .before .match .keys13))
+returns-13 c = rw (c .u32-at2 .ensures, c .before .u32-at .ensures) (found (search) (c .before .before .match .keys13))
 
 returns-14 : tie.Need-returns-14
+unfolding find formats
+returns-14 c = rw (c .u16-at6 .ensures, c .before .u16-at5 .ensures) (found (search) (c .before .before .match .keys14))
+
+returns-15 : tie.Need-returns-15
 unfolding formats
-returns-14 c = no-mark settings (c .before .before .args .s .now) _ (c .match .rest)
+returns-15 c = no-mark settings (c .before .before .args .s .now) _ (c .match .rest)
 
 pub setting-at-spec : {M : Type 1} → statement M
 setting-at-spec =
@@ -135,6 +143,7 @@ setting-at-spec =
     shared-slice-read-t16
     shared-slice-read-t19
     u64-at-requires
+    u64-at-requires-2
     range-at-requires
     u32-at-requires
     u32-at-requires-2
@@ -153,4 +162,5 @@ setting-at-spec =
     returns-11
     returns-12
     returns-13
-    returns-14)
+    returns-14
+    returns-15)

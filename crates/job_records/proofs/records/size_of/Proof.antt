@@ -24,7 +24,7 @@ returns-4 c = size-of-keys 17236 (21058 ∷ []) 6 _ (refl, (refl, tt)) (c .match
 
 returns-5 : tie.Need-returns-5
 unfolding sizeIn formats
-returns-5 c = size-of-keys 20556 (21076 ∷ []) 10 _ (refl, (refl, tt)) (c .match .keys5)
+returns-5 c = size-of-keys 17237 (20556 ∷ 21076 ∷ []) 10 _ (refl, (refl, (refl, tt))) (c .match .keys5)
 
 returns-6 : tie.Need-returns-6
 unfolding sizeIn formats
@@ -41,7 +41,7 @@ returns-8 c = size-of-keys 18253 [] 50 _ (refl, tt) (c .match .keys8)
 returns-9 : tie.Need-returns-9
 unfolding formats
 returns-9 c =
-    no-size ((18253 ∷ []) ∷ (21057 ∷ 21069 ∷ 22354 ∷ []) ∷ (19523 ∷ []) ∷ (20556 ∷ 21076 ∷ []) ∷ (17236 ∷ 21058 ∷ [])
+    no-size ((18253 ∷ []) ∷ (21057 ∷ 21069 ∷ 22354 ∷ []) ∷ (19523 ∷ []) ∷ (17237 ∷ 20556 ∷ 21076 ∷ []) ∷ (17236 ∷ 21058 ∷ [])
     ∷ (17218 ∷ 17232 ∷ 17235 ∷ 18502 ∷ 22342 ∷ []) ∷ (17487 ∷ 21574 ∷ []) ∷ (16716 ∷ 17480 ∷ 20037 ∷ []) ∷ []) formats _ tt (c .match .rest)
 
 pub size-of-spec : {M : Type 1} → statement M

@@ -1,8 +1,8 @@
--- `job_reader::settings::next_record` meets its contract. Assumes nothing.
-use Rattle.job_reader.proofs.WalkLaws.{next-nothing, next-end, next-kind}
+-- `job_walk::next_record` meets its contract. Assumes nothing.
+use Rattle.job_walk.proofs.WalkLaws.{next-nothing, next-end, next-kind}
 use borrow.Author.Needs.{needs}
-use Rattle.job_reader.proofs.settings.next_record.Statement.{statement}
-use Rattle.job_reader.proofs.settings.next_record.Tie as tie
+use Rattle.job_walk.proofs.next_record.Statement.{statement}
+use Rattle.job_walk.proofs.next_record.Tie as tie
 
 read-record-requires : tie.Need-read-record-requires
 read-record-requires c κs = search needs

@@ -1,20 +1,25 @@
--- `job_reader::settings::range_of` meets its contract. Assumes nothing.
+-- `job_walk::area_of` meets its contract. Assumes nothing.
 use mathlib.Core.Path.{refl, sym}
-use Rattle.job_records.specs.Records.{records}
-use Rattle.job_reader.specs.Settings.{rangeFrom}
-use Rattle.job_reader.proofs.WalkLaws.{Looked, from-none, from-one, found-no-other}
+use lib.ListN.{drop}
+use Rattle.job_records.specs.Records.{AR, records}
+use Rattle.job_walk.specs.Areas.{rangeFrom}
+use Rattle.job_walk.specs.Walk.{inPlace}
+use Rattle.job_walk.proofs.WalkLaws.{Looked, looked-in-place, from-none, from-one}
+use Rattle.job_walk.proofs.Arms.{found-no-other}
 use borrow.Author.Needs.{needs}
-use Rattle.job_reader.proofs.settings.range_of.Statement.{statement}
-use Rattle.job_reader.proofs.settings.range_of.Tie as tie
+use Rattle.job_walk.proofs.area_of.Statement.{statement}
+use Rattle.job_walk.proofs.area_of.Tie as tie
 
 -- what the search for the record says
 looked : (d : tie.After-find-record) →
     let start : tie.Start = search in
-    Looked 11 (records (start .args .bytes .now)) (d .find-record .result)
-looked d = record { is = d .find-record .ensures }
+    Looked AR (drop (start .args .before) (inPlace AR (records (start .args .bytes .now)))) (d .find-record .result)
+looked d =
+    let start : tie.Start = search in
+    looked-in-place AR (start .args .before) _ (d .find-record .ensures)
 
 find-record-requires : tie.Need-find-record-requires
-find-record-requires c κs = c .before .pre
+find-record-requires c κs = search needs
 
 enum-known-found : tie.Need-enum-known-found
 enum-known-found c = search needs
@@ -44,8 +49,8 @@ returns-3 c =
     let d : tie.After-found = search in
     from-one (looked search) rangeFrom (d .found .given .1) (c .before .found2 .given .1) (λ t. refl)
 
-pub range-of-spec : {M : Type 1} → statement M
-range-of-spec =
+pub area-of-spec : {M : Type 1} → statement M
+area-of-spec =
     tie.close
     (tie.spec
     find-record-requires
