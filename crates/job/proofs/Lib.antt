@@ -1,4 +1,6 @@
 -- Laws that belong to no one function.
 pub mod JobLaws
-pub mod Refusals
+pub mod ReadLaws
 pub mod Agreement
+pub mod CountedAreas
+pub mod Refusals

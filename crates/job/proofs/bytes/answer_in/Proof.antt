@@ -1,21 +1,21 @@
--- `job::bytes::plan_in` meets its contract: what was read to lists that hold it is planned. Assumes nothing.
-use Rattle.job.proofs.JobLaws.{was-filled, job-planned}
+-- `job::bytes::answer_in` meets its contract: what was read to lists that hold it is answered. Assumes nothing.
+use Rattle.job.proofs.ReadLaws.{was-filled, job-told}
 use borrow.Author.Needs.{needs}
-use Rattle.job.proofs.bytes.plan_in.Statement.{statement}
-use Rattle.job.proofs.bytes.plan_in.Tie as tie
+use Rattle.job.proofs.bytes.answer_in.Statement.{statement}
+use Rattle.job.proofs.bytes.answer_in.Tie as tie
 
 -- the way back from where the job was read
 abbrev start : tie.After-read-job → tie.Start
 start r = search
 
-abbrev read : tie.After-plan-read → tie.After-read-job
+abbrev read : tie.After-answer-read → tie.After-read-job
 read p = search
 
 read-job-requires : tie.Need-read-job-requires
 read-job-requires c κs = search needs
 
-plan-read-requires : tie.Need-plan-read-requires
-plan-read-requires c κs =
+answer-read-requires : tie.Need-answer-read-requires
+answer-read-requires c κs =
     let r : tie.After-read-job = search in
     was-filled (start r .pre) (r .read-job .ensures)
 
@@ -57,16 +57,16 @@ same-length-12 c = search needs
 
 returns : tie.Need-returns
 returns c =
-    let p : tie.After-plan-read = search in
+    let p : tie.After-answer-read = search in
     let r = read p in
-    job-planned (start r .pre) (r .read-job .ensures) _ _ _ _ _ (p .plan-read .ensures)
+    job-told (start r .pre) (r .read-job .ensures) _ _ _ _ _ _ (p .answer-read .ensures)
 
-pub plan-in-spec : {M : Type 1} → statement M
-plan-in-spec =
+pub answer-in-spec : {M : Type 1} → statement M
+answer-in-spec =
     tie.close
     (tie.spec
     read-job-requires
-    plan-read-requires
+    answer-read-requires
     same-length
     same-length-2
     same-length-3
