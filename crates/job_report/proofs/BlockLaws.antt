@@ -2,42 +2,40 @@
 use mathlib.Core.Path.{_≡_, refl, sym, ap, _∙_}
 use mathlib.Core.Bool.{Bool, true, false, _&&_}
 use mathlib.Core.List.{List, [], _∷_, _++_, append-assoc, append-nil}
-use Prim.Native.Nat.{ℕ, zero, suc, _+_, _-_, _≤_, _<_}
+use Prim.Native.Nat.{ℕ, zero, suc, _+_, _-_, _*_, _≤_, _<_}
 use native.Mathlib.Omega.{arith}
 use lib.Dec.{leb}
-use lib.ListN.{length, take, drop, length-drop, drop-of-length-le}
-use lib.Seq.{length-take-le, drop-drop, take-add}
+use lib.ListN.{length, getD, take, drop, length-take, length-drop, drop-of-length-le}
+use lib.Seq.{length-take-le, take-add}
 use borrow.Author.Tests.{le-leb, lt-leb, leb-true}
 use Rattle.units.specs.Outcome.{Outcome, given, refused, andThen}
+use Rattle.planner_rules.specs.declared.pages.AreaPlan.{AreaPlan}
+use Rattle.planner_rules.specs.declared.pages.PageOrder.{PageOrder}
 use Rattle.planner_rules.specs.declared.pages.Page.{Page}
 use Rattle.planner_rules.specs.declared.pages.Plan.{Plan}
+use Rattle.planner_rules.specs.declared.pages.Spot.{Spot}
+use Rattle.planner_rules.specs.declared.pages.Found.{Found}
+use Rattle.planner_rules.specs.declared.pages.Found.the-variants.{At, Nothing}
 use Rattle.planner_rules.specs.declared.pages.PageAnswer.{PageAnswer}
 use Rattle.planner_rules.specs.declared.pages.PageAnswer.the-variants as page
 use Rattle.planner_rules.specs.Questions.{ask}
-use Rattle.planner_rules.specs.Pages.{holdsRuns, pagesOf, numbered, pageNumbered, pageOutcome}
+use Rattle.planner_rules.specs.Areas.{eightPlans, noPlan}
+use Rattle.planner_rules.specs.Pages.{areaPages, pageAt, pagesIn, holdsArea, numbered, areaNumbered, pageOutcome, spotOf}
 use Rattle.planner_rules.proofs.Laws.{split}
-use Rattle.planner_rules.proofs.ListLaws.{list-length}
 use Rattle.planner_rules.proofs.NoTen.{not-given}
-use Rattle.planner_rules.proofs.PageLaws.{numbered-zero, numbered-past}
+use Rattle.planner_rules.proofs.PageLaws.{numbered-take, page-count}
 use Rattle.planner_rules.proofs.QuestionLaws.{both}
 use Rattle.job_report.specs.declared.blocks.Block.{Block}
 use Rattle.job_report.specs.declared.blocks.BlockAnswer.the-variants.{Value, Refused}
 use Rattle.job_report.specs.Lines.{pageLine, PutAt}
-use Rattle.job_report.specs.Blocks.{linesFrom, held, pagesFrom, pagesHeld, blockLines, blockFrom, fromOneTo, pageBlock, BlockPut, isThere, LinesHeld}
+use Rattle.job_report.specs.Blocks.{linesFrom, held, blockLines, blockOf, areaOf, pagesOn, pagesAt, blockPages, BlockPut, There, LinesHeld}
 use Rattle.job_report.proofs.TextLaws.{and-then, put-none}
-
--- ---- pages by number
+use Rattle.job_report.proofs.SpotLaws.{placed, own-page}
 
 never : {b : Bool} → b ≡ true → b ≡ false → ⊥
 never a b = let e : true ≡ false = sym a ∙ b in let z : _≡_ {A = ℕ} 0 1 = cc in omega arith
 
--- a number that has a page is from 1 to the count
-there-within : (pages : List Page) (n : ℕ) → isThere (numbered pages n) ≡ true → (1 ≤ n) × (n ≤ length pages)
-there-within pages zero h = absurd (never h (ap isThere (numbered-zero pages)))
-there-within pages (suc n) h = (
-  omega arith,
-  split (suc n) (length pages) (λ l. l) (λ l. absurd (never h (ap isThere (numbered-past pages (suc n) l)))),
-)
+-- ---- pages by number
 
 -- the page with a number stands after those before it
 there-is : (pages : List Page) (n : ℕ) (p : Page) → numbered pages (suc n) ≡ given p → drop n pages ≡ p ∷ drop (suc n) pages
@@ -53,56 +51,17 @@ there-none [] n k e = omega arith
 there-none (x ∷ pages) zero k e = absurd (not-given x k e)
 there-none (x ∷ pages) (suc n) k e = omega (arith, there-none pages n k e)
 
--- 14 asks whether the number has a page
-asked-there : (pages : List Page) (n : ℕ) (b : Block) → ask 14 (fromOneTo (length pages) n) (given b) ≡ andThen (numbered pages n) (λ _. given b)
-asked-there pages n b = go (numbered pages n) refl
-  where
-    same : (k : ℕ) → _≡_ {A = Outcome Page} (refused 14) (refused k) → _≡_ {A = Outcome Block} (refused 14) (refused k)
-    same k e = let number : 14 ≡ k = cc in ap refused number
+-- a number of the pages after b others
+numbered-drop : (b : ℕ) (pages : List Page) (n : ℕ) → numbered (drop b pages) (suc n) ≡ numbered pages (suc (b + n))
+unfolding numbered
+numbered-drop zero pages n = let e : 0 + n ≡ n = omega arith in rw e
+numbered-drop (suc b) [] n = refl
+numbered-drop (suc b) (x ∷ pages) n = let e : suc b + n ≡ suc (b + n) = omega arith in rw e (numbered-drop b pages n)
 
-    go : (o : Outcome Page) → numbered pages n ≡ o → ask 14 (fromOneTo (length pages) n) (given b) ≡ andThen o (λ _. given b)
-    go (given p) e =
-        let w = there-within pages n (ap isThere e) in
-        rw (le-leb 1 n (w .0), le-leb n (length pages) (w .1))
-    go (refused k) e =
-        split 1 n
-        (λ low.
-        split n (length pages)
-        (λ l. absurd (omega (arith, there-none pages (n - 1) k (let z : suc (n - 1) ≡ n = omega arith in rw z e))))
-        (λ l. rw (le-leb 1 n low, lt-leb n (length pages) l) (same k (sym (numbered-past pages n l) ∙ e))))
-        (λ z. let none : n ≡ 0 = omega arith in rw (lt-leb 1 n z) (same k (sym (ap (numbered pages) none ∙ numbered-zero pages) ∙ e)))
-
-module _ (p : Plan) (rows columns : List ℕ) where
-  abbrev all : List Page
-  all = pagesOf p rows columns
-
-  -- a block is refused where its first page is, and with the same number
-  pub block-of-page : (from : ℕ) → pageBlock p rows columns from ≡ andThen (pageNumbered p rows columns from) (λ _. given (blockFrom p rows columns from))
-  unfolding pageBlock pageNumbered
-  block-of-page from = go (holdsRuns p rows columns)
-    where
-      go : (holds : Bool) → ask 11 holds (ask 14 (fromOneTo (length all) from) (given (blockFrom p rows columns from)))
-          ≡ andThen (ask 11 holds (numbered all from)) (λ _. given (blockFrom p rows columns from))
-      go true = asked-there all from (blockFrom p rows columns from)
-      go false = refl
-
-  -- no plan has more pages than it says
-  pub all-within : length all ≤ p .pages
-  all-within = omega (arith, list-length p rows columns)
-
-  -- a first page that is there: its number is from 1 to the count, and a number has the page of the list
-  pub record There (from : ℕ) : Type 0 where
-    pub from-one : 1 ≤ from
-    pub to-count : from ≤ length all
-    pub is-numbered : (n : ℕ) → pageNumbered p rows columns n ≡ numbered all n
-
-  pub first-there : (from : ℕ) → isThere (pageNumbered p rows columns from) ≡ true → There from
-  unfolding pageNumbered
-  first-there from = go (holdsRuns p rows columns) refl
-    where
-      go : (holds : Bool) → holdsRuns p rows columns ≡ holds → isThere (ask 11 holds (numbered all from)) ≡ true → There from
-      go true e h = let w = there-within all from h in record { from-one = w .0; to-count = w .1; is-numbered = λ n. rw e }
-      go false e h = absurd (never h refl)
+-- how many pages an area has
+pub area-count : (p : Plan) (a : AreaPlan) (rows columns : List ℕ) → length (areaPages (p .order) a rows columns) ≡ pagesIn a
+unfolding areaPages
+area-count p a rows columns = page-count (a .«row_runs») (a .«column_runs») (pageAt rows columns a) (p .order)
 
 -- ---- how many pages a block holds
 
@@ -162,19 +121,16 @@ pub shut-told : {X : Type 0} (bytes last pages most : ℕ) → (leb bytes last &
 shut-told bytes last pages most e f g =
     split bytes last (λ h. split pages most (λ l. absurd (never (rw (le-leb bytes last h, le-leb pages most l)) e)) g) f
 
-module _ (p : Plan) (rows columns : List ℕ) (from : ℕ) where
-  abbrev rest : List Page
-  rest = pagesFrom p rows columns from
-
+module _ (from : ℕ) (rest : List Page) where
   -- k pages have their lines in so many bytes at the start of the array, which was `old`; the block holds these and what it holds after them
   pub record Holding (old new : List ℕ) (k bytes : ℕ) : Type 0 where
     pub so-far : PutAt (linesFrom from (take k rest)) 0 bytes old new
-    pub in-all : pagesHeld p rows columns from ≡ k + held bytes (from + k) (drop k rest)
+    pub in-all : held 0 from rest ≡ k + held bytes (from + k) (drop k rest)
     pub there : k ≤ length rest
     pub same : length new ≡ length old
 
   pub holding-none : (old : List ℕ) → Holding old old 0 0
-  unfolding linesFrom pagesHeld
+  unfolding linesFrom
   holding-none old = record {
     so-far = put-none 0 old;
     in-all = let e : from + 0 ≡ from = omega arith in rw e (omega arith);
@@ -183,88 +139,142 @@ module _ (p : Plan) (rows columns : List ℕ) (from : ℕ) where
   }
 
   -- the lines where k pages are held
-  lines-held : (k : ℕ) → pagesHeld p rows columns from ≡ k → blockLines p rows columns from ≡ linesFrom from (take k rest)
+  lines-held : (k : ℕ) → held 0 from rest ≡ k → blockLines from rest ≡ linesFrom from (take k rest)
   unfolding blockLines
   lines-held k e = ap (λ (n : ℕ). linesFrom from (take n rest)) e
 
-  -- the pages after k of them
-  after : (k : ℕ) → 1 ≤ from → drop k rest ≡ drop (from + k - 1) (pagesOf p rows columns)
-  after k low =
-      let e : from - 1 + k ≡ from + k - 1 = omega arith in
-      rw e at (drop-drop k (from - 1) (pagesOf p rows columns))
-
-  module _ (w : There p rows columns from) (old new : List ℕ) (k bytes : ℕ) (h : Holding old new k bytes) where
+  module _ (old new : List ℕ) (k bytes : ℕ) (h : Holding old new k bytes) where
     -- nothing more is held
     abbrev Done : Type 0
-    Done = LinesHeld p rows columns from (record { pages = k; bytes = bytes }) old new
+    Done = LinesHeld from rest (record { pages = k; bytes = bytes }) old new
 
     done : held bytes (from + k) (drop k rest) ≡ 0 → Done
     done e =
-        let all-held : pagesHeld p rows columns from ≡ k = omega (arith, h .in-all) in
-        let lines : blockLines p rows columns from ≡ linesFrom from (take k rest) = lines-held k all-held in
+        let all-held : held 0 from rest ≡ k = omega (arith, h .in-all) in
+        let lines : blockLines from rest ≡ linesFrom from (take k rest) = lines-held k all-held in
         let count : bytes ≡ length (linesFrom from (take k rest)) = omega (arith, h .so-far .after) in
         record { block-is = rw (all-held, lines, ← count); array-is = rw lines (h .so-far .array-is) }
 
-    none-left : length rest ≤ k → Done
+    -- there is no page left, or no room
+    holding-past : length rest ≤ k → Done
     unfolding held
-    none-left l = done (ap (held bytes (from + k)) (drop-of-length-le rest {i = k} l))
+    holding-past l = done (ap (held bytes (from + k)) (drop-of-length-le rest {i = k} l))
 
-    -- there is no room, or no number up to the count
     pub holding-full : 65280 < bytes → Done
     holding-full l = done (held-full bytes (from + k) (drop k rest) (omega arith))
 
-    pub holding-last : p .pages - from < k → Done
-    holding-last l =
-        none-left (omega (arith, w .from-one, w .to-count, all-within p rows columns, length-drop (from - 1) (pagesOf p rows columns)))
+    -- there is no such page
+    pub holding-refused : (n : ℕ) → numbered rest (suc k) ≡ refused n → Done
+    holding-refused n e = holding-past (there-none rest k n e)
 
-    module _ (o : Outcome Page) (asked : o ≡ pageNumbered p rows columns (from + k)) where
-      number-is : suc (from + k - 1) ≡ from + k
-      number-is = omega (arith, w .from-one)
+    -- a line more
+    pub holding-more : (page : Page) (newer : List ℕ) (more : ℕ) → numbered rest (suc k) ≡ given page → bytes ≤ 65280 → bytes ≤ length old
+        → PutAt (pageLine (from + k) page) bytes more new newer → length newer ≡ length new → Holding old newer (k + 1) more
+    holding-more page newer more e room inside put s =
+        let follow : suc k ≡ k + 1 = omega arith in
+        let here : drop k rest ≡ page ∷ drop (k + 1) rest = rw follow at (there-is rest k page e) in
+        let line : linesFrom (from + k) (take 1 (drop k rest)) ≡ pageLine (from + k) page = rw here (one-line (from + k) page (drop (k + 1) rest)) in
+        let place : bytes + length (pageLine (from + k) page) ≡ more = omega (arith, put .after) in
+        let next : suc (from + k) ≡ from + (k + 1) = omega arith in
+        record {
+          so-far = rw (lines-add from k 1 rest (h .there), line) (and-then inside (h .so-far) put);
+          in-all = h .in-all
+              ∙ ap (λ (n : ℕ). k + n) (ap (held bytes (from + k)) here ∙ held-more bytes (from + k) page (drop (k + 1) rest) (omega arith))
+              ∙ rw (place, next) (omega arith);
+          there = omega (arith, length-drop k rest, ap length here);
+          same = s ∙ h .same;
+        }
 
-      is : o ≡ numbered (pagesOf p rows columns) (suc (from + k - 1))
-      is = rw number-is (asked ∙ w .is-numbered (from + k))
+-- ---- the pages of an area that a block may hold
 
-      -- there is no such page
-      pub holding-refused : (n : ℕ) → o ≡ refused n → Done
-      holding-refused n e =
-          none-left
-          (omega (arith, w .from-one, there-none (pagesOf p rows columns) (from + k - 1) n (sym is ∙ e), length-drop (from - 1) (pagesOf p rows columns)))
+-- those after so many, and at most so many and one
+abbrev pub part : PageOrder → AreaPlan → List ℕ → List ℕ → ℕ → ℕ → List Page
+part order a rows columns before most = take (most + 1) (drop before (areaPages order a rows columns))
 
-      -- a line more
-      pub holding-more : (page : Page) (newer : List ℕ) (more : ℕ) → o ≡ given page → bytes ≤ 65280 → bytes ≤ length old
-          → PutAt (pageLine (from + k) page) bytes more new newer → length newer ≡ length new → Holding old newer (k + 1) more
-      holding-more page newer more e room inside put s =
-          let low = w .from-one in
-          let follow : suc (from + k - 1) ≡ from + (k + 1) - 1 = omega arith in
-          let here : drop k rest ≡ page ∷ drop (k + 1) rest =
-          rw (after (k + 1) low, ← follow) (after k low ∙ there-is (pagesOf p rows columns) (from + k - 1) page (sym is ∙ e)) in
-          let line : linesFrom (from + k) (take 1 (drop k rest)) ≡ pageLine (from + k) page = rw here (one-line (from + k) page (drop (k + 1) rest)) in
-          let place : bytes + length (pageLine (from + k) page) ≡ more = omega (arith, put .after) in
-          let next : suc (from + k) ≡ from + (k + 1) = omega arith in
-          record {
-            so-far = rw (lines-add from k 1 rest (h .there), line) (and-then inside (h .so-far) put);
-            in-all = h .in-all
-                ∙ ap (λ (n : ℕ). k + n) (ap (held bytes (from + k)) here ∙ held-more bytes (from + k) page (drop (k + 1) rest) (omega arith))
-                ∙ rw (place, next) (omega arith);
-            there = omega (arith, length-drop k rest, ap length here);
-            same = s ∙ h .same;
-          }
+module _ (order : PageOrder) (a : AreaPlan) (rows columns : List ℕ) (before most : ℕ) where
+  -- they are no more than that
+  pub part-last : (from : ℕ) (old new : List ℕ) (k bytes : ℕ) → Holding from (part order a rows columns before most) old new k bytes → most < k
+      → LinesHeld from (part order a rows columns before most) (record { pages = k; bytes = bytes }) old new
+  part-last from old new k bytes h l =
+      holding-past from (part order a rows columns before most) old new k bytes h
+      (omega (arith, length-take (most + 1) (drop before (areaPages order a rows columns))))
+
+  -- a page of them, by `area_page`
+  pub part-asked : holdsArea a rows columns ≡ true → (k : ℕ) → k ≤ most
+      → areaNumbered order a rows columns (before + k + 1) ≡ numbered (part order a rows columns before most) (suc k)
+  unfolding areaNumbered
+  part-asked holds k h =
+      let number : before + k + 1 ≡ suc (before + k) = omega arith in
+      rw (holds, number)
+      (sym
+      (numbered-take (most + 1) (drop before (areaPages order a rows columns)) (suc k) (omega arith)
+      ∙ numbered-drop before (areaPages order a rows columns) k))
+
+module _ (p : Plan) (n : ℕ) (s : Spot) (rows columns : List ℕ) where
+  -- how many they are
+  pub on-count : length (pagesOn p rows columns n s) ≤ p .pages + 1 - n
+  unfolding pagesOn
+  on-count = omega (arith, length-take (p .pages + 1 - n) (drop (s .before) (areaPages (p .order) (areaOf p s) rows columns)))
+
+  -- of the area as it is held
+  module _ (w : There p n s rows columns) (a : AreaPlan) (e : a ≡ getD (eightPlans (p .areas)) (s .area) noPlan) where
+    area-same : a ≡ areaOf p s
+    area-same = e ∙ sym (placed p n s (w .found) .area-is)
+
+    pub area-holds : holdsArea a rows columns ≡ true
+    area-holds = rw area-same (w .holds)
+
+    pub part-is : part (p .order) a rows columns (s .before) (p .pages - n) ≡ pagesOn p rows columns n s
+    unfolding pagesOn
+    part-is =
+        let most : p .pages - n + 1 ≡ p .pages + 1 - n = omega (arith, placed p n s (w .found) .to-count) in
+        rw (area-same, most)
+
+    -- so the block that the loop leaves is the one that is asked for
+    pub held-on : (b : Block) (old new : List ℕ) → LinesHeld n (part (p .order) a rows columns (s .before) (p .pages - n)) b old new
+        → LinesHeld n (pagesOn p rows columns n s) b old new
+    held-on b old new l = rw part-is at l
 
 -- ---- the answer
 
-module _ (p : Plan) (rows columns : List ℕ) (from : ℕ) (a : PageAnswer) (asked : pageOutcome a ≡ pageNumbered p rows columns from) where
-  is-block : andThen (pageOutcome a) (λ _. given (blockFrom p rows columns from)) ≡ pageBlock p rows columns from
-  is-block = rw asked (sym (block-of-page p rows columns from))
+module _ (p : Plan) (n : ℕ) (rows columns : List ℕ) where
+  -- there is no such page
+  pub block-nowhere : spotOf p n ≡ Nothing → (old : List ℕ) → BlockPut (blockPages p rows columns n) n (Refused 14) old old
+  unfolding blockPages
+  block-nowhere e old = rw e (record { answer = refl; array-is = refl })
 
-  -- the first page is there
-  pub block-given : (first : Page) → a ≡ page.Value first → (b : Block) (old new : List ℕ) → LinesHeld p rows columns from b old new
-      → BlockPut p rows columns from (Value b) old new
-  block-given first e b old new w =
-      let told : given (blockFrom p rows columns from) ≡ pageBlock p rows columns from = rw e at is-block in
-      record { answer = ap given (w .block-is) ∙ told; array-is = rw (← told) (w .array-is) }
+  module _ (s : Spot) (found : spotOf p n ≡ At s) (a : AreaPlan) (is : a ≡ getD (eightPlans (p .areas)) (s .area) noPlan)
+      (answer : PageAnswer) (asked : pageOutcome answer ≡ areaNumbered (p .order) a rows columns 1) where
+    held-same : a ≡ areaOf p s
+    held-same = is ∙ sym (placed p n s found .area-is)
 
-  -- there is none
-  pub block-refused : (n : ℕ) → a ≡ page.Refused n → (old : List ℕ) → BlockPut p rows columns from (Refused n) old old
-  block-refused n e old =
-      let told : refused n ≡ pageBlock p rows columns from = rw e at is-block in
-      record { answer = told; array-is = rw (← told) }
+    -- the area has a page, so that only 11 refuses its first
+    first-is : ask 11 (holdsArea (areaOf p s) rows columns) (numbered (areaPages (p .order) (areaOf p s) rows columns) 1) ≡ pageOutcome answer
+    unfolding areaNumbered
+    first-is = rw (← held-same) (sym asked)
+
+    -- the runs of the area are held
+    pub first-there : (first : Page) → answer ≡ page.Value first → There p n s rows columns
+    first-there first e = record { found = found; holds = go (holdsArea (areaOf p s) rows columns) refl (first-is ∙ ap pageOutcome e) }
+      where
+        go : (b : Bool) → holdsArea (areaOf p s) rows columns ≡ b → ask 11 b (numbered (areaPages (p .order) (areaOf p s) rows columns) 1) ≡ given first
+            → holdsArea (areaOf p s) rows columns ≡ true
+        go true i j = i
+        go false i j = absurd (not-given first 11 (sym j))
+
+    pub block-given : (first : Page) → answer ≡ page.Value first → (b : Block) (old new : List ℕ) → LinesHeld n (pagesOn p rows columns n s) b old new
+        → BlockPut (blockPages p rows columns n) n (Value b) old new
+    unfolding blockPages
+    block-given first e b old new w =
+        rw (found, first-there first e .holds) (record { answer = ap given (w .block-is); array-is = w .array-is })
+
+    -- they are not
+    pub block-refused : (k : ℕ) → answer ≡ page.Refused k → (old : List ℕ) → BlockPut (blockPages p rows columns n) n (Refused k) old old
+    unfolding blockPages
+    block-refused k e old = rw found (go (holdsArea (areaOf p s) rows columns) (first-is ∙ ap pageOutcome e))
+      where
+        go : (b : Bool) → ask 11 b (numbered (areaPages (p .order) (areaOf p s) rows columns) 1) ≡ refused k
+            → BlockPut (ask 11 b (given (pagesOn p rows columns n s))) n (Refused k) old old
+        go true j =
+            absurd (omega (arith, there-none (areaPages (p .order) (areaOf p s) rows columns) 0 k j, area-count p (areaOf p s) rows columns, own-page p n s found))
+        go false j = let same : 11 ≡ k = cc in rw (← same) (record { answer = refl; array-is = refl })

@@ -11,8 +11,10 @@ use Rattle.units.specs.Outcome.{given, refused}
 use Rattle.planner_rules.specs.declared.pages.Notes.{Notes}
 use Rattle.planner_rules.specs.declared.pages.Page.{Page}
 use Rattle.planner_rules.specs.declared.pages.PageOrder.the-variants.{DownThenOver}
+use Rattle.planner_rules.specs.declared.pages.AreaPlan.{AreaPlan}
 use Rattle.planner_rules.specs.declared.pages.Plan.{Plan}
-use Rattle.job_report.specs.Lines.{digitsWithin, decimal, pageLine, headLines}
+use Rattle.planner_rules.specs.Areas.{heldPlans}
+use Rattle.job_report.specs.Lines.{digitsWithin, decimal, pageLine, areaLine, headLines}
 
 -- ---- the digits of a large number
 
@@ -49,18 +51,13 @@ no-notes = record {
   «overflowing_runs» = 0;
 }
 
+-- an area of two runs an axis
+abbrev two-by-two : AreaPlan
+two-by-two = record { permille = 1000; unreachable = 0; «row_runs» = 2; «column_runs» = 2; «rows_empty» = false; «columns_empty» = false }
+
 -- the plan "For Letter, range 0,0 to 2,1, three rows and two columns of 400,000"
 abbrev example : Plan
-example = record {
-  permille = 1000;
-  «row_runs» = 2;
-  «column_runs» = 2;
-  «rows_empty» = false;
-  «columns_empty» = false;
-  pages = 4;
-  order = DownThenOver;
-  notes = no-notes;
-}
+example = record { areas = heldPlans (two-by-two ∷ []); pages = 4; order = DownThenOver; notes = no-notes }
 
 -- its second page, where the sizes are so many
 abbrev second-sized : ℕ → Page
@@ -97,3 +94,8 @@ second-told = second-sized-told 400000 _ (few-enough 5 400000 (lit≤ tt) (lit< 
 pub six-told : headLines (refused 6) ≡ 110 ∷ 111 ∷ 32 ∷ 54 ∷ 10 ∷ []
 unfolding headLines
 six-told = refl
+
+-- "a line `area` with its number from 1 and its permille": `area 2 100`
+pub area-told : areaLine 2 100 ≡ 97 ∷ 114 ∷ 101 ∷ 97 ∷ 32 ∷ 50 ∷ 32 ∷ 49 ∷ 48 ∷ 48 ∷ 10 ∷ []
+unfolding areaLine
+area-told = refl

@@ -1,15 +1,16 @@
--- What a plan is told by: document 01, section "Jobs", in bytes of ASCII; and text in a lent array. Assumes nothing.
+-- What a plan is told by: document 01, section "Jobs", and document 02, T-02, in bytes of ASCII; and text in a lent array. Assumes nothing.
 use mathlib.Core.Path.{_≡_}
 use mathlib.Core.Bool.{cond}
 use mathlib.Core.List.{List, [], _∷_, _++_}
 use Prim.Native.Nat.{ℕ, zero, suc, _+_, _/_, _%_}
 use lib.Dec.{ltb}
-use lib.ListN.{length, take, drop}
+use lib.ListN.{length, getD, take, drop}
 use Rattle.units.specs.Outcome.{Outcome, given, refused}
 use Rattle.planner_rules.specs.declared.pages.Notes.{Notes}
 use Rattle.planner_rules.specs.declared.pages.Page.{Page}
 use Rattle.planner_rules.specs.declared.pages.Plan.{Plan}
 use Rattle.planner_rules.specs.Slots.{written}
+use Rattle.planner_rules.specs.Areas.{plansIn, noPlan}
 
 -- ---- a line
 
@@ -36,10 +37,14 @@ line word ns = word ++ numbers ns ++ (10 ∷ [])
 
 -- ---- the lines of a plan
 
--- "Permille, pages", after `plan`
+-- "the first area's permille"
+abbrev pub firstPermille : Plan → ℕ
+firstPermille p = getD (plansIn (p .areas)) 0 noPlan .permille
+
+-- "Permille, pages", after `plan`: "The plan line shows the first area's permille", and the pages' total
 unfoldable pub planLine : Plan → List ℕ
 unfolding line
-planLine p = line (112 ∷ 108 ∷ 97 ∷ 110 ∷ []) (p .permille ∷ p .pages ∷ [])
+planLine p = line (112 ∷ 108 ∷ 97 ∷ 110 ∷ []) (firstPermille p ∷ p .pages ∷ [])
 
 -- "notes in order", after `notes`: "unknown paper, margins, clamp, unreachable, titles ignored, titles expanded, merge expansions, break
 -- shifts, overflowing runs"
@@ -49,6 +54,11 @@ notesLine n =
     line (110 ∷ 111 ∷ 116 ∷ 101 ∷ 115 ∷ [])
     (n .«unknown_paper» ∷ n .«invalid_margins» ∷ n .«scale_clamped» ∷ n .«fit_unreachable» ∷ n .«titles_ignored» ∷ n .«titles_expanded»
     ∷ n .«merge_expansions» ∷ n .«break_shifts» ∷ n .«overflowing_runs» ∷ [])
+
+-- "a line `area` with its number from 1 and its permille"
+unfoldable pub areaLine : ℕ → ℕ → List ℕ
+unfolding line
+areaLine number permille = line (97 ∷ 114 ∷ 101 ∷ 97 ∷ []) (number ∷ permille ∷ [])
 
 -- "page number, vertical, horizontal, first and last row, first and last column, row size, column size", after `page`
 unfoldable pub pageLine : ℕ → Page → List ℕ

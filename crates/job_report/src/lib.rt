@@ -5,6 +5,7 @@ mod text;
 
 pub use blocks::Block;
 pub use blocks::BlockAnswer;
-pub use blocks::page_block;
+pub use blocks::area_block;
+pub use lines::area_line;
 pub use lines::head_lines;
 pub use lines::page_line;

@@ -1,21 +1,34 @@
-// The lines of a plan: document 01, section "Jobs". Each private function puts its line from the place `at` on, and returns the place after it.
+// The lines of a plan: document 01, section "Jobs", and document 02, T-02. Each private function puts its line from the place `at` on, and returns the place after it.
 use crate::text::line;
 use planner_rules::Notes;
 use planner_rules::Page;
 use planner_rules::Plan;
 use planner_rules::Planning;
+ghost use mathlib.Core.Path.{_≡_};
 ghost use Prim.Native.Nat.{_+_, _≤_};
 ghost use lib.ListN.{length};
 ghost use Rattle.planner_rules.specs.Plan.{planOutcome};
 ghost use Rattle.job_report.specs.Lines as section;
 
-// The permille and the pages.
+// The first area's permille; 0 where there is no area.
+fn first_permille(plan: Plan) -> u16
+    ensures { λ r. ⌜ r ≡ section.firstPermille plan ⌝ }
+{
+    let areas = plan.areas;
+    if areas.count == 0 {
+        return 0;
+    }
+    let first = areas.first;
+    first.permille
+}
+
+// The first area's permille and the pages.
 fn plan_line(out: &mut [u8], at: usize, plan: Plan) -> usize
     requires { ⌜ at + 47 ≤ length (now out) ⌝ }
     ensures { λ r. ⌜ section.PutAt (section.planLine plan) at r (now (out .entry)) (now (out .exit)) ⌝ }
     ensures { λ r. ⌜ r ≤ at + 47 ⌝ }
 {
-    let list = [plan.permille as u64, plan.pages];
+    let list = [first_permille(plan) as u64, plan.pages];
     line(out, at, b"plan", &list)
 }
 
@@ -47,6 +60,16 @@ fn refusal_line(out: &mut [u8], at: usize, number: u8) -> usize
 {
     let list = [number as u64];
     line(out, at, b"no", &list)
+}
+
+// The number of an area, from 1, and its permille.
+fn area_at(out: &mut [u8], at: usize, number: u64, permille: u16) -> usize
+    requires { ⌜ at + 47 ≤ length (now out) ⌝ }
+    ensures { λ r. ⌜ section.PutAt (section.areaLine number permille) at r (now (out .entry)) (now (out .exit)) ⌝ }
+    ensures { λ r. ⌜ r ≤ at + 47 ⌝ }
+{
+    let list = [number, permille as u64];
+    line(out, at, b"area", &list)
 }
 
 // A page and its number.
@@ -83,6 +106,13 @@ pub fn head_lines(planning: Planning, out: &mut [u8; 256]) -> usize
         }
         Planning::Refused(number) => refusal_line(out, 0, number),
     }
+}
+
+// The line before the pages of a later area, at the start of `out`; it answers how many bytes.
+pub fn area_line(number: u64, permille: u16, out: &mut [u8; 256]) -> usize
+    ensures { λ r. ⌜ section.LinesPut (section.areaLine number permille) r (now (out .entry)) (now (out .exit)) ⌝ }
+{
+    area_at(out, 0, number, permille)
 }
 
 // The line of a page, at the start of `out`; it answers how many bytes.

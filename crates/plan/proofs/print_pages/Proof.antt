@@ -1,39 +1,31 @@
 -- `plan::print_pages` is safe and ends: each block holds a page more, and none past the plan's count. Assumes nothing.
+use mathlib.Core.Path.{sym, _∙_}
 use Prim.Native.Nat.{_+_, _-_, _≤_}
+use native.Mathlib.Omega.{arith}
+use Rattle.job_report.proofs.SpotLaws.{spot-eight}
+use borrow.Author.Needs.{needs}
 use borrow.Author.Needs.{needs}
 use native.Mathlib.Omega.{arith}
-use Rattle.job_report.proofs.WholeLaws.{Got, block-got}
 use Rattle.plan.proofs.print_pages.Statement.{statement}
 use Rattle.plan.proofs.print_pages.Tie as tie
 
 abbrev Inv-loop : tie.InvT-loop
-Inv-loop plan row-runs column-runs out₀ done₀ out done = done ≤ plan .pages
+Inv-loop bytes plan row-runs₀ column-runs₀ done₀ row-runs column-runs done = done ≤ plan .pages
 
 abbrev μ-loop : tie.MeasureT-loop
-μ-loop plan row-runs column-runs out₀ done₀ out done = plan .pages - done
-
--- a block that was put: what it holds, and that its bytes are bytes of the array
-got : (t : tie.After-answer Inv-loop μ-loop) →
-    let start : tie.Start Inv-loop μ-loop = search in
-    let l : tie.At-loop Inv-loop μ-loop = search in
-    let n : tie.After-page-block Inv-loop μ-loop = search in
-    let a = start .args in
-    Got (a .plan) (a .row-runs .now) (a .column-runs .now) (l .loop .done + 1) (t .answer .given .0 .0) (n .page-block .last .1 .1 .1 .1 .0)
-got t =
-    let n : tie.After-page-block Inv-loop μ-loop = search in
-    block-got _ _ _ _ _ _ _ (rw (t .answer .given .1) at (n .page-block .ensures))
+μ-loop bytes plan row-runs₀ column-runs₀ done₀ row-runs column-runs done = plan .pages - done
 
 loop-holds : tie.Need-loop-holds Inv-loop μ-loop
 loop-holds c = search needs
 
-add-page-block : tie.Need-add-page-block Inv-loop μ-loop
-add-page-block c = search needs
+add-page-spot : tie.Need-add-page-spot Inv-loop μ-loop
+add-page-spot c = search needs
 
-page-block-requires : tie.Need-page-block-requires Inv-loop μ-loop
-page-block-requires c κs = search needs
+page-spot-requires : tie.Need-page-spot-requires Inv-loop μ-loop
+page-spot-requires c κs = search needs
 
-enum-known-answer : tie.Need-enum-known-answer Inv-loop μ-loop
-enum-known-answer c = search needs
+enum-known-found : tie.Need-enum-known-found Inv-loop μ-loop
+enum-known-found c = search needs
 
 enum-told : tie.Need-enum-told Inv-loop μ-loop
 enum-told c = search needs
@@ -41,40 +33,38 @@ enum-told c = search needs
 returns : tie.Need-returns Inv-loop μ-loop
 returns c = search needs
 
-array-share-prefix-out : tie.Need-array-share-prefix-out Inv-loop μ-loop
-array-share-prefix-out c =
-    let t : tie.After-answer Inv-loop μ-loop = search in
-    got t .counts .0
-
-slice-aggregate-written : tie.Need-slice-aggregate-written Inv-loop μ-loop
-slice-aggregate-written c =
-    let t : tie.After-answer Inv-loop μ-loop = search in
-    got t .counts .1
-
-written-requires : tie.Need-written-requires Inv-loop μ-loop
-written-requires c κs = search needs
+begin-area-requires : tie.Need-begin-area-requires Inv-loop μ-loop
+begin-area-requires c κs =
+    let n : tie.After-page-spot Inv-loop μ-loop = search in
+    let spot : tie.After-found Inv-loop μ-loop = search in
+    spot-eight _ _ _ (sym (n .page-spot .ensures) ∙ spot .found .given .1)
 
 returns-2 : tie.Need-returns-2 Inv-loop μ-loop
 returns-2 c = search needs
 
-add-done : tie.Need-add-done Inv-loop μ-loop
-add-done c =
-    let t : tie.After-answer Inv-loop μ-loop = search in
-    let plan : tie.After-struct-known Inv-loop μ-loop = search in
-    omega (arith, got t .holds .to-count, plan .struct-known .given)
+add-print-block : tie.Need-add-print-block Inv-loop μ-loop
+add-print-block c = search needs
 
-loop-less : tie.Need-loop-less Inv-loop μ-loop
-loop-less c =
-    let t : tie.After-answer Inv-loop μ-loop = search in
-    omega (arith, got t .holds .to-count, got t .holds .some)
-
-loop-again : tie.Need-loop-again Inv-loop μ-loop
-loop-again c =
-    let t : tie.After-answer Inv-loop μ-loop = search in
-    omega (arith, got t .holds .to-count)
+print-block-requires : tie.Need-print-block-requires Inv-loop μ-loop
+print-block-requires c κs = search needs
 
 returns-3 : tie.Need-returns-3 Inv-loop μ-loop
 returns-3 c = search needs
+
+add-done : tie.Need-add-done Inv-loop μ-loop
+add-done c =
+    let p : tie.After-print-block Inv-loop μ-loop = search in
+    let plan : tie.After-struct-known Inv-loop μ-loop = search in
+    omega (arith, p .print-block .ensures, plan .struct-known .given)
+
+loop-less : tie.Need-loop-less Inv-loop μ-loop
+loop-less c = search needs
+
+loop-again : tie.Need-loop-again Inv-loop μ-loop
+loop-again c = search needs
+
+returns-4 : tie.Need-returns-4 Inv-loop μ-loop
+returns-4 c = search needs
 
 pub print-pages-spec : {M : Type 1} → statement M
 print-pages-spec =
@@ -83,16 +73,17 @@ print-pages-spec =
     Inv-loop
     μ-loop
     loop-holds
-    add-page-block
-    page-block-requires
-    enum-known-answer
+    add-page-spot
+    page-spot-requires
+    enum-known-found
     enum-told
     returns
-    array-share-prefix-out
-    slice-aggregate-written
-    written-requires
+    begin-area-requires
     returns-2
+    add-print-block
+    print-block-requires
+    returns-3
     add-done
     loop-less
     loop-again
-    returns-3)
+    returns-4)

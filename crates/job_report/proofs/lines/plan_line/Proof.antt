@@ -1,11 +1,15 @@
 -- `job_report::lines::plan_line` meets its contract. Assumes nothing.
 use borrow.Author.Needs.{needs}
+use native.Mathlib.Omega.{arith}
 use Rattle.job_report.specs.Lines.{planLine}
 use Rattle.job_report.proofs.lines.plan_line.Statement.{statement}
 use Rattle.job_report.proofs.lines.plan_line.Tie as tie
 
-cast-t6 : tie.Need-cast-t6
-cast-t6 c = search needs
+first-permille-requires : tie.Need-first-permille-requires
+first-permille-requires c κs = search needs
+
+cast-t7 : tie.Need-cast-t7
+cast-t7 c = search needs
 
 slice-aggregate-line : tie.Need-slice-aggregate-line
 slice-aggregate-line c = search needs
@@ -21,13 +25,17 @@ same-length c = search needs
 
 returns : tie.Need-returns
 unfolding planLine
-returns c = search needs
+returns c =
+    let f : tie.After-first-permille = search in
+    let l = c .before .before in
+    rw (← (f .first-permille .ensures)) (l .line .ensures .0, omega (arith, l .line .ensures .1))
 
 pub plan-line-spec : {M : Type 1} → statement M
 plan-line-spec =
     tie.close
     (tie.spec
-    cast-t6
+    first-permille-requires
+    cast-t7
     slice-aggregate-line
     slice-aggregate-line-2
     line-requires

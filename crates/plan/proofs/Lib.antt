@@ -1,0 +1,2 @@
+-- A theorem that belongs to no one function.
+pub mod Report
