@@ -1,4 +1,4 @@
-//! Plans the job in a file and prints the plan, as program `plan` does: an example of a program over the static library.
+//! Plans the job in a file and prints the plan, as program `plan` does, area by area: an example of a program over the static library.
 //!
 //!     plan FILE
 //!
@@ -12,14 +12,14 @@ use std::process::ExitCode;
 /// Prints the plan or the refusal, and says whether there is a plan. An error is a message.
 fn planned(file: &OsStr) -> Result<bool, String> {
     let bytes = std::fs::read(file).map_err(|error| format!("{} could not be read: {error}", file.to_string_lossy()))?;
-    let plan = yuzhbani::Plan::of(&bytes);
+    let counted = yuzhbani::Counted::of(&bytes);
     let mut out = io::stdout().lock();
-    let written = match &plan {
-        Ok(plan) => plan.print(&mut out),
+    let written = match &counted {
+        Ok(counted) => counted.print(&mut out),
         Err(refusal) => out.write_all(refusal.text().as_bytes()),
     };
     written.and_then(|()| out.flush()).map_err(|error| format!("standard output could not be written: {error}"))?;
-    Ok(plan.is_ok())
+    Ok(counted.is_ok())
 }
 
 fn main() -> ExitCode {

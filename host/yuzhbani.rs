@@ -1,7 +1,8 @@
 //! Page plans of measured worksheets: a safe face of the static library `yuzhbani`.
 //!
-//! A job's bytes are planned by [`Plan::of`], lists of measured slots by [`Plan::of_lists`]. Whoever keeps run lists of his own calls
-//! [`plan_into`], [`plan_lists_into`], [`page_of`], [`head_into`] and [`block_into`].
+//! A job's bytes are planned by [`Plan::of`], lists of measured slots by [`Plan::of_lists`]. A job is printed area by area, without its runs all at
+//! once, by [`Counted`]. Whoever keeps run lists of his own calls [`plan_into`], [`plan_lists_into`], [`count_into`], [`write_area_into`],
+//! [`page_of`], [`head_into`], [`area_line_into`] and [`block_into`].
 
 use std::fmt;
 use std::io::{self, Write};
@@ -9,19 +10,28 @@ use std::io::{self, Write};
 /// The most bytes of a job. More are refused with 1.
 pub const MOST_BYTES: usize = 60_000;
 
-/// Lists with room for so many runs have room for those of every job: none is refused with 11.
+/// The most areas. None and more are refused with 4.
+pub const MOST_AREAS: usize = 8;
+
+/// Lists with room for so many runs have room for those of each area of a job, and for [`MOST_AREAS`] times as many for those of all: none is
+/// refused with 11.
 pub const MOST_RUNS: usize = 5_000;
 
 /// How many numbers a run has in a list of runs: first, last, size, and above 0 where a manual break stands before it.
 pub const RUN_NUMBERS: usize = 4;
 
-/// The numbers of a plan: permille, row runs, column runs, rows empty, columns empty, pages, order, nine notes.
-pub type Numbers = [u64; 16];
+/// The numbers of a plan: areas, pages, order, nine notes; then of each of eight areas permille, unreachable, row runs, column runs, rows empty,
+/// columns empty.
+pub type Numbers = [u64; 60];
+
+/// Where the numbers of the first area stand, and how many an area has.
+const AREAS: usize = 12;
+const AREA_NUMBERS: usize = 6;
 
 /// What is asked of a plan of lists, as numbers; [`Request::numbers`] has their order. Any numbers have an answer.
-pub type RequestNumbers = [u64; 30];
+pub type RequestNumbers = [u64; 61];
 
-/// The bytes that the first lines of a plan, or the line of a refusal, have room in.
+/// The bytes that the first lines of a plan, the line of a refusal, or that of an area have room in.
 pub const HEAD: usize = 256;
 
 /// The bytes that a block of page lines has room in.
@@ -30,13 +40,30 @@ pub const BLOCK: usize = 65_536;
 /// The numbers of a block: how many pages have their lines in it, and how many bytes the lines are.
 pub type BlockNumbers = [u64; 2];
 
+/// How many runs of rows and of columns an area was written with.
+pub type RunCounts = [u64; 2];
+
 mod raw {
     // A slice of Rattle is a pointer and a length here, an array or a number that is lent a pointer.
     extern "C" {
         pub fn yuzhbani_plan(
             bytes: *const u8,
             bytes_len: usize,
-            numbers: *mut [u64; 16],
+            numbers: *mut [u64; 60],
+            row_runs: *mut u64,
+            row_runs_len: usize,
+            column_runs: *mut u64,
+            column_runs_len: usize,
+        ) -> u8;
+
+        pub fn yuzhbani_count(bytes: *const u8, bytes_len: usize, numbers: *mut [u64; 60]) -> u8;
+
+        pub fn yuzhbani_write_area(
+            bytes: *const u8,
+            bytes_len: usize,
+            number: u64,
+            permille: u16,
+            counts: *mut [u64; 2],
             row_runs: *mut u64,
             row_runs_len: usize,
             column_runs: *mut u64,
@@ -44,7 +71,7 @@ mod raw {
         ) -> u8;
 
         pub fn yuzhbani_plan_lists(
-            request: *const [u64; 30],
+            request: *const [u64; 61],
             row_indexes: *const u32,
             row_indexes_len: usize,
             row_sizes: *const u64,
@@ -65,7 +92,7 @@ mod raw {
             row_breaks_len: usize,
             column_breaks: *const u32,
             column_breaks_len: usize,
-            numbers: *mut [u64; 16],
+            numbers: *mut [u64; 60],
             row_runs: *mut u64,
             row_runs_len: usize,
             column_runs: *mut u64,
@@ -73,7 +100,7 @@ mod raw {
         ) -> u8;
 
         pub fn yuzhbani_page(
-            numbers: *const [u64; 16],
+            numbers: *const [u64; 60],
             number: u64,
             row_runs: *const u64,
             row_runs_len: usize,
@@ -82,10 +109,12 @@ mod raw {
             page: *mut [u64; 12],
         ) -> u8;
 
-        pub fn yuzhbani_head(answer: u8, numbers: *const [u64; 16], out: *mut [u8; 256]) -> usize;
+        pub fn yuzhbani_head(answer: u8, numbers: *const [u64; 60], out: *mut [u8; 256]) -> usize;
+
+        pub fn yuzhbani_area_line(number: u64, permille: u16, out: *mut [u8; 256]) -> usize;
 
         pub fn yuzhbani_block(
-            numbers: *const [u64; 16],
+            numbers: *const [u64; 60],
             from: u64,
             row_runs: *const u64,
             row_runs_len: usize,
@@ -97,14 +126,14 @@ mod raw {
     }
 }
 
-/// The number of the question, 1 to 14, that an input did not pass.
+/// The number of the question, 1 to 15, that an input did not pass.
 #[derive(Debug, Clone, Copy, PartialEq, Eq)]
 pub struct Refusal(pub u8);
 
 impl Refusal {
     /// `no` and the number, as program `plan` prints it.
     pub fn text(self) -> String {
-        head_of(self.0, &[0; 16])
+        head_of(self.0, &[0; 60])
     }
 }
 
@@ -133,7 +162,7 @@ pub struct Run {
     pub manual_break: bool,
 }
 
-/// A page: the numbers of its two runs, from 0, and the runs.
+/// A page: the numbers of its two runs, from 0 in its area, and the runs.
 #[derive(Debug, Clone, Copy, PartialEq, Eq)]
 pub struct Page {
     pub vertical: u64,
@@ -161,7 +190,16 @@ fn runs_in(list: &[u64], count: u64, empty_body: bool) -> Vec<Run> {
     list.chunks_exact(RUN_NUMBERS).take(count).map(run).collect()
 }
 
-/// What is asked of a plan of lists, beside the lists: settings, range and titles. `Default` is a range of one cell, and nothing else.
+/// A range of cells that is printed. `Default` is the first cell.
+#[derive(Debug, Clone, Copy, Default, PartialEq, Eq)]
+pub struct PrintRange {
+    pub first_row: u32,
+    pub first_column: u32,
+    pub last_row: u32,
+    pub last_column: u32,
+}
+
+/// What is asked of a plan of lists, beside the lists: settings, areas and titles. `Default` is an area of one cell, and nothing else.
 #[derive(Debug, Clone, PartialEq)]
 pub struct Request {
     pub paper: Option<u16>,
@@ -176,11 +214,12 @@ pub struct Request {
     pub fit_height: Option<u16>,
     pub over_then_down: bool,
     pub headings: bool,
+    /// The most pages of all areas.
     pub page_limit: u64,
-    pub first_row: u32,
-    pub first_column: u32,
-    pub last_row: u32,
-    pub last_column: u32,
+    /// The most cells that lie in at least one area.
+    pub cell_limit: Option<u64>,
+    /// One to eight, each printed on pages of its own, in this order.
+    pub areas: Vec<PrintRange>,
     pub row_title: Option<(u32, u32)>,
     pub column_title: Option<(u32, u32)>,
 }
@@ -198,10 +237,8 @@ impl Default for Request {
             over_then_down: false,
             headings: false,
             page_limit: 10_000,
-            first_row: 0,
-            first_column: 0,
-            last_row: 0,
-            last_column: 0,
+            cell_limit: None,
+            areas: vec![PrintRange::default()],
             row_title: None,
             column_title: None,
         }
@@ -210,14 +247,15 @@ impl Default for Request {
 
 impl Request {
     /// Paper given, paper; landscape; margins given, six margins' bits; percent given, percent; fit; width's target given, target; height's
-    /// target given, target; order; headings; page limit; range; row title given, first, last; column title given, first, last.
+    /// target given, target; order; headings; page limit; cell limit given, cell limit; count of areas, eight areas; row title given, first,
+    /// last; column title given, first, last. Areas past the eighth are counted, which is refused with 4.
     pub fn numbers(&self) -> RequestNumbers {
         let setting = |set: Option<u16>| [u64::from(set.is_some()), u64::from(set.unwrap_or(0))];
         let title = |set: Option<(u32, u32)>| {
             let (first, last) = set.unwrap_or((0, 0));
             [u64::from(set.is_some()), u64::from(first), u64::from(last)]
         };
-        let mut numbers = [0; 30];
+        let mut numbers = [0; 61];
         let mut put = |at: usize, some: &[u64]| numbers[at..at + some.len()].copy_from_slice(some);
         put(0, &setting(self.paper));
         put(2, &[u64::from(self.landscape), u64::from(self.margins.is_some())]);
@@ -227,9 +265,12 @@ impl Request {
         put(13, &setting(self.fit_width));
         put(15, &setting(self.fit_height));
         put(17, &[u64::from(self.over_then_down), u64::from(self.headings), self.page_limit]);
-        put(20, &[self.first_row, self.first_column, self.last_row, self.last_column].map(u64::from));
-        put(24, &title(self.row_title));
-        put(27, &title(self.column_title));
+        put(20, &[u64::from(self.cell_limit.is_some()), self.cell_limit.unwrap_or(0), self.areas.len() as u64]);
+        for (k, area) in self.areas.iter().take(MOST_AREAS).enumerate() {
+            put(23 + 4 * k, &[area.first_row, area.first_column, area.last_row, area.last_column].map(u64::from));
+        }
+        put(55, &title(self.row_title));
+        put(58, &title(self.column_title));
         numbers
     }
 }
@@ -249,7 +290,7 @@ pub struct Lists {
     pub column_breaks: Vec<u32>,
 }
 
-/// Plans a job: the plan's numbers go to `numbers`, its runs to the fronts of the lists. A refusal writes nothing.
+/// Plans a job: the plan's numbers go to `numbers`, its runs to the fronts of the lists, area after area. A refusal writes nothing.
 pub fn plan_into(bytes: &[u8], numbers: &mut Numbers, row_runs: &mut [u64], column_runs: &mut [u64]) -> Result<(), Refusal> {
     // Safe: each pointer and length are those of a slice or an array that is borrowed over the call, and what is lent as
     // `&mut` is lent once.
@@ -258,6 +299,39 @@ pub fn plan_into(bytes: &[u8], numbers: &mut Numbers, row_runs: &mut [u64], colu
             bytes.as_ptr(),
             bytes.len(),
             numbers,
+            row_runs.as_mut_ptr(),
+            row_runs.len(),
+            column_runs.as_mut_ptr(),
+            column_runs.len(),
+        )
+    })
+}
+
+/// Counts a job: the numbers of its plan, without its runs. A refusal, which is never 11, writes nothing.
+pub fn count_into(bytes: &[u8], numbers: &mut Numbers) -> Result<(), Refusal> {
+    // Safe: as in `plan_into`.
+    answered(unsafe { raw::yuzhbani_count(bytes.as_ptr(), bytes.len(), numbers) })
+}
+
+/// Writes the runs of the area with a number, from 1, at a permille, to the fronts of the lists, and how many they are to `counts`. A refusal
+/// writes nothing: as of [`count_into`], but that the page limit is not asked; 10 of a permille of 0; 14 of a number that the job has no area
+/// for; 11 where a list has no room for the area's runs.
+pub fn write_area_into(
+    bytes: &[u8],
+    number: u64,
+    permille: u16,
+    counts: &mut RunCounts,
+    row_runs: &mut [u64],
+    column_runs: &mut [u64],
+) -> Result<(), Refusal> {
+    // Safe: as in `plan_into`.
+    answered(unsafe {
+        raw::yuzhbani_write_area(
+            bytes.as_ptr(),
+            bytes.len(),
+            number,
+            permille,
+            counts,
             row_runs.as_mut_ptr(),
             row_runs.len(),
             column_runs.as_mut_ptr(),
@@ -347,8 +421,23 @@ pub fn head_of(answer: u8, numbers: &Numbers) -> String {
     String::from_utf8_lossy(&out[..bytes]).into_owned()
 }
 
-/// Puts the lines of the pages from the number `from` on at the start of `out`, as many as have room there, and how many pages and bytes
-/// they are into `block`. What stands behind the lines stays. A refusal (11, 14) writes nothing; else there is at least one page.
+/// Puts the line that program `plan` prints before the pages of an area at the start of `out`, and answers how many bytes it is. What stands
+/// behind it stays.
+pub fn area_line_into(number: u64, permille: u16, out: &mut [u8; HEAD]) -> usize {
+    // Safe: as in `plan_into`.
+    unsafe { raw::yuzhbani_area_line(number, permille, out) }
+}
+
+/// The same as a string.
+pub fn area_line_of(number: u64, permille: u16) -> String {
+    let mut out = [0; HEAD];
+    let bytes = area_line_into(number, permille, &mut out);
+    String::from_utf8_lossy(&out[..bytes]).into_owned()
+}
+
+/// Puts the lines of the pages from the number `from` on, up to the last of its area, at the start of `out`, as many as have room there, and how
+/// many pages and bytes they are into `block`. The lists have the runs of that area at their fronts. What stands behind the lines stays. A
+/// refusal (11, 14) writes nothing; else there is at least one page.
 pub fn block_into(
     numbers: &Numbers,
     from: u64,
@@ -372,6 +461,63 @@ pub fn block_into(
     })
 }
 
+/// The numbers of an area of a plan.
+#[derive(Clone, Copy)]
+struct AreaNumbers([u64; AREA_NUMBERS]);
+
+impl AreaNumbers {
+    fn permille(self) -> u16 {
+        u16::try_from(self.0[0]).unwrap_or(u16::MAX)
+    }
+
+    /// How many numbers the area's runs of rows, and of columns, have in a list.
+    fn row_numbers(self) -> usize {
+        RUN_NUMBERS * self.0[2] as usize
+    }
+
+    fn column_numbers(self) -> usize {
+        RUN_NUMBERS * self.0[3] as usize
+    }
+
+    fn pages(self) -> u64 {
+        self.0[2] * self.0[3]
+    }
+}
+
+/// The areas of a plan as it was answered.
+fn areas_in(numbers: &Numbers) -> impl Iterator<Item = AreaNumbers> + '_ {
+    let areas = numbers[AREAS..].chunks_exact(AREA_NUMBERS).take(numbers[0] as usize);
+    areas.map(|area| AreaNumbers(area.try_into().expect("six numbers")))
+}
+
+/// Writes the lines of an area's pages, from the number `from` on. The lists have its runs at their fronts.
+fn print_area(numbers: &Numbers, from: u64, area: AreaNumbers, rows: &[u64], columns: &[u64], out: &mut impl Write) -> io::Result<()> {
+    let (mut block, mut lines) = ([0; 2], Box::new([0; BLOCK]));
+    let mut done = 0;
+    while done < area.pages() {
+        // No block of a plan that was planned is refused.
+        block_into(numbers, from + done, rows, columns, &mut block, &mut lines).map_err(io::Error::other)?;
+        let [pages, bytes] = block;
+        out.write_all(&lines[..bytes as usize])?;
+        done += pages;
+    }
+    Ok(())
+}
+
+/// An area of a finished plan.
+#[derive(Debug, Clone, PartialEq, Eq)]
+pub struct Area {
+    /// The scale in thousandths.
+    pub permille: u16,
+    /// Whether no permille fits it to the targets.
+    pub unreachable: bool,
+    pub row_runs: Vec<Run>,
+    pub column_runs: Vec<Run>,
+    /// The number of its first page.
+    pub first_page: u64,
+    pub pages: u64,
+}
+
 /// A finished plan with its runs.
 #[derive(Debug, Clone, PartialEq, Eq)]
 pub struct Plan {
@@ -383,45 +529,68 @@ pub struct Plan {
 impl Plan {
     /// Plans a job, with lists that have room for the runs of every job.
     pub fn of(bytes: &[u8]) -> Result<Self, Refusal> {
-        let mut plan = Self { numbers: [0; 16], rows: run_list(MOST_RUNS), columns: run_list(MOST_RUNS) };
+        let (rows, columns) = (run_list(MOST_AREAS * MOST_RUNS), run_list(MOST_AREAS * MOST_RUNS));
+        let mut plan = Self { numbers: [0; 60], rows, columns };
         plan_into(bytes, &mut plan.numbers, &mut plan.rows, &mut plan.columns)?;
-        Ok(plan)
+        Ok(plan.cut_off())
     }
 
-    /// Plans lists, with lists of runs that have room for a run of each slot.
+    /// Plans lists, with lists of runs that have room for a run of each slot of each area.
     pub fn of_lists(request: &Request, lists: &Lists) -> Result<Self, Refusal> {
-        let room = |slots: &[u32]| run_list(slots.len().max(1));
-        let (rows, columns) = (room(&lists.row_indexes), room(&lists.column_indexes));
-        let mut plan = Self { numbers: [0; 16], rows, columns };
+        let room = |indexes: &[u32], ends: fn(&PrintRange) -> (u32, u32)| {
+            let slots = |(first, last): (u32, u32)| indexes.iter().filter(|&&index| first <= index && index <= last).count();
+            run_list(request.areas.iter().map(|area| slots(ends(area)).max(1)).sum())
+        };
+        let rows = room(&lists.row_indexes, |area| (area.first_row, area.last_row));
+        let columns = room(&lists.column_indexes, |area| (area.first_column, area.last_column));
+        let mut plan = Self { numbers: [0; 60], rows, columns };
         plan_lists_into(&request.numbers(), lists, &mut plan.numbers, &mut plan.rows, &mut plan.columns)?;
-        Ok(plan)
+        Ok(plan.cut_off())
     }
 
-    /// The scale in thousandths.
-    pub fn permille(&self) -> u64 {
-        self.numbers[0]
+    /// The plan with lists of its runs and nothing behind them.
+    fn cut_off(mut self) -> Self {
+        let (rows, columns) = areas_in(&self.numbers).fold((0, 0), |(rows, columns), area| (rows + area.row_numbers(), columns + area.column_numbers()));
+        self.rows.truncate(rows);
+        self.columns.truncate(columns);
+        self.rows.shrink_to_fit();
+        self.columns.shrink_to_fit();
+        self
     }
 
-    pub fn row_runs(&self) -> Vec<Run> {
-        runs_in(&self.rows, self.numbers[1], self.numbers[3] > 0)
+    /// The areas, in job order.
+    pub fn areas(&self) -> Vec<Area> {
+        let (mut rows, mut columns, mut first_page) = (&self.rows[..], &self.columns[..], 1);
+        let mut areas = Vec::new();
+        for area in areas_in(&self.numbers) {
+            let [_, unreachable, row_runs, column_runs, rows_empty, columns_empty] = area.0;
+            areas.push(Area {
+                permille: area.permille(),
+                unreachable: unreachable > 0,
+                row_runs: runs_in(rows, row_runs, rows_empty > 0),
+                column_runs: runs_in(columns, column_runs, columns_empty > 0),
+                first_page,
+                pages: area.pages(),
+            });
+            (rows, columns) = (&rows[area.row_numbers()..], &columns[area.column_numbers()..]);
+            first_page += area.pages();
+        }
+        areas
     }
 
-    pub fn column_runs(&self) -> Vec<Run> {
-        runs_in(&self.columns, self.numbers[2], self.numbers[4] > 0)
-    }
-
+    /// The pages of all areas.
     pub fn pages(&self) -> u64 {
-        self.numbers[5]
+        self.numbers[1]
     }
 
     pub fn over_then_down(&self) -> bool {
-        self.numbers[6] > 0
+        self.numbers[2] > 0
     }
 
     /// Unknown paper, margins, clamp, unreachable, titles ignored, titles expanded, merge expansions, break shifts, overflowing runs.
     pub fn notes(&self) -> [u64; 9] {
         let mut notes = [0; 9];
-        notes.copy_from_slice(&self.numbers[7..]);
+        notes.copy_from_slice(&self.numbers[3..AREAS]);
         notes
     }
 
@@ -433,14 +602,50 @@ impl Plan {
     /// Writes what program `plan` prints.
     pub fn print(&self, out: &mut impl Write) -> io::Result<()> {
         out.write_all(head_of(0, &self.numbers).as_bytes())?;
-        let (mut block, mut lines) = ([0; 2], Box::new([0; BLOCK]));
-        let mut done = 0;
-        while done < self.pages() {
-            // No block of a plan that was planned is refused.
-            block_into(&self.numbers, done + 1, &self.rows, &self.columns, &mut block, &mut lines).map_err(io::Error::other)?;
-            let [pages, bytes] = block;
-            out.write_all(&lines[..bytes as usize])?;
-            done += pages;
+        let (mut rows, mut columns, mut from) = (&self.rows[..], &self.columns[..], 1);
+        for (number, area) in (1..).zip(areas_in(&self.numbers)) {
+            if number > 1 {
+                out.write_all(area_line_of(number, area.permille()).as_bytes())?;
+            }
+            print_area(&self.numbers, from, area, rows, columns, out)?;
+            (rows, columns) = (&rows[area.row_numbers()..], &columns[area.column_numbers()..]);
+            from += area.pages();
+        }
+        Ok(())
+    }
+}
+
+/// A job whose pages were counted: it is printed area by area, over two lists that hold the runs of one.
+#[derive(Debug, Clone, PartialEq, Eq)]
+pub struct Counted<'a> {
+    bytes: &'a [u8],
+    numbers: Numbers,
+}
+
+impl<'a> Counted<'a> {
+    pub fn of(bytes: &'a [u8]) -> Result<Self, Refusal> {
+        let mut numbers = [0; 60];
+        count_into(bytes, &mut numbers)?;
+        Ok(Self { bytes, numbers })
+    }
+
+    /// The pages of all areas.
+    pub fn pages(&self) -> u64 {
+        self.numbers[1]
+    }
+
+    /// Writes what program `plan` prints.
+    pub fn print(&self, out: &mut impl Write) -> io::Result<()> {
+        out.write_all(head_of(0, &self.numbers).as_bytes())?;
+        let (mut rows, mut columns, mut counts, mut from) = (run_list(MOST_RUNS), run_list(MOST_RUNS), [0; 2], 1);
+        for (number, area) in (1..).zip(areas_in(&self.numbers)) {
+            if number > 1 {
+                out.write_all(area_line_of(number, area.permille()).as_bytes())?;
+            }
+            // No area of a job that was counted is refused.
+            write_area_into(self.bytes, number, area.permille(), &mut counts, &mut rows, &mut columns).map_err(io::Error::other)?;
+            print_area(&self.numbers, from, area, &rows, &columns, out)?;
+            from += area.pages();
         }
         Ok(())
     }

@@ -32,7 +32,7 @@ abbrev pub answerOf : Planning → ℕ
 answerOf (Value p) = 0
 answerOf (Refused n) = n
 
--- the sixteen numbers of a plan, or those that stood there
+-- the sixty numbers of a plan, or those that stood there
 abbrev pub numbersOf : Planning → List ℕ → List ℕ
 numbersOf (Value p) old = planNumbers p
 numbersOf (Refused n) old = old

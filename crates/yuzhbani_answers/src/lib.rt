@@ -1,11 +1,14 @@
 // A plan and a page as numbers, for a caller in another language.
+use planner_areas::plan_at;
+use planner_rules::AreaPlan;
+use planner_rules::AreaPlans;
 use planner_rules::Notes;
 use planner_rules::PageAnswer;
 use planner_rules::PageOrder;
 use planner_rules::Plan;
 use planner_rules::Planning;
 ghost use mathlib.Core.Path.{_≡_};
-ghost use Prim.Native.Nat.{min};
+ghost use Prim.Native.Nat.{_≤_, min};
 ghost use Rattle.planner_rules.specs.Pages.{pageOutcome};
 ghost use Rattle.yuzhbani_answers.specs.Numbers as section;
 ghost use Rattle.yuzhbani_answers.specs.Answers.{answerOf, numbersOf, HadBack, PageHanded};
@@ -35,74 +38,128 @@ pub fn u16_from(n: u64) -> u16
     if n < 65535 { n as u16 } else { 65535 }
 }
 
-fn put_plan(plan: Plan, numbers: &mut [u64; 16])
-    ensures { λ _. ⌜ now (numbers .exit) ≡ section.planNumbers plan ⌝ }
-    ensures { λ _. ⌜ section.planFrom (section.planNumbers plan) ≡ plan ⌝ }
+// The count of areas, the pages, the order and the notes, at the front.
+fn put_head(numbers: &mut [u64; 60], plan: Plan)
+    ensures { λ _. ⌜ now (numbers .exit) ≡ section.headPut plan (now (numbers .entry)) ⌝ }
 {
     let order = plan.order;
     let notes = plan.notes;
-    *numbers = [
-        plan.permille as u64,
-        plan.row_runs as u64,
-        plan.column_runs as u64,
-        plan.rows_empty as u64,
-        plan.columns_empty as u64,
-        plan.pages,
-        order_number(order),
-        notes.unknown_paper,
-        notes.invalid_margins,
-        notes.scale_clamped,
-        notes.fit_unreachable,
-        notes.titles_ignored,
-        notes.titles_expanded,
-        notes.merge_expansions,
-        notes.break_shifts,
-        notes.overflowing_runs,
-    ];
+    numbers[0] = plan.areas.count as u64;
+    numbers[1] = plan.pages;
+    numbers[2] = order_number(order);
+    numbers[3] = notes.unknown_paper;
+    numbers[4] = notes.invalid_margins;
+    numbers[5] = notes.scale_clamped;
+    numbers[6] = notes.fit_unreachable;
+    numbers[7] = notes.titles_ignored;
+    numbers[8] = notes.titles_expanded;
+    numbers[9] = notes.merge_expansions;
+    numbers[10] = notes.break_shifts;
+    numbers[11] = notes.overflowing_runs;
+}
+
+// The six numbers of an area, from a place on.
+fn put_area(numbers: &mut [u64; 60], at: usize, area: AreaPlan)
+    requires { ⌜ at ≤ 54 ⌝ }
+    ensures { λ _. ⌜ now (numbers .exit) ≡ section.areaPut area at (now (numbers .entry)) ⌝ }
+    ensures { λ _. ⌜ section.AreaBack area ⌝ }
+{
+    numbers[at] = area.permille as u64;
+    numbers[at + 1] = area.unreachable;
+    numbers[at + 2] = area.row_runs as u64;
+    numbers[at + 3] = area.column_runs as u64;
+    numbers[at + 4] = area.rows_empty as u64;
+    numbers[at + 5] = area.columns_empty as u64;
+}
+
+fn put_areas(numbers: &mut [u64; 60], areas: AreaPlans)
+    ensures { λ _. ⌜ now (numbers .exit) ≡ section.areasPut areas 8 (now (numbers .entry)) ⌝ }
+    ensures { λ _. ⌜ section.AllBack areas 8 ⌝ }
+{
+    let mut k = 0;
+    while k < 8 {
+        put_area(numbers, 12 + 6 * k, plan_at(areas, k));
+        k += 1;
+    }
+}
+
+fn put_plan(numbers: &mut [u64; 60], plan: Plan)
+    ensures { λ _. ⌜ now (numbers .exit) ≡ section.planNumbers plan ⌝ }
+    ensures { λ _. ⌜ section.planFrom (section.planNumbers plan) ≡ plan ⌝ }
+{
+    *numbers = [0; 60];
+    put_head(numbers, plan);
+    put_areas(numbers, plan.areas);
 }
 
 // The answer of a plan call; the numbers of its plan are put, or nothing.
-pub fn put_planning(planning: Planning, numbers: &mut [u64; 16]) -> u8
+pub fn put_planning(planning: Planning, numbers: &mut [u64; 60]) -> u8
     ensures { λ r. ⌜ r ≡ answerOf planning ⌝ }
     ensures { λ _. ⌜ now (numbers .exit) ≡ numbersOf planning (now (numbers .entry)) ⌝ }
     ensures { λ _. ⌜ HadBack planning ⌝ }
 {
     match planning {
         Planning::Value(plan) => {
-            put_plan(plan, numbers);
+            put_plan(numbers, plan);
             0
         }
         Planning::Refused(number) => number,
     }
 }
 
-pub fn plan_from(numbers: &[u64; 16]) -> Plan
+fn area_from(numbers: &[u64; 60], at: usize) -> AreaPlan
+    requires { ⌜ at ≤ 54 ⌝ }
+    ensures { λ r. ⌜ r ≡ section.areaFrom (now (numbers .entry)) at ⌝ }
+{
+    AreaPlan {
+        permille: u16_from(numbers[at]),
+        unreachable: numbers[at + 1],
+        row_runs: numbers[at + 2] as usize,
+        column_runs: numbers[at + 3] as usize,
+        rows_empty: numbers[at + 4] > 0,
+        columns_empty: numbers[at + 5] > 0,
+    }
+}
+
+fn areas_from(numbers: &[u64; 60]) -> AreaPlans
+    ensures { λ r. ⌜ r ≡ section.areasFrom (now (numbers .entry)) ⌝ }
+{
+    AreaPlans {
+        count: numbers[0] as usize,
+        first: area_from(numbers, 12),
+        second: area_from(numbers, 18),
+        third: area_from(numbers, 24),
+        fourth: area_from(numbers, 30),
+        fifth: area_from(numbers, 36),
+        sixth: area_from(numbers, 42),
+        seventh: area_from(numbers, 48),
+        eighth: area_from(numbers, 54),
+    }
+}
+
+pub fn plan_from(numbers: &[u64; 60]) -> Plan
     ensures { λ r. ⌜ r ≡ section.planFrom (now (numbers .entry)) ⌝ }
 {
     Plan {
-        permille: u16_from(numbers[0]),
-        row_runs: numbers[1] as usize,
-        column_runs: numbers[2] as usize,
-        rows_empty: numbers[3] > 0,
-        columns_empty: numbers[4] > 0,
-        pages: numbers[5],
-        order: order_from(numbers[6]),
+        areas: areas_from(numbers),
+        pages: numbers[1],
+        order: order_from(numbers[2]),
         notes: Notes {
-            unknown_paper: numbers[7],
-            invalid_margins: numbers[8],
-            scale_clamped: numbers[9],
-            fit_unreachable: numbers[10],
-            titles_ignored: numbers[11],
-            titles_expanded: numbers[12],
-            merge_expansions: numbers[13],
-            break_shifts: numbers[14],
-            overflowing_runs: numbers[15],
+            unknown_paper: numbers[3],
+            invalid_margins: numbers[4],
+            scale_clamped: numbers[5],
+            fit_unreachable: numbers[6],
+            titles_ignored: numbers[7],
+            titles_expanded: numbers[8],
+            merge_expansions: numbers[9],
+            break_shifts: numbers[10],
+            overflowing_runs: numbers[11],
         },
     }
 }
 
-// What an answer and sixteen numbers stand for.
-pub fn told(answer: u8, numbers: &[u64; 16]) -> Planning
+// What an answer and sixty numbers stand for.
+pub fn told(answer: u8, numbers: &[u64; 60]) -> Planning
     ensures { λ r. ⌜ r ≡ section.told answer (now (numbers .entry)) ⌝ }
 {
     if answer > 0 {

@@ -1,5 +1,5 @@
 -- `yuzhbani::yuzhbani_plan` meets its contract: the clauses of `plan_job`, by the answer and the numbers that are handed over. Assumes nothing.
-use Rattle.job.specs.PlanJob.{jobSettings, jobRows, jobColumns}
+use Rattle.job.specs.PlanJob.{jobSheet, jobAreas}
 use Rattle.yuzhbani.proofs.Handed.{handed, job-not-zero}
 use borrow.Author.Needs.{needs}
 use Rattle.yuzhbani.proofs.yuzhbani_plan.Statement.{statement}
@@ -23,7 +23,7 @@ returns c =
     let j : tie.After-plan-job = search in
     let a = start .args in
     let s = a .bytes .now in
-    handed _ (job-not-zero s _ _) (jobSettings s) (jobRows s) (jobColumns s) _ _ _ _ (j .plan-job .result) (a .numbers .now)
+    handed _ (job-not-zero s _ _) (jobSheet s) (jobAreas s) _ _ _ _ (j .plan-job .result) (a .numbers .now)
     (c .put-planning .result) _ (j .plan-job .ensures) (c .put-planning .ensures)
 
 pub yuzhbani-plan-spec : {M : Type 1} → statement M

@@ -37,20 +37,26 @@ element-copy-out-t21 c = search needs
 element-copy-out-t25 : tie.Need-element-copy-out-t25
 element-copy-out-t25 c = search needs
 
+cell-limit-from-requires : tie.Need-cell-limit-from-requires
+cell-limit-from-requires c κs = search needs
+
 returns : tie.Need-returns
 unfolding settingsFrom
 returns c =
-    let m : tie.After-margins-from = search in
-    let after-setting-from2 : tie.After-setting-from2 = search in
-    let after-setting-from3 : tie.After-setting-from3 = search in
-    let after-setting-from4 : tie.After-setting-from4 = search in
+    let paper : tie.After-setting-from = search in
+    let margins : tie.After-margins-from = search in
+    let percent : tie.After-setting-from2 = search in
+    let width : tie.After-setting-from3 = search in
+    let height : tie.After-setting-from4 = search in
+    let order : tie.After-order-from = search in
     rw (
-      c .before .before .order-from .ensures,
-      after-setting-from4 .setting-from4 .ensures,
-      after-setting-from3 .setting-from3 .ensures,
-      after-setting-from2 .setting-from2 .ensures,
-      m .margins-from .ensures,
-      m .before .before .setting-from .ensures,
+      c .cell-limit-from .ensures,
+      order .order-from .ensures,
+      height .setting-from4 .ensures,
+      width .setting-from3 .ensures,
+      percent .setting-from2 .ensures,
+      margins .margins-from .ensures,
+      paper .setting-from .ensures,
     )
 
 pub settings-from-spec : {M : Type 1} → statement M
@@ -68,4 +74,5 @@ settings-from-spec =
     order-from-requires
     element-copy-out-t21
     element-copy-out-t25
+    cell-limit-from-requires
     returns)
