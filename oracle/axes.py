@@ -11,7 +11,8 @@ LIMITS = (1048575, 16383)
 LARGEST = 1073741823  # of a slot's size
 U32, U64 = 2**32 - 1, 2**64 - 1
 MOST = 24  # of a list that is read
-NUMBERS = 4 * MOST + 3  # of a list of runs
+RUNS = 48  # that a lent list has room for
+NUMBERS = 4 * RUNS + 3  # of a list of runs
 
 
 # ---- a line
@@ -268,7 +269,7 @@ def lent_by_one(r, a):
     """The lent list with a number more or less."""
     lent = list(a.lent)
     at = below(r, 4)
-    lent[at] = lent[at] - 1 if lent[at] == MOST or lent[at] and chance(r, 0.5) else lent[at] + 1
+    lent[at] = lent[at] - 1 if lent[at] == RUNS or lent[at] and chance(r, 0.5) else lent[at] + 1
     return replace(a, lent=tuple(lent))
 
 

@@ -17,10 +17,12 @@ from plans import Plan
 # The marks in order, and what follows each, as struct has it.
 BODIES = {
     "PC": "H", "LA": "", "MG": "QQQQQQ", "SC": "H", "FW": "H", "FH": "H", "FT": "B", "OD": "B", "HD": "", "LP": "Q",
-    "AR": "IHIH", "TR": "II", "TC": "HH", "RW": "IQ", "CL": "HQ", "MR": "IHIH", "BR": "I", "BC": "H", "EN": "",
+    "UC": "Q", "AR": "IHIH", "TR": "II", "TC": "HH", "RW": "IQ", "CL": "HQ", "MR": "IHIH", "BR": "I", "BC": "H",
+    "EN": "",
 }  # fmt: skip
 MARKS = [mark.encode("ascii") for mark in BODIES]
-REPEATED = (b"RW", b"CL", b"MR", b"BR", b"BC")
+REPEATED = (b"AR", b"RW", b"CL", b"MR", b"BR", b"BC")
+MOST_AREAS = plans.MOST_AREAS
 HIGHEST = {"B": 255, "H": 65535, "I": U32, "Q": U64}
 MOST = 60000  # bytes of a job
 END = b"EN"
@@ -61,15 +63,14 @@ def settings(p, explicit):
     return (
         given("PC", p.paper) + bare("LA", p.landscape) + given("MG", margins) + given("SC", p.percent)
         + given("FW", p.width) + given("FH", p.height) + given("FT", fit) + given("OD", order)
-        + bare("HD", p.headings) + given("LP", limit)
+        + bare("HD", p.headings) + given("LP", limit) + given("UC", p.cells)
     )  # fmt: skip
 
 
 def records(p, explicit=()):
     """The job of a plan."""
     rows, columns = p.rows, p.columns
-    (top, bottom), (left, right) = rows.range, columns.range
-    job = settings(p, explicit) + given("AR", (top, left, bottom, right))
+    job = settings(p, explicit) + [record("AR", *area) for area in plans.areas_of(p)]
     job += given("TR", rows.title) + given("TC", columns.title)
     job += [record("RW", *slot) for slot in zip(rows.indexes, rows.sizes)]
     job += [record("CL", *slot) for slot in zip(columns.indexes, columns.sizes)]
@@ -83,11 +84,16 @@ def rank(part):
     return MARKS.index(part[:2]) if part[:2] in MARKS else len(MARKS)
 
 
+def added(job, new):
+    """The job with a record behind those of its kind and of the kinds before it."""
+    at = sum(1 for _ in itertools.takewhile(lambda part: rank(part) <= rank(new), job))
+    return job[:at] + [new] + job[at:]
+
+
 def put(job, new):
-    """The job with a record at its place, instead of those of its kind, or behind them if the kind repeats."""
-    kept = [part for part in job if part[:2] != new[:2] or part[:2] in REPEATED]
-    at = sum(1 for _ in itertools.takewhile(lambda part: rank(part) <= rank(new), kept))
-    return kept[:at] + [new] + kept[at:]
+    """The job with a record at its place, instead of those of its kind, or behind them if it repeats and is no AR."""
+    instead = new[:2] == b"AR" or new[:2] not in REPEATED
+    return added([part for part in job if part[:2] != new[:2]] if instead else job, new)
 
 
 def changed(job, at, *new):
@@ -155,6 +161,24 @@ def two_exchanged(r, job):
     job = list(job)
     job[one], job[other] = job[other], job[one]
     return job
+
+
+def areas_in(job):
+    return [struct.unpack("<IHIH", job[at][2:]) for at in places(job, (b"AR",))]
+
+
+def nine_ranges(r, job):
+    """More areas than there may be: the same again, or any."""
+    for _ in range(MOST_AREAS + 1 + below(r, 3) - len(areas_in(job))):
+        new = pick(r, areas_in(job) or [(0, 0, 0, 0)]) if chance(r, 0.7) else [below(r, 9) for _ in range(4)]
+        job = added(job, record("AR", *new))
+    return job
+
+
+def cells_short(r, job):
+    """Fewer cells than the areas have, as far as these are areas."""
+    areas = [area for area in areas_in(job) if area[0] <= area[2] and area[1] <= area[3]]
+    return put(job, record("UC", pick(r, (0, max(plans.cells_in(areas) - 1, 0)))))
 
 
 def doubled(r, job):
@@ -241,10 +265,11 @@ def no_pages(_, job):
 FAULTS = {
     2: (marked_anew, cut_off, not_ended),
     3: (goes_on, ends_early),
-    4: (no_range, two_exchanged, doubled),
+    4: (no_range, two_exchanged, doubled, nine_ranges),
     5: (flag_beyond,),
     6: (area_reversed,),
     7: (area_outside,),
+    15: (cells_short,),
     8: (index_wrong,),
     9: (size_wrong,),
     12: (no_pages,),
@@ -285,6 +310,14 @@ def large_plan(rows, columns, size):
     return Plan(rows=large_axis(ROWS, rows, size), columns=large_axis(COLUMNS, columns, size))
 
 
+def areas_of_large(r, p):
+    """The plan with one to eight areas, of all its slots or of a part of them."""
+    area = plans.areas_of(p)[0]
+    count = pick(r, (1, 2, 3, 8, 8))
+    parts = [(below(r, area[2] + 1), below(r, area[3] + 1), area[2], area[3]) for _ in range(count - 1)]
+    return replace(p, areas=[area, *(part if chance(r, 0.5) else area for part in parts)])
+
+
 def full_plan():
     """A fit of many rows and columns with titles, merges and breaks."""
     p = replace(large_plan(2000, 700, 20000), fit=1, width=5, height=7)
@@ -309,15 +342,16 @@ def large_drawn(r):
     """Many rows, many columns, many of both, or many of everything; at times 60,000 bytes or one more."""
     kind = below(r, 6)
     if kind == 0:
-        p = large_plan(4280, below(r, 2), pick(r, (0, 300, 20000, 700000)))
+        p = large_plan(4270, below(r, 2), pick(r, (0, 300, 20000, 700000)))
     elif kind == 1:
-        p = large_plan(below(r, 2), 4990, pick(r, (0, 300, 20000, 700000)))
+        p = large_plan(below(r, 2), 4980, pick(r, (0, 300, 20000, 700000)))
     elif kind == 2:
         p = large_plan(1000 + below(r, 2000), 500 + below(r, 600), 1 + below(r, 60000))
     else:
         p = full_plan()
-    fit = {"fit": 1, "width": pick(r, (0, 1, 9)), "height": pick(r, (0, 1, 9))} if chance(r, 0.5) else {}
-    job = records(replace(p, order=below(r, 2), landscape=below(r, 2), limit=pick(r, (10000, 20000)), **fit))
+    fit = {"fit": 1, "width": pick(r, (0, 1, 9)), "height": pick(r, (0, 1, 9))} if chance(r, 0.4) else {}
+    p = replace(p, order=below(r, 2), landscape=below(r, 2), limit=pick(r, (10000, 40000)), **fit)
+    job = records(p if kind > 3 else areas_of_large(r, p))
     return padded(job, MOST + kind // 5) if kind > 3 else job
 
 
@@ -359,7 +393,7 @@ def spoilt(r, job):
     numbers = []
     while chance(r, 0.18):
         numbers.append(pick(r, list(FAULTS)))
-    for number in sorted(numbers, reverse=True):
+    for number in sorted(numbers, key=list(FAULTS).index, reverse=True):
         job = pick(r, FAULTS[number])(r, job)
     return job
 
@@ -379,13 +413,15 @@ def jobs_drawn(r):
 EACH = [
     record("PC", 9), record("LA"), record("MG", *map(bits, (0.5, 0.25, 1.0, 0.75, 0.3, 0.2))), record("SC", 90),
     record("FW", 1), record("FH", 2), record("FT", 0), record("OD", 1), record("HD"), record("LP", 40),
-    record("AR", 0, 0, 8, 5), record("TR", 0, 0), record("TC", 0, 0), record("RW", 0, 300000), record("CL", 0, 200000),
+    record("UC", 60), record("AR", 0, 0, 8, 5), record("TR", 0, 0), record("TC", 0, 0), record("RW", 0, 300000),
+    record("CL", 0, 200000),
     record("MR", 2, 2, 3, 3), record("BR", 3), record("BC", 4), END,
 ]  # fmt: skip
 SLOTS = [record("RW", at, 300000) for at in range(1, 7)] + [record("CL", at, 400000) for at in range(1, 5)]
 SEVERAL = sorted(EACH + SLOTS, key=rank)
+UNLIMITED = [part for part in SEVERAL if part[:2] != b"UC"]
 LEAST = [record("AR", 0, 0, 8, 5), END]
-SMALL = [EACH[10], EACH[13], record("RW", 1, 700000), EACH[14], END]
+SMALL = [EACH[11], EACH[14], record("RW", 1, 700000), EACH[15], END]
 
 
 def of_plans():
@@ -500,8 +536,65 @@ def odd_areas():
     corners = (0, 0, 0, 0), (rows, columns, rows, columns), (0, 0, rows, columns), (1, 1, 5, 3)
     for mark, (top, left, bottom, right) in itertools.product(("AR", "MR"), corners):
         for down, over in itertools.product((0, 1), (0, 1)):
-            yield put(SEVERAL, record(mark, top, left, bottom + down, right + over))
-            yield put(SEVERAL, record(mark, top + down, left + over, bottom, right))
+            yield put(UNLIMITED, record(mark, top, left, bottom + down, right + over))
+            yield put(UNLIMITED, record(mark, top + down, left + over, bottom, right))
+
+
+def with_areas(job, *areas):
+    """The job with other areas."""
+    for area in areas:
+        job = added(job, record("AR", *area))
+    return job
+
+
+NO_AREA = [part for part in UNLIMITED if part[:2] != b"AR"]
+
+
+def several_areas():
+    """None to ten; nested, equal, next to each other and past the slots; UC about their cells; LP about their pages."""
+    for count in range(11):
+        yield with_areas(NO_AREA, *[(0, 0, 8, 5)] * count)
+        yield put(with_areas(NO_AREA, *[(0, 0, 8, 5)] * count), record("FT", 1))
+        yield put(with_areas(NO_AREA, *[(count, 0, 8, 5)] * count), record("FT", 2))
+    blocks = ((0, 0, 8, 5), (0, 0, 0, 0), (2, 2, 3, 3), (1, 0, 4, 5), (5, 0, 8, 5), (7, 6, 9, 9))
+    for one, other in itertools.product(blocks, blocks):
+        job, cells = with_areas(NO_AREA, one, other), plans.cells_in([one, other])
+        yield job
+        yield put(job, record("FT", 1))
+        for limit in (0, cells - 1, cells):
+            yield put(job, record("UC", limit))
+    three = with_areas(NO_AREA, (0, 0, 8, 5), (0, 0, 0, 0), (1, 0, 8, 5))
+    for limit in range(17, 24):
+        yield put(three, record("LP", limit))
+    for limit in (2**34 - 1, 2**34, U64):
+        yield put(with_areas(NO_AREA, (0, 0, *LIMITS), (1, 1, 1, 1)), record("UC", limit))
+
+
+def faults_of_areas():
+    """A second area that is turned or outside, before and behind others, beside a limit of cells that holds or not."""
+    whole = (0, 0, 8, 5)
+    outside = (0, 0, 0, LIMITS[COLUMNS] + 1), (0, 0, LIMITS[ROWS] + 1, 0), (U32, 65535, U32, 65535)
+    for bad in ((1, 0, 0, 0), (0, 1, 0, 0), *outside):
+        for areas in ((bad,), (whole, bad), (bad, whole), (whole,) * 7 + (bad,), (whole,) * 8 + (bad,)):
+            job = with_areas(NO_AREA, *areas)
+            yield job
+            yield put(job, record("UC", 0))
+    for mark in (b"TR", b"RW", b"EN"):
+        at = places(SEVERAL, (mark,))[0] + (mark != b"EN")
+        yield SEVERAL[:at] + [record("AR", *whole)] + SEVERAL[at:]
+    for at in range(len(UNLIMITED)):
+        yield UNLIMITED[:at] + [record("UC", 60)] + UNLIMITED[at:]
+    r = random.Random("faults of areas")
+    two = with_areas(SEVERAL, (1, 1, 9, 5))
+    for _, fault in ALL_FAULTS:
+        yield fault(r, put(two, record("UC", 58)))
+        yield fault(r, put(two, record("UC", 59)))
+
+
+def long_areas():
+    """Two areas of more runs together than a list of `plan` has room for."""
+    p = large_plan(2501, 1, 700000)
+    yield records(replace(p, areas=[(0, 0, 2500, 0)] * 2))
 
 
 def faults():
@@ -527,6 +620,9 @@ LIMIT_PARTS = (
     odd_titles,
     odd_slots,
     odd_areas,
+    several_areas,
+    faults_of_areas,
+    long_areas,
     faults,
     longest,
 )

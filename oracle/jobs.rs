@@ -3,9 +3,9 @@
 // A line of input is the number of a job's bytes as eight hexadecimal digits, and the bytes as two
 // digits each. The answer is what `plan` prints for these bytes, and an empty line.
 //
-// The Rust has no jobs. They are read here after document 01, sections "Jobs" and "Questions in order",
-// and the questions 1 to 9 are put to the records, one after another. The chain of plans.rs does the
-// rest, and asks 11 and 12.
+// The Rust has no jobs. They are read here after document 01, sections "Jobs" and "Questions in order", and
+// document 02, T-02, and the questions 1 to 7, 15, 8 and 9 are put to the records, one after another. The
+// chain of plans.rs does the rest, and asks 12; its 11 is met by no job, as `plan` meets none.
 #![allow(dead_code)]
 
 include!("shim.rs");
@@ -16,14 +16,14 @@ include!("plans.rs");
 /// 1: the most bytes of a job.
 const MOST_BYTES: usize = 60_000;
 
-/// The runs that a list has room for.
+/// The runs that a list of `plan` has room for, which holds one area after another.
 const RUN_ENTRIES: usize = 5_000;
 
 /// The page limit where none is given.
 const PAGE_LIMIT: u64 = 10_000;
 
 /// The kinds of record, in order: the mark, how many bytes follow it, and whether the record may repeat.
-const KINDS: [(&str, usize, bool); 19] = [
+const KINDS: [(&str, usize, bool); 20] = [
     ("PC", 2, false),
     ("LA", 0, false),
     ("MG", 48, false),
@@ -34,7 +34,8 @@ const KINDS: [(&str, usize, bool); 19] = [
     ("OD", 1, false),
     ("HD", 0, false),
     ("LP", 8, false),
-    ("AR", 12, false),
+    ("UC", 8, false),
+    ("AR", 12, true),
     ("TR", 8, false),
     ("TC", 4, false),
     ("RW", 12, true),
@@ -155,13 +156,13 @@ fn rising(slots: &[(u32, i64)], limit: u32) -> bool {
 }
 
 impl Read<'_> {
-    /// 4: marks ordered, repeated only where allowed, AR there.
+    /// 4: marks ordered, repeated only where allowed, AR one to eight times there.
     fn ordered(&self) -> bool {
         let follows = |pair: &[Record]| {
             let (before, after) = (pair[0].kind, pair[1].kind);
             before < after || before == after && KINDS[after].2
         };
-        self.records.windows(2).all(follows) && self.has("AR")
+        self.records.windows(2).all(follows) && (1..=MOST_AREAS).contains(&self.all("AR").count())
     }
 
     /// 5: FT and OD are 0 or 1.
@@ -169,18 +170,25 @@ impl Read<'_> {
         ["FT", "OD"].into_iter().filter_map(|mark| self.flag(mark)).all(|flag| flag <= 1)
     }
 
-    fn areas(&self) -> impl Iterator<Item = Cells> {
+    fn areas_and_merges(&self) -> impl Iterator<Item = Cells> {
         self.cells("AR").into_iter().chain(self.cells("MR"))
     }
 
-    /// 6: firsts are not above lasts in AR and every MR.
+    /// 6: firsts are not above lasts in every AR and every MR.
     fn firsts_first(&self) -> bool {
-        self.areas().all(|Cells(top, left, bottom, right)| top <= bottom && left <= right)
+        self.areas_and_merges().all(|Cells(top, left, bottom, right)| top <= bottom && left <= right)
     }
 
-    /// 7: AR and every MR lie inside the grid.
+    /// 7: every AR and every MR lie inside the grid.
     fn areas_inside(&self) -> bool {
-        self.areas().all(|Cells(_, _, bottom, right)| bottom <= MAX_WORKSHEET_ROW && right <= MAX_WORKSHEET_COLUMN)
+        let inside = |Cells(_, _, bottom, right)| bottom <= MAX_WORKSHEET_ROW && right <= MAX_WORKSHEET_COLUMN;
+        self.areas_and_merges().all(inside)
+    }
+
+    /// 15: at most as many cells in at least one AR as UC says. Asked of areas that pass 6 and 7.
+    fn cells_hold(&self) -> bool {
+        let ranges: Vec<RenderRange> = self.areas().iter().map(range_of).collect();
+        self.one("UC").is_none_or(|mut body| union_cells(&ranges) <= body.u64())
     }
 
     /// 8, of both axes.
@@ -195,22 +203,23 @@ impl Read<'_> {
     }
 }
 
-/// The records of a job, or the first of the questions 1 to 9 that it does not pass.
-fn questioned(bytes: &[u8]) -> Result<Read<'_>, Refused> {
+/// The records of a job, or the first of the questions 1 to 7, 15, 8 and 9 that it does not pass.
+fn questioned<'a>(bytes: &'a [u8]) -> Result<Read<'a>, Refused> {
     if bytes.len() > MOST_BYTES {
         return Err(Refused(1));
     }
     let read = read(bytes).ok_or(Refused(2))?;
-    let passed = [
-        (3, read.rest.is_empty()),
-        (4, read.ordered()),
-        (5, read.flags_hold()),
-        (6, read.firsts_first()),
-        (7, read.areas_inside()),
-        (8, read.slots_rising()),
-        (9, read.sizes_hold()),
+    let questions: [(u8, fn(&Read<'a>) -> bool); 8] = [
+        (3, |read| read.rest.is_empty()),
+        (4, Read::ordered),
+        (5, Read::flags_hold),
+        (6, Read::firsts_first),
+        (7, Read::areas_inside),
+        (15, Read::cells_hold),
+        (8, Read::slots_rising),
+        (9, Read::sizes_hold),
     ];
-    match passed.into_iter().find(|(_, ok)| !ok) {
+    match questions.into_iter().find(|(_, holds)| !holds(&read)) {
         Some((number, _)) => Err(Refused(number)),
         None => Ok(read),
     }
@@ -243,9 +252,18 @@ impl Read<'_> {
         }
     }
 
+    fn areas(&self) -> Vec<Asked> {
+        let area = |Cells(first_row, first_column, last_row, last_column)| Asked {
+            first_row,
+            first_column: u32::from(first_column),
+            last_row,
+            last_column: u32::from(last_column),
+        };
+        self.cells("AR").into_iter().map(area).collect()
+    }
+
     /// The job, with lists that have room for so many runs.
     fn job(&self, runs: usize) -> Job {
-        let Cells(first_row, first_column, last_row, last_column) = self.cells("AR")[0];
         let merges = self.cells("MR");
         let (row_indexes, row_sizes) = self.rows().into_iter().map(|(index, size)| (index, size as u64)).unzip();
         let (column_indexes, column_sizes) =
@@ -254,10 +272,8 @@ impl Read<'_> {
             setup: self.setup(),
             behavior: self.behavior(),
             page_limit: self.one("LP").map_or(PAGE_LIMIT, |mut body| body.u64()),
-            first_row,
-            first_column: u32::from(first_column),
-            last_row,
-            last_column: u32::from(last_column),
+            cell_limit: self.one("UC").map(|mut body| body.u64()),
+            areas: self.areas(),
             row_indexes,
             row_sizes,
             column_indexes,
@@ -274,7 +290,7 @@ impl Read<'_> {
     }
 }
 
-fn page_text(number: usize, slot: &PageSlot) -> String {
+fn page_text(number: u64, slot: &PageSlot) -> String {
     let (rows, columns) = (&slot.rows, &slot.columns);
     let places = format!("{number} {} {}", slot.vertical_index, slot.horizontal_index);
     let indexes = format!("{} {} {} {}", rows.first, rows.last, columns.first, columns.last);
@@ -283,13 +299,22 @@ fn page_text(number: usize, slot: &PageSlot) -> String {
 
 /// What `plan` prints for a job that is not refused.
 fn planned(bytes: &[u8]) -> Result<String, Refused> {
-    let job = questioned(bytes)?.job(RUN_ENTRIES);
+    let job = questioned(bytes)?.job(MOST_AREAS * RUN_ENTRIES);
     let mut warnings = PrintWarnings::default();
-    let area = prepared(&job, &mut warnings)?;
-    let mut text = format!("plan {} {}\n", area.scale_permille, area.logical_pages);
+    let areas = prepared(&job, &mut warnings)?;
+    let mut text = format!("plan {} {}\n", areas[0].scale_permille, page_count(&areas));
     text += &format!("notes{}\n", spelt(&nine_notes(warnings)));
-    for (before, slot) in area.slots.iter().enumerate() {
-        text += &page_text(before + 1, slot);
+    let mut number = 0;
+    for (before, area) in areas.iter().enumerate() {
+        let (rows, columns) = (&area.row_segments, &area.column_segments);
+        assert!(rows.len().max(columns.len()) <= RUN_ENTRIES, "more runs than `plan` has room for");
+        if before > 0 {
+            text += &format!("area {} {}\n", before + 1, area.scale_permille);
+        }
+        for slot in page_slots(job.behavior.page_order, rows, columns) {
+            number += 1;
+            text += &page_text(number, &slot);
+        }
     }
     Ok(text)
 }

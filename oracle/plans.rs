@@ -3,16 +3,17 @@
 // The fields of a line, each a space and so many hexadecimal digits:
 //
 //     p   plans
-//     2   eleven flags, 0 or 1: paper given, landscape, percent given, fit, width's target given,
+//     2   twelve flags, 0 or 1: paper given, landscape, percent given, fit, width's target given,
 //         height's target given, over then down, headings, row title given, column title given,
-//         margins given
-//     2   twelve lengths: row indexes and sizes, column indexes and sizes, the merges' first rows,
-//         first columns, last rows and last columns, row breaks, column breaks, and the numbers of
-//         the lent lists of row runs and of column runs
-//     8   paper, percent, width's target, height's target; the range's first row, first column, last
-//         row and last column; the row title's first and last, the column title's first and last
-//     16  the page limit
+//         margins given, cell limit given
+//     2   thirteen lengths: row indexes and sizes, column indexes and sizes, the merges' first rows,
+//         first columns, last rows and last columns, row breaks, column breaks, the numbers of the lent
+//         lists of row runs and of column runs, and the areas
+//     8   paper, percent, width's target, height's target; the row title's first and last, the column
+//         title's first and last
+//     16  the page limit, the cell limit
 //     16  left, right, top, bottom, header and footer as the bits of an f64, if margins are given
+//     8   the areas' first rows, first columns, last rows, last columns
 //     8   the row indexes
 //     16  the row sizes
 //     8   the column indexes
@@ -20,35 +21,49 @@
 //     8   the merges' first rows, first columns, last rows, last columns; row breaks; column breaks
 //
 //     n   pages by their number, of plans that are not as they were answered
-//     2   three flags, 0 or 1: over then down, rows empty, columns empty
+//     2   a flag, 0 or 1: over then down
 //     2   how many runs stand between two whose mark is 0, of rows and of columns; the first run has
 //         the mark 0
 //     2   how many numbers the lists of row runs and of column runs have
+//     2   how many areas the line has, at most eight; those that it lacks have no runs
 //     16  the numbers that the two lists start with, from which each place has one more, but for the
 //         marks of 0
-//     16  row runs, column runs, pages, and the number of the page
+//     16  the count of areas, pages, and the number of the page
+//     of each area:
+//     2   two flags: rows empty, columns empty
+//     16  row runs, column runs
 //
-// The answer to p is `plan`, the permille, the counts of row runs and column runs, whether rows and
-// columns are empty, the count of pages, the order (1 over then down), and the nine notes; then the
-// two lent lists, whole, each after a `;`; then pages, each after a `;`: the number, and an answer
-// as to n. Of twelve pages or fewer all are answered, with the numbers 0 and one above the count; of
-// more those that `asked` has. The answer to n is `page`, the vertical and the horizontal number, and
-// the two runs, each with first, last, size, empty mark and manual mark. A refusal is `no` and its
-// number; of p the lent lists follow here too.
+// The answer to p is `plan`, the counts of areas and of pages, the order (1 over then down), and the nine
+// notes; of each area the permille, the count of unreachable targets, the counts of row runs and column
+// runs, whether rows and columns are empty; then the two lent lists, whole, each after a `;`; then
+// pages, each after a `;`: the number, and an answer as to n. Of twelve pages or fewer all are answered,
+// with the numbers 0 and one above the count; of more those that `asked` has. The answer to n is `page`,
+// the vertical and the horizontal number, and the two runs, each with first, last, size, empty mark and
+// manual mark. A refusal is `no` and its number; of p the lent lists follow here too.
 //
-// After the questions, which the Rust does not ask, the chain is that of prepare_print_document and
+// After the questions, which the Rust does not ask, the chain is that of prepare_sheet_print_document and
 // prepare_print_area, line by line, over the slots that are given; but of five paper codes the paper is
 // that of standard.rs, which a driver includes before this file.
+
+/// The most areas.
+const MOST_AREAS: usize = 8;
+
+/// A print area as it is asked for.
+#[derive(Clone, Copy)]
+struct Asked {
+    first_row: u32,
+    first_column: u32,
+    last_row: u32,
+    last_column: u32,
+}
 
 /// What a line says of a plan.
 struct Job {
     setup: PageSetup,
     behavior: Behavior,
     page_limit: u64,
-    first_row: u32,
-    first_column: u32,
-    last_row: u32,
-    last_column: u32,
+    cell_limit: Option<u64>,
+    areas: Vec<Asked>,
     row_indexes: Vec<u32>,
     row_sizes: Vec<u64>,
     column_indexes: Vec<u32>,
@@ -80,16 +95,22 @@ fn page_order(over_then_down: bool) -> PrintPageOrder {
 
 fn job(line: &str) -> Job {
     let mut fields = Fields(&line[1..]);
-    let flags: Vec<bool> = (0..11).map(|_| fields.flag()).collect();
-    let lengths: Vec<usize> = (0..12).map(|_| fields.next(2) as usize).collect();
+    let flags: Vec<bool> = (0..12).map(|_| fields.flag()).collect();
+    let lengths: Vec<usize> = (0..13).map(|_| fields.next(2) as usize).collect();
     let mut small = || u16::try_from(fields.number()).expect("a number of 16 bits");
     let (paper, percent, width, height) = (small(), small(), small(), small());
-    let range = fields.numbers(4);
     let row_title = (fields.number(), fields.number());
     let column_title = (u16::of(fields.number()), u16::of(fields.number()));
-    let page_limit = fields.next(16);
+    let (page_limit, cell_limit) = (fields.next(16), fields.next(16));
     let mut inches = || f64::from_bits(fields.next(16));
     let margins = flags[10].then(|| (inches(), inches(), inches(), inches(), inches(), inches()));
+    let corners = [0; 4].map(|_| fields.numbers(lengths[12]));
+    let area = |at: usize| Asked {
+        first_row: corners[0][at],
+        first_column: corners[1][at],
+        last_row: corners[2][at],
+        last_column: corners[3][at],
+    };
     let job = Job {
         setup: PageSetup {
             paper_size: flags[0].then_some(paper),
@@ -108,10 +129,8 @@ fn job(line: &str) -> Job {
             headings: flags[7],
         },
         page_limit,
-        first_row: range[0],
-        first_column: range[1],
-        last_row: range[2],
-        last_column: range[3],
+        cell_limit: flags[11].then_some(cell_limit),
+        areas: (0..lengths[12]).map(area).collect(),
         row_indexes: fields.numbers(lengths[0]),
         row_sizes: fields.sizes(lengths[1]),
         column_indexes: fields.numbers(lengths[2]),
@@ -132,6 +151,11 @@ fn job(line: &str) -> Job {
 // ---- the questions
 
 impl Job {
+    /// 4: one to eight areas.
+    fn areas_count(&self) -> bool {
+        (1..=MOST_AREAS).contains(&self.areas.len())
+    }
+
     /// 6: slices that make up one list are equally long.
     fn lists_pair_up(&self) -> bool {
         let merges = self.merge_first_rows.len();
@@ -149,19 +173,23 @@ impl Job {
     fn pairs_ordered(&self) -> bool {
         let mut rows = self.merge_first_rows.iter().zip(&self.merge_last_rows);
         let mut columns = self.merge_first_columns.iter().zip(&self.merge_last_columns);
-        self.first_row <= self.last_row
-            && self.first_column <= self.last_column
+        self.areas.iter().all(|area| area.first_row <= area.last_row && area.first_column <= area.last_column)
             && rows.all(|(first, last)| first <= last)
             && columns.all(|(first, last)| first <= last)
     }
 
-    /// 7: the range and every merge lie inside the grid.
+    /// 7: the areas and every merge lie inside the grid.
     fn inside(&self) -> bool {
         let columns = u32::from(MAX_WORKSHEET_COLUMN);
-        self.last_row <= MAX_WORKSHEET_ROW
-            && self.last_column <= columns
+        self.areas.iter().all(|area| area.last_row <= MAX_WORKSHEET_ROW && area.last_column <= columns)
             && self.merge_last_rows.iter().all(|&row| row <= MAX_WORKSHEET_ROW)
             && self.merge_last_columns.iter().all(|&column| column <= columns)
+    }
+
+    /// 15: the areas have at most as many cells as the limit, each counted once. Asked of areas that pass 6 and 7.
+    fn cells_hold(&self) -> bool {
+        let ranges: Vec<RenderRange> = self.areas.iter().map(range_of).collect();
+        self.cell_limit.is_none_or(|most| union_cells(&ranges) <= most)
     }
 
     /// 8: slot indexes rise strictly and lie inside the grid.
@@ -178,16 +206,54 @@ impl Job {
         self.row_sizes.iter().chain(&self.column_sizes).all(|&size| size <= LARGEST_SIZE)
     }
 
-    /// The first of the questions 6 to 9 that the input does not pass.
+    /// The first of the questions 4, 6, 7, 15, 8 and 9 that the input does not pass.
     fn refused(&self) -> Option<u8> {
-        let passed = [
-            (6, self.lists_pair_up() && self.pairs_ordered()),
-            (7, self.inside()),
-            (8, self.slots_rise()),
-            (9, self.sizes_small()),
+        let questions: [(u8, fn(&Self) -> bool); 6] = [
+            (4, Self::areas_count),
+            (6, |job| job.lists_pair_up() && job.pairs_ordered()),
+            (7, Self::inside),
+            (15, Self::cells_hold),
+            (8, Self::slots_rise),
+            (9, Self::sizes_small),
         ];
-        passed.into_iter().find(|(_, ok)| !ok).map(|(number, _)| number)
+        questions.into_iter().find(|(_, holds)| !holds(self)).map(|(number, _)| number)
     }
+}
+
+fn range_of(area: &Asked) -> RenderRange {
+    RenderRange {
+        first_row: area.first_row,
+        first_col: u16::of(area.first_column),
+        last_row: area.last_row,
+        last_col: u16::of(area.last_column),
+    }
+}
+
+/// The cells that lie in at least one range, as the Rust counts them; a second count is the same.
+fn union_cells(ranges: &[RenderRange]) -> u64 {
+    let cells = rectangle_union_count(ranges).expect("a count within u64");
+    assert_eq!(cells, cells_in_and_out(ranges), "two counts of the cells in {ranges:?}");
+    cells
+}
+
+/// The same count by the ranges' intersections: those of an odd number of ranges less those of an even number.
+fn cells_in_and_out(ranges: &[RenderRange]) -> u64 {
+    let (mut odd, mut even) = (0, 0);
+    for chosen in 1..1usize << ranges.len() {
+        let is_chosen = |(at, _): &(usize, _)| chosen >> at & 1 == 1;
+        let among = || ranges.iter().enumerate().filter(is_chosen).map(|(_, range)| range);
+        let last_row = among().map(|range| u64::from(range.last_row)).min().expect("one range");
+        let last_col = among().map(|range| u64::from(range.last_col)).min().expect("one range");
+        let first_row = among().map(|range| u64::from(range.first_row)).max().expect("one range");
+        let first_col = among().map(|range| u64::from(range.first_col)).max().expect("one range");
+        let cells = (last_row + 1).saturating_sub(first_row) * (last_col + 1).saturating_sub(first_col);
+        if chosen.count_ones() % 2 == 1 {
+            odd += cells;
+        } else {
+            even += cells;
+        }
+    }
+    odd - even
 }
 
 /// A refusal's number.
@@ -206,15 +272,6 @@ impl From<RenderError> for Refused {
 // ---- the chain
 
 impl Job {
-    fn range(&self) -> RenderRange {
-        RenderRange {
-            first_row: self.first_row,
-            first_col: u16::of(self.first_column),
-            last_row: self.last_row,
-            last_col: u16::of(self.last_column),
-        }
-    }
-
     fn sheet(&self) -> Sheet {
         let merge = |at: usize| {
             (
@@ -228,17 +285,19 @@ impl Job {
     }
 }
 
-/// What a plan is made of.
+/// What the pages of an area are made of.
 struct Area {
     scale_permille: u16,
+    unreachable: u64,
     row_segments: Vec<AxisSegment<u32>>,
     column_segments: Vec<AxisSegment<u16>>,
     logical_pages: u64,
-    slots: Vec<PageSlot>,
 }
 
-/// As prepare_print_document: paper, content and titles.
-fn prepared(job: &Job, warnings: &mut PrintWarnings) -> Result<Area, Refused> {
+/// As prepare_sheet_print_document: paper, content and titles, then the areas, with question 11 before the
+/// page limit. The Rust asks the limit after each area, of the pages so far; asked once, of all, it has the
+/// same answer.
+fn prepared(job: &Job, warnings: &mut PrintWarnings) -> Result<Vec<Area>, Refused> {
     let (sheet, setup) = (job.sheet(), &job.setup);
     let paper = paper_of(setup.paper_size, setup.landscape, warnings)?;
     let (content_rect, _, _) = content_geometry(paper, setup.margins, warnings)?;
@@ -246,19 +305,45 @@ fn prepared(job: &Job, warnings: &mut PrintWarnings) -> Result<Area, Refused> {
     let repeat_rows = expand_repeat_rows_for_merges(&sheet, repeat_rows, warnings);
     let repeat_cols = normalize_repeat_cols(setup.repeat_cols, warnings);
     let repeat_cols = expand_repeat_cols_for_merges(&sheet, repeat_cols, warnings);
-    prepared_area(job, &sheet, repeat_rows, repeat_cols, content_rect, warnings)
+    let mut areas = Vec::new();
+    for range in job.areas.iter().map(range_of) {
+        areas.push(prepared_area(job, &sheet, range, repeat_rows, repeat_cols, content_rect, warnings)?);
+    }
+    let (rows, columns) = run_counts(&areas);
+    if rows > job.lent_rows.room() || columns > job.lent_columns.room() {
+        return Err(Refused(11));
+    }
+    enforce_print_limit(LimitKind::LogicalPages, job.page_limit, page_count(&areas))?;
+    Ok(areas)
 }
 
-/// As prepare_print_area, with question 11 before the page limit.
+/// How many runs of rows and of columns the areas have together.
+fn run_counts(areas: &[Area]) -> (usize, usize) {
+    let rows = areas.iter().map(|area| area.row_segments.len()).sum();
+    (rows, areas.iter().map(|area| area.column_segments.len()).sum())
+}
+
+/// The pages' total.
+fn page_count(areas: &[Area]) -> u64 {
+    areas.iter().map(|area| area.logical_pages).sum()
+}
+
+/// The notes so far on targets that no permille meets.
+fn unreachable_so_far(warnings: &PrintWarnings) -> u64 {
+    warnings.0.get(&PrintWarningCode::FitTargetUnreachable).copied().unwrap_or(0)
+}
+
+/// As prepare_print_area, up to its count of pages.
 fn prepared_area(
     job: &Job,
     sheet: &Sheet,
+    range: RenderRange,
     repeat_rows: Option<(u32, u32)>,
     repeat_cols: Option<(u16, u16)>,
     content_rect: Rect,
     warnings: &mut PrintWarnings,
 ) -> Result<Area, Refused> {
-    let (setup, behavior, range) = (&job.setup, &job.behavior, job.range());
+    let (setup, behavior) = (&job.setup, &job.behavior);
     let mut body_first_row = Some(range.first_row);
     let mut body_first_col = Some(range.first_col);
     if let Some((first, last)) = repeat_rows {
@@ -306,6 +391,7 @@ fn prepared_area(
         .filter(|&first| first <= range.last_col)
         .map_or_else(Vec::new, |first| merge_intervals_columns(sheet, first, range.last_col));
 
+    let unreachable_before = unreachable_so_far(warnings);
     let scale_permille = choose_scale(
         setup,
         behavior.fit_to_page,
@@ -379,21 +465,15 @@ fn prepared_area(
         PrintWarningCode::PageContentOverflow,
         row_overflows.saturating_add(column_overflows),
     );
-    if row_segments.len() > job.lent_rows.room() || column_segments.len() > job.lent_columns.room() {
-        return Err(Refused(11));
-    }
     let logical_pages = (row_segments.len() as u64)
         .checked_mul(column_segments.len() as u64)
         .ok_or(RenderError::CoordinateOverflow)?;
-    enforce_print_limit(LimitKind::LogicalPages, job.page_limit, logical_pages)?;
-    let slots = page_slots(behavior.page_order, &row_segments, &column_segments);
-    enforce_print_limit(LimitKind::Pages, job.page_limit, slots.len() as u64)?;
     Ok(Area {
         scale_permille,
+        unreachable: unreachable_so_far(warnings) - unreachable_before,
         row_segments,
         column_segments,
         logical_pages,
-        slots,
     })
 }
 
@@ -484,28 +564,46 @@ fn asked(pages: u64) -> Vec<u64> {
     (0..=6).chain(middle).chain(pages - 5..=pages + 1).collect()
 }
 
+/// The pages of all areas, in order.
+fn slots_of(order: PrintPageOrder, areas: &[Area]) -> Vec<PageSlot> {
+    areas.iter().flat_map(|area| page_slots(order, &area.row_segments, &area.column_segments)).collect()
+}
+
+/// Permille, unreachable targets, counts of runs, and whether the bodies are empty.
+fn area_text(area: &Area) -> String {
+    let (rows, columns) = (&area.row_segments, &area.column_segments);
+    let empties = [rows[0].body_is_empty, columns[0].body_is_empty].map(u8::from);
+    let counts = [rows.len(), columns.len()];
+    format!(" {} {}{}{}", area.scale_permille, area.unreachable, spelt(&counts), spelt(&empties))
+}
+
+/// The runs of all areas on an axis, in job order.
+fn joined<I: Index>(areas: &[Area], segments: fn(&Area) -> &[AxisSegment<I>]) -> Vec<AxisSegment<u32>> {
+    areas.iter().flat_map(|area| plain(segments(area).to_vec())).collect()
+}
+
 fn plan(mut job: Job) -> String {
-    if let Some(number) = job.refused() {
-        return format!("no {number}{}{}", job.lent_rows.text(), job.lent_columns.text());
-    }
     let mut warnings = PrintWarnings::default();
-    let area = match prepared(&job, &mut warnings) {
-        Ok(area) => area,
+    let planned = match job.refused() {
+        Some(number) => Err(Refused(number)),
+        None => prepared(&job, &mut warnings),
+    };
+    let areas = match planned {
+        Ok(areas) => areas,
         Err(Refused(number)) => {
             return format!("no {number}{}{}", job.lent_rows.text(), job.lent_columns.text());
         }
     };
-    let empty = |marked: bool| u8::from(marked);
-    let counts = [area.row_segments.len(), area.column_segments.len()];
-    let empties = [empty(area.row_segments[0].body_is_empty), empty(area.column_segments[0].body_is_empty)];
-    let order = u8::from(job.behavior.page_order == PrintPageOrder::OverThenDown);
-    let head = format!("plan {}{}{}", area.scale_permille, spelt(&counts), spelt(&empties));
-    let tail = format!(" {} {order}{}", area.logical_pages, spelt(&nine_notes(warnings)));
-    let pages = asked(area.logical_pages).into_iter().map(|n| format!("; {n} {}", numbered(&area.slots, n)));
-    let pages: String = pages.collect();
-    job.lent_rows.write(&plain(area.row_segments));
-    job.lent_columns.write(&plain(area.column_segments));
-    format!("{head}{tail}{}{}{pages}", job.lent_rows.text(), job.lent_columns.text())
+    let (order, pages) = (job.behavior.page_order, page_count(&areas));
+    let over_then_down = u8::from(order == PrintPageOrder::OverThenDown);
+    let head = format!("plan {} {pages} {over_then_down}{}", areas.len(), spelt(&nine_notes(warnings)));
+    let each: String = areas.iter().map(area_text).collect();
+    let slots = slots_of(order, &areas);
+    let by_number = asked(pages).into_iter().map(|n| format!("; {n} {}", numbered(&slots, n)));
+    let by_number: String = by_number.collect();
+    job.lent_rows.write(&joined(&areas, |area| &area.row_segments));
+    job.lent_columns.write(&joined(&areas, |area| &area.column_segments));
+    format!("{head}{each}{}{}{by_number}", job.lent_rows.text(), job.lent_columns.text())
 }
 
 // ---- pages by their number
@@ -522,40 +620,58 @@ fn run_in(list: &Lent, at: usize, empty: bool) -> String {
     format!(" {first} {last} {} {} {}", run[2], u8::from(empty), u8::from(run[3] > 0))
 }
 
-/// The pages of run lists, in order.
-fn pages_in(over_then_down: bool, runs: [usize; 2], empties: [bool; 2], lists: [&Lent; 2]) -> Vec<String> {
-    let mut places = Vec::new();
-    if over_then_down {
-        for v in 0..runs[0] {
-            places.extend((0..runs[1]).map(|h| (v, h)));
-        }
-    } else {
-        for h in 0..runs[1] {
-            places.extend((0..runs[0]).map(|v| (v, h)));
-        }
-    }
-    let text = |(v, h)| {
-        let (rows, columns) = (run_in(lists[0], v, empties[0]), run_in(lists[1], h, empties[1]));
-        format!("page {v} {h}{rows}{columns}")
-    };
-    places.into_iter().map(text).collect()
+/// An area of a plan that is not as it was answered.
+#[derive(Clone, Copy, Default)]
+struct Counted {
+    empties: [bool; 2],
+    runs: [u64; 2],
 }
 
-/// 11, then the page with the number out of the first `pages` pages, or 14.
+/// The places of an area's pages, in order: the numbers of their two runs.
+fn places_in(over_then_down: bool, [rows, columns]: [usize; 2]) -> Vec<(usize, usize)> {
+    if over_then_down {
+        (0..rows).flat_map(|v| (0..columns).map(move |h| (v, h))).collect()
+    } else {
+        (0..columns).flat_map(|h| (0..rows).map(move |v| (v, h))).collect()
+    }
+}
+
+/// The pages of areas whose runs the lists have one after another, in order.
+fn pages_in(over_then_down: bool, areas: &[Counted], lists: [&Lent; 2]) -> Vec<String> {
+    let (mut pages, mut before) = (Vec::new(), [0, 0]);
+    for area in areas {
+        let runs = area.runs.map(|runs| runs as usize);
+        pages.extend(places_in(over_then_down, runs).into_iter().map(|(v, h)| {
+            let rows = run_in(lists[0], before[0] + v, area.empties[0]);
+            let columns = run_in(lists[1], before[1] + h, area.empties[1]);
+            format!("page {v} {h}{rows}{columns}")
+        }));
+        before = [before[0] + runs[0], before[1] + runs[1]];
+    }
+    pages
+}
+
+/// 11 of all areas' runs, then the page with the number out of the first `pages` pages, or 14.
 fn page(line: &str) -> String {
     let mut fields = Fields(&line[1..]);
-    let [over_then_down, rows_empty, columns_empty] = [fields.flag(), fields.flag(), fields.flag()];
+    let over_then_down = fields.flag();
     let others = [fields.next(2) as usize, fields.next(2) as usize];
     let lengths = [fields.next(2) as usize, fields.next(2) as usize];
+    let given = fields.next(2) as usize;
     let starts = [fields.next(16), fields.next(16)];
-    let runs = [fields.next(16) as usize, fields.next(16) as usize];
-    let (pages, number) = (fields.next(16), fields.next(16));
+    let (count, pages, number) = (fields.next(16), fields.next(16), fields.next(16));
+    let mut areas = [Counted::default(); MOST_AREAS];
+    for area in &mut areas[..given] {
+        *area = Counted { empties: [fields.flag(), fields.flag()], runs: [fields.next(16), fields.next(16)] };
+    }
     assert_eq!(fields.0, "", "more than the fields in {line:?}");
-    let [rows, columns] = [0, 1].map(|axis| Lent::new(lengths[axis], starts[axis]).marked(others[axis]));
-    if runs[0] > rows.room() || runs[1] > columns.room() {
+    let areas = &areas[..count.min(MOST_AREAS as u64) as usize];
+    let lists = [0, 1].map(|axis| Lent::new(lengths[axis], starts[axis]).marked(others[axis]));
+    let runs = |axis: usize| areas.iter().map(|area| u128::from(area.runs[axis])).sum::<u128>();
+    if (0..2).any(|axis| runs(axis) > lists[axis].room() as u128) {
         return "no 11".to_string();
     }
-    let all = pages_in(over_then_down, runs, [rows_empty, columns_empty], [&rows, &columns]);
+    let all = pages_in(over_then_down, areas, [&lists[0], &lists[1]]);
     let kept = all.len().min(usize::try_from(pages).expect("64 bits"));
     match (1..=kept as u64).position(|n| n == number) {
         Some(at) => all[at].clone(),

@@ -43,8 +43,8 @@ def paper_of_line(words):
 
 
 def paper_of_plan(words):
-    """The code of a line to plan_pages, if one is given: eleven flags, twelve lengths, and then the code."""
-    return int(words[24], 16) if words[1] == "01" else None
+    """The code of a line to plan_pages, if one is given: twelve flags, thirteen lengths, and then the code."""
+    return int(words[26], 16) if words[1] == "01" else None
 
 
 def paper_of_job(line):

@@ -65,6 +65,8 @@ ITEMS = [
     ("render/src/print.rs", "fn ensure_row_segment"),
     ("render/src/print.rs", "fn ensure_column_segment"),
     ("render/src/print.rs", "fn measured_axis_range"),
+    ("render/src/print.rs", "fn interval_union_count"),
+    ("render/src/print.rs", "fn rectangle_union_count"),
     ("render/src/print.rs", "fn axis_total"),
     ("render/src/print.rs", "fn axis_slice_total"),
     ("render/src/print.rs", "fn scale_fixed"),

@@ -1090,6 +1090,68 @@ where
         .collect()
 }
 
+// render/src/print.rs:3840
+fn interval_union_count(
+    intervals: impl IntoIterator<Item = (u64, u64)>,
+) -> Result<u64, RenderError> {
+    let mut intervals = intervals.into_iter().collect::<Vec<_>>();
+    intervals.sort_unstable();
+    let mut total = 0_u64;
+    let mut current: Option<(u64, u64)> = None;
+    for (start, end) in intervals {
+        if start >= end {
+            continue;
+        }
+        match current {
+            Some((current_start, current_end)) if start <= current_end => {
+                current = Some((current_start, current_end.max(end)));
+            }
+            Some((current_start, current_end)) => {
+                total = total
+                    .checked_add(current_end - current_start)
+                    .ok_or(RenderError::CoordinateOverflow)?;
+                current = Some((start, end));
+            }
+            None => current = Some((start, end)),
+        }
+    }
+    if let Some((start, end)) = current {
+        total = total
+            .checked_add(end - start)
+            .ok_or(RenderError::CoordinateOverflow)?;
+    }
+    Ok(total)
+}
+
+// render/src/print.rs:3872
+fn rectangle_union_count(ranges: &[RenderRange]) -> Result<u64, RenderError> {
+    let mut row_boundaries = ranges
+        .iter()
+        .flat_map(|range| [u64::from(range.first_row), u64::from(range.last_row) + 1])
+        .collect::<Vec<_>>();
+    row_boundaries.sort_unstable();
+    row_boundaries.dedup();
+    let mut total = 0_u64;
+    for band in row_boundaries.windows(2) {
+        let first = band[0];
+        let last = band[1];
+        let columns = interval_union_count(ranges.iter().filter_map(|range| {
+            let range_first = u64::from(range.first_row);
+            let range_last = u64::from(range.last_row) + 1;
+            (range_first < last && range_last > first)
+                .then_some((u64::from(range.first_col), u64::from(range.last_col) + 1))
+        }))?;
+        total = total
+            .checked_add(
+                (last - first)
+                    .checked_mul(columns)
+                    .ok_or(RenderError::CoordinateOverflow)?,
+            )
+            .ok_or(RenderError::CoordinateOverflow)?;
+    }
+    Ok(total)
+}
+
 // render/src/print.rs:3900
 fn axis_total<I>(slots: &[MeasuredAxisSlot<I>]) -> Result<Fixed, RenderError> {
     axis_slice_total(slots)

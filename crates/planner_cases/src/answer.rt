@@ -7,7 +7,7 @@ use planner_rules::Title;
 use planner_rules::Widening;
 
 // The bytes that a line has room for.
-pub const LINE: usize = 4096;
+pub const LINE: usize = 8192;
 
 // Each function puts its text from the place `at` on, and returns the place after it.
 pub(crate) fn byte(out: &mut [u8; LINE], at: usize, b: u8) -> usize {

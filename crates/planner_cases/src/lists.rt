@@ -8,8 +8,11 @@ use planner_rules::RUN_NUMBERS;
 // The most numbers of a list that is read.
 pub const MOST: usize = 24;
 
+// The most runs of a list of runs.
+const RUNS: usize = 48;
+
 // The most numbers of a list of runs: so many runs, and three numbers that make up none.
-pub const NUMBERS: usize = RUN_NUMBERS * MOST + 3;
+pub const NUMBERS: usize = RUN_NUMBERS * RUNS + 3;
 
 // The numbers that the lent lists of runs start with.
 pub const ROWS: u64 = 2_000_000;
@@ -74,7 +77,7 @@ pub(crate) fn numbers_from(first: u64) -> [u64; NUMBERS] {
 
 // The same, but that the first run has the mark 0, and after so many others another has it again.
 pub(crate) fn marked_from(first: u64, others: usize) -> [u64; NUMBERS] {
-    let step = RUN_NUMBERS * (capped(others, MOST) + 1);
+    let step = RUN_NUMBERS * (capped(others, RUNS) + 1);
     let mut out = numbers_from(first);
     let mut i = RUN_NUMBERS - 1;
     while i < NUMBERS {

@@ -9,10 +9,11 @@ use crate::page_text;
 // Reads a plan and a number, and answers the page.
 pub(crate) fn read_page(out: &mut [u8; LINE]) -> usize {
     let line = fields::read(HEAD);
+    let plan = head::read_plan(&line);
     let rows = head::list(&line, 0);
     let columns = head::list(&line, 1);
     let answer = planner_pages::page_numbered(
-        head::plan(&line),
+        plan,
         head::number(&line),
         runs(&rows, head::length(&line, 0)),
         runs(&columns, head::length(&line, 1)),

@@ -1,6 +1,7 @@
-// The answers of plans and pages as text. A plan is `plan`, the permille, the runs of rows and of columns, whether the rows and the columns
-// are empty, the pages, the order and the nine notes; then the two lent lists, each after a `;`; then pages, each after a `;`: the number,
-// and `page`, the vertical and the horizontal number, and both runs, with first, last, size, empty mark and manual mark.
+// The answers of plans and pages as text. A plan is `plan`, the count of areas, the pages, the order and the nine notes; then of each area the
+// permille, whether it is unreachable, the runs of rows and of columns, and whether the rows and the columns are empty; then the two lent lists,
+// each after a `;`; then pages, each after a `;`: the number, and `page`, the vertical and the horizontal number, and both runs, with first, last,
+// size, empty mark and manual mark.
 use crate::answer::LINE;
 use crate::answer::byte;
 use crate::answer::list;
@@ -8,6 +9,10 @@ use crate::answer::number;
 use crate::answer::refusal;
 use crate::answer::text;
 use crate::widths::wide;
+use planner_areas::at_most_eight;
+use planner_areas::plan_at;
+use planner_rules::AreaPlan;
+use planner_rules::AreaPlans;
 use planner_rules::Notes;
 use planner_rules::Page;
 use planner_rules::PageAnswer;
@@ -42,18 +47,36 @@ fn notes(out: &mut [u8; LINE], at: usize, n: Notes) -> usize {
     number(out, h, n.overflowing_runs)
 }
 
+fn area(out: &mut [u8; LINE], at: usize, area: AreaPlan) -> usize {
+    let a = number(out, at, area.permille as u64);
+    let b = number(out, a, area.unreachable);
+    let c = number(out, b, area.row_runs as u64);
+    let d = number(out, c, area.column_runs as u64);
+    let e = flag(out, d, area.rows_empty);
+    flag(out, e, area.columns_empty)
+}
+
+fn areas(out: &mut [u8; LINE], at: usize, held: AreaPlans) -> usize {
+    let count = at_most_eight(held.count);
+    let mut next = at;
+    let mut k = 0;
+    while k < count {
+        next = area(out, next, plan_at(held, k));
+        k += 1;
+    }
+    next
+}
+
 fn plan(out: &mut [u8; LINE], p: Plan) -> usize {
     let order = p.order;
     let noted = p.notes;
+    let held = p.areas;
     let a = text(out, 0, b"plan");
-    let b = number(out, a, p.permille as u64);
-    let c = number(out, b, p.row_runs as u64);
-    let d = number(out, c, p.column_runs as u64);
-    let e = flag(out, d, p.rows_empty);
-    let f = flag(out, e, p.columns_empty);
-    let g = number(out, f, p.pages);
-    let h = page_order(out, g, order);
-    notes(out, h, noted)
+    let b = number(out, a, held.count as u64);
+    let c = number(out, b, p.pages);
+    let d = page_order(out, c, order);
+    let e = notes(out, d, noted);
+    areas(out, e, held)
 }
 
 fn planned(out: &mut [u8; LINE], answer: Planning) -> usize {

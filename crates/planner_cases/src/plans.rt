@@ -1,6 +1,7 @@
-// Answers plans. After its head a plan has the margins if they are given (16 digits each), the row indexes (8) and sizes (16), the column
-// indexes and sizes, the merges' first rows, first columns, last rows and last columns (8), the row breaks and the column breaks (8).
+// Answers plans. After its head a plan has the margins if they are given (16 digits each), the areas (8), the row indexes (8) and sizes (16), the
+// column indexes and sizes, the merges' first rows, first columns, last rows and last columns (8), the row breaks and the column breaks (8).
 use crate::answer::LINE;
+use crate::areas::read_areas;
 use crate::fields;
 use crate::fields::TEXT;
 use crate::fields::capped;
@@ -20,6 +21,7 @@ use crate::plan_head::length;
 use geometry::MarginSetting;
 use geometry::Margins;
 use job_records::float;
+use planner_rules::Areas;
 use planner_rules::Settings;
 
 // Reads the margins, if they are given.
@@ -43,6 +45,7 @@ fn read_settings(line: &[u8; TEXT]) -> Settings {
 fn planned(
     line: &[u8; TEXT],
     settings: Settings,
+    areas: Areas,
     row_indexes: &[u32],
     row_sizes: &[u64],
     column_indexes: &[u32],
@@ -61,7 +64,7 @@ fn planned(
     let m = capped(length(line, 11), NUMBERS);
     let planning = planner::plan_pages(
         settings,
-        head::range(line),
+        areas,
         head::row_title(line),
         head::column_title(line),
         row_indexes,
@@ -84,6 +87,7 @@ fn planned(
 pub(crate) fn read_plan(out: &mut [u8; LINE]) -> usize {
     let line = fields::read(HEAD);
     let settings = read_settings(&line);
+    let areas = read_areas(length(&line, 12));
     let row_indexes = read_numbers(length(&line, 0));
     let row_sizes = read_sizes(length(&line, 1));
     let column_indexes = read_numbers(length(&line, 2));
@@ -97,6 +101,7 @@ pub(crate) fn read_plan(out: &mut [u8; LINE]) -> usize {
     planned(
         &line,
         settings,
+        areas,
         numbers(&row_indexes, length(&line, 0)),
         sizes(&row_sizes, length(&line, 1)),
         numbers(&column_indexes, length(&line, 2)),

@@ -8,7 +8,7 @@ abbrev Inv-loop : tie.InvT-loop
 Inv-loop first others step out₀ i₀ out i = Unit {0}
 
 abbrev μ-loop : tie.MeasureT-loop
-μ-loop first others step out₀ i₀ out i = 99 - i
+μ-loop first others step out₀ i₀ out i = 195 - i
 
 capped-requires : tie.Need-capped-requires Inv-loop μ-loop
 capped-requires c κs = search needs

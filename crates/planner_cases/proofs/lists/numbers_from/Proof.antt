@@ -8,7 +8,7 @@ abbrev Inv-loop : tie.InvT-loop
 Inv-loop first out₀ i₀ out i = Unit {0}
 
 abbrev μ-loop : tie.MeasureT-loop
-μ-loop first out₀ i₀ out i = 99 - i
+μ-loop first out₀ i₀ out i = 195 - i
 
 loop-holds : tie.Need-loop-holds Inv-loop μ-loop
 loop-holds c = search needs
