@@ -1,7 +1,7 @@
 // Paper sizes, and what margins leave of a page: document 01, section "Paper and content".
 ghost use Rattle.std.specs.Prelude.{◌≡◌, pos};
 ghost use Rattle.units.specs.Outcome.{given};
-ghost use Rattle.units.specs.Units.{lengthOutcome, lessOf};
+ghost use Rattle.units.specs.Units.{length_outcome, less_of};
 ghost use Rattle.geometry.specs.Paper as Section;
 
 use units::{Fixed, Length, Rect, inches_to_fixed, less};
@@ -151,7 +151,7 @@ fn requested(code: Setting) -> u16
 
 // The upright paper of a code that the list has; any other resolves to 1, with a note.
 fn resolved(code: u16) -> Paper
-    ensures { given (Section.paperFound result) ≡ Section.upright (Section.resolved code Section.sheets) }
+    ensures { given (Section.paper_found result) ≡ Section.upright (Section.resolved code Section.sheets) }
 {
     let at = code as usize;
     if at < 71 {
@@ -164,7 +164,7 @@ fn resolved(code: u16) -> Paper
 }
 
 fn upright(code: u16, width: u32, height: u32, unknown_paper: u64) -> Paper
-    ensures { Section.paperFound result ≡ record { code = code; width = pos width; height = pos height; unknown = unknown_paper } }
+    ensures { Section.paper_found result ≡ record { code = code; width = pos width; height = pos height; unknown = unknown_paper } }
 {
     Paper {
         geometry: PaperGeometry {
@@ -178,7 +178,7 @@ fn upright(code: u16, width: u32, height: u32, unknown_paper: u64) -> Paper
 
 // The paper as it lies on the page: landscape swaps its sides.
 fn turned(paper: Paper, landscape: bool) -> Paper
-    ensures { Section.paperFound result ≡ Section.turned landscape (Section.paperFound paper) }
+    ensures { Section.paper_found result ≡ Section.turned landscape (Section.paper_found paper) }
 {
     if landscape {
         let upright = paper.geometry;
@@ -198,7 +198,7 @@ fn turned(paper: Paper, landscape: bool) -> Paper
 
 // The paper of a code, Letter where it is absent or unlisted, turned where it is landscape.
 pub fn paper_geometry(code: Setting, landscape: bool) -> Paper
-    ensures { given (Section.paperFound result) ≡ Section.paperGeometry code landscape }
+    ensures { given (Section.paper_found result) ≡ Section.paper_geometry code landscape }
 {
     turned(resolved(requested(code)), landscape)
 }
@@ -211,7 +211,7 @@ fn usable(inches: f64) -> bool
 }
 
 fn all_usable(m: Margins) -> bool
-    ensures { result ≡ Section.allUsable m }
+    ensures { result ≡ Section.all_usable m }
 {
     usable(m.left)
         & usable(m.right)
@@ -229,7 +229,7 @@ fn shorter(inches: f64, side: Fixed) -> bool
 }
 
 fn margins_hold(width: Fixed, height: Fixed, m: Margins) -> bool
-    ensures { result ≡ Section.marginsHold width.0 height.0 m }
+    ensures { result ≡ Section.margins_hold width.0 height.0 m }
 {
     all_usable(m)
         & shorter(m.left + m.right, width)
@@ -261,7 +261,7 @@ const DEFAULT_LINE: i64 = 29491;
 // What is left of a side after two margins.
 #[inline(always)]
 fn between(side: Fixed, near: Length, far: Length) -> Length
-    ensures { lengthOutcome result ≡ lessOf (lessOf (given side.0) (lengthOutcome near)) (lengthOutcome far) }
+    ensures { length_outcome result ≡ less_of (less_of (given side.0) (length_outcome near)) (length_outcome far) }
 {
     less(less(Length::Value(side), near), far)
 }
@@ -269,7 +269,7 @@ fn between(side: Fixed, near: Length, far: Length) -> Length
 // Where the footer stands: one line of 16 pixels above its margin.
 #[inline(always)]
 fn footer_at(height: Fixed, footer: Length) -> Length
-    ensures { lengthOutcome result ≡ lessOf (lessOf (given height.0) (lengthOutcome footer)) (given (pos 16384)) }
+    ensures { length_outcome result ≡ less_of (less_of (given height.0) (length_outcome footer)) (given (pos 16384)) }
 {
     between(height, footer, Length::Value(Fixed::from_raw(16384)))
 }
@@ -284,8 +284,8 @@ fn placed(
     footer_y: Length,
     invalid_margins: u64,
 ) -> Content
-    ensures { Section.contentOutcome result ≡ Section.placed (lengthOutcome x) (lengthOutcome y) (lengthOutcome width) (lengthOutcome height)
-        (lengthOutcome header_y) (lengthOutcome footer_y) invalid_margins }
+    ensures { Section.content_outcome result ≡ Section.placed (length_outcome x) (length_outcome y) (length_outcome width) (length_outcome height)
+        (length_outcome header_y) (length_outcome footer_y) invalid_margins }
 {
     let Length::Value(x) = x else {
         return Content::CoordinateOverflow;
@@ -321,10 +321,10 @@ fn placed(
 // The content between six margins in units.
 #[inline(always)]
 fn content_from(width: Fixed, height: Fixed, m: MarginLengths, invalid_margins: u64) -> Content
-    ensures { Section.contentOutcome result ≡ Section.placed (lengthOutcome m.left) (lengthOutcome m.top)
-        (lessOf (lessOf (given width.0) (lengthOutcome m.left)) (lengthOutcome m.right))
-        (lessOf (lessOf (given height.0) (lengthOutcome m.top)) (lengthOutcome m.bottom))
-        (lengthOutcome m.header) (lessOf (lessOf (given height.0) (lengthOutcome m.footer)) (given (pos 16384))) invalid_margins }
+    ensures { Section.content_outcome result ≡ Section.placed (length_outcome m.left) (length_outcome m.top)
+        (less_of (less_of (given width.0) (length_outcome m.left)) (length_outcome m.right))
+        (less_of (less_of (given height.0) (length_outcome m.top)) (length_outcome m.bottom))
+        (length_outcome m.header) (less_of (less_of (given height.0) (length_outcome m.footer)) (given (pos 16384))) invalid_margins }
 {
     placed(
         m.left,
@@ -339,7 +339,7 @@ fn content_from(width: Fixed, height: Fixed, m: MarginLengths, invalid_margins: 
 
 // The content between six margins.
 fn content_between(width: Fixed, height: Fixed, m: Margins, invalid_margins: u64) -> Content
-    ensures { Section.contentOutcome result ≡ Section.contentBetween width.0 height.0 m invalid_margins }
+    ensures { Section.content_outcome result ≡ Section.content_between width.0 height.0 m invalid_margins }
 {
     let lengths = MarginLengths {
         left: inches_to_fixed(m.left),
@@ -355,7 +355,7 @@ fn content_between(width: Fixed, height: Fixed, m: Margins, invalid_margins: u64
 // The content between the default margins.
 #[inline(always)]
 fn default_content(width: Fixed, height: Fixed, invalid_margins: u64) -> Content
-    ensures { Section.contentOutcome result ≡ Section.contentBetween width.0 height.0 Section.defaultMargins invalid_margins }
+    ensures { Section.content_outcome result ≡ Section.content_between width.0 height.0 Section.default_margins invalid_margins }
 {
     let side = Length::Value(Fixed::from_raw(DEFAULT_SIDE));
     let end = Length::Value(Fixed::from_raw(DEFAULT_END));
@@ -373,7 +373,7 @@ fn default_content(width: Fixed, height: Fixed, invalid_margins: u64) -> Content
 
 // What the margins leave of a paper; margins that do not hold are replaced, all six.
 pub fn content_geometry(paper: PaperGeometry, margins: MarginSetting) -> Content
-    ensures { Section.contentOutcome result ≡ Section.contentGeometry paper.width.0 paper.height.0 margins }
+    ensures { Section.content_outcome result ≡ Section.content_geometry paper.width.0 paper.height.0 margins }
 {
     let MarginSetting::Given(m) = margins else {
         return default_content(paper.width, paper.height, 0);

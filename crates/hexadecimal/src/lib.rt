@@ -2,7 +2,7 @@
 #![tactic(auto)]
 
 ghost use Rattle.std.specs.Prelude.{◌≡◌};
-ghost use Rattle.hexadecimal.specs.Hex.{digitOf, number};
+ghost use Rattle.hexadecimal.specs.Hex.{digit_of, number};
 
 fn wide(byte: u8) -> u64
     ensures { result ≡ byte }
@@ -11,9 +11,9 @@ fn wide(byte: u8) -> u64
 }
 
 // What a hexadecimal digit stands for, and 16 for any other byte.
-#[tactic(auto, unfolding(crate::specs::Hex::digitOf))]
+#[tactic(auto, unfolding(crate::specs::Hex::digit_of))]
 pub fn digit(byte: u8) -> u64
-    ensures { result ≡ digitOf byte }
+    ensures { result ≡ digit_of byte }
 {
     if byte < b'0' {
         return 16;

@@ -27,7 +27,7 @@ pub(crate) enum Answer {
 }
 
 fn planning_in(answer: Answer) -> Planning
-    ensures { result ≡ section.planningIn answer }
+    ensures { result ≡ section.planning_in answer }
 {
     match answer {
         Answer::ToPlan(planning) => planning,
@@ -36,7 +36,7 @@ fn planning_in(answer: Answer) -> Planning
 }
 
 fn writing_in(answer: Answer) -> Writing
-    ensures { result ≡ section.writingIn answer }
+    ensures { result ≡ section.writing_in answer }
 {
     match answer {
         Answer::ToPlan(_) => Writing::Refused(10),
@@ -45,7 +45,7 @@ fn writing_in(answer: Answer) -> Writing
 }
 
 fn refused_to(wanted: Wanted, number: u8) -> Answer
-    ensures { result ≡ section.refusedTo wanted number }
+    ensures { result ≡ section.refused_to wanted number }
 {
     match wanted {
         Wanted::Plan => Answer::ToPlan(Planning::Refused(number)),
@@ -313,13 +313,13 @@ fn answer_job(wanted: Wanted, bytes: &[u8], row_runs: &mut [u64], column_runs: &
 // Plans the pages of a job, area by area: each one's scale and its runs of rows and columns, which go to the fronts of two lent lists, area
 // after area, and the notes.
 pub fn plan_job(bytes: &[u8], row_runs: &mut [u64], column_runs: &mut [u64]) -> Planning
-    ensures planned { call.Planned (section.planJob bytes.now row_runs.old column_runs.old) result
+    ensures planned { call.Planned (section.plan_job bytes.now row_runs.old column_runs.old) result
         row_runs.old column_runs.old row_runs.new column_runs.new }
     ensures covered { let s = bytes.now in
-        CoversPairs result (section.jobSheet s) (section.jobAreas s) row_runs.new column_runs.new }
+        CoversPairs result (section.job_sheet s) (section.job_areas s) row_runs.new column_runs.new }
     ensures fewest { let s = bytes.now in
-        FewestPlan result (section.jobSheet s) (section.jobAreas s) row_runs.new column_runs.new }
-    ensures largest { let s = bytes.now in LargestPlan result (section.jobSheet s) (section.jobAreas s) }
+        FewestPlan result (section.job_sheet s) (section.job_areas s) row_runs.new column_runs.new }
+    ensures largest { let s = bytes.now in LargestPlan result (section.job_sheet s) (section.job_areas s) }
 {
     let answer = answer_job(Wanted::Plan, bytes, row_runs, column_runs);
     planning_in(answer)
@@ -327,7 +327,7 @@ pub fn plan_job(bytes: &[u8], row_runs: &mut [u64], column_runs: &mut [u64]) -> 
 
 // The plan that `plan_job` answers where its lists are long enough, of a job whose runs are not written.
 pub fn count_job(bytes: &[u8]) -> Planning
-    ensures { call.Counted (section.countJob bytes.now) result }
+    ensures { call.Counted (section.count_job bytes.now) result }
 {
     let mut rows = [0u64; 0];
     let mut columns = [0u64; 0];
@@ -343,7 +343,7 @@ pub fn write_job_area(
     row_runs: &mut [u64],
     column_runs: &mut [u64],
 ) -> Writing
-    ensures { call.AreaWrote (section.writeJobArea bytes.now number permille row_runs.old column_runs.old) result
+    ensures { call.AreaWrote (section.write_job_area bytes.now number permille row_runs.old column_runs.old) result
         row_runs.old column_runs.old row_runs.new column_runs.new }
 {
     let answer = answer_job(Wanted::Area(number, permille), bytes, row_runs, column_runs);

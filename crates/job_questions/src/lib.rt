@@ -4,8 +4,8 @@
 ghost use Rattle.std.specs.Prelude.{◌≡◌, ◌<◌, ◌^◌, length};
 ghost use Rattle.job_records.specs.Records.{rank, AR, records, marked};
 ghost use Rattle.job_walk.specs.Walk.{Sorted};
-ghost use Rattle.job_questions.specs.Verdict.{asked, follows, firstsOk, gridOk, sizeOk, question15, verdictLent, verdict, checkedOutcome};
-ghost use Rattle.job_questions.specs.Pass.{fine, bothFine, placed, rowsAfter, columnsAfter, oneMore, counted, Few};
+ghost use Rattle.job_questions.specs.Verdict.{asked, follows, firsts_ok, grid_ok, size_ok, question15, verdict_lent, verdict, checked_outcome};
+ghost use Rattle.job_questions.specs.Pass.{fine, both_fine, placed, rows_after, columns_after, one_more, counted, Few};
 ghost use Rattle.job_questions.specs.Pass.{start, advanced, after, surveyed, answer};
 
 use job_records::ranks::{COLUMN_BREAKS, COLUMNS, END, MERGES, RANGE, ROW_BREAKS, ROWS};
@@ -105,13 +105,13 @@ fn follows_on(last: u8, next: u8) -> bool
 }
 
 fn firsts_ok(a: Range) -> bool
-    ensures { result ≡ firstsOk a }
+    ensures { result ≡ firsts_ok a }
 {
     (a.first_row <= a.last_row) & (a.first_column <= a.last_column)
 }
 
 fn grid_ok(a: Range) -> bool
-    ensures { result ≡ gridOk a }
+    ensures { result ≡ grid_ok a }
 {
     let rows = (a.first_row <= MAX_WORKSHEET_ROW) & (a.last_row <= MAX_WORKSHEET_ROW);
     let columns = (a.first_column <= MAX_WORKSHEET_COLUMN)
@@ -121,7 +121,7 @@ fn grid_ok(a: Range) -> bool
 
 // 9 of a size.
 fn size_ok(size: i64) -> bool
-    ensures { result ≡ sizeOk size }
+    ensures { result ≡ size_ok size }
 {
     (0 <= size) & (size <= LARGEST_SIZE as i64)
 }
@@ -170,7 +170,7 @@ fn place(last: u32, next: u64, index: u32) -> u64
 }
 
 fn rows_after(next: u64, what: Asked) -> u64
-    ensures { result ≡ rowsAfter next what }
+    ensures { result ≡ rows_after next what }
 {
     match what {
         Asked::InRows(s) => place(MAX_WORKSHEET_ROW, next, s.index),
@@ -179,7 +179,7 @@ fn rows_after(next: u64, what: Asked) -> u64
 }
 
 fn columns_after(next: u64, what: Asked) -> u64
-    ensures { result ≡ columnsAfter next what }
+    ensures { result ≡ columns_after next what }
 {
     match what {
         Asked::InColumns(s) => place(MAX_WORKSHEET_COLUMN as u32, next, s.index as u32),
@@ -188,7 +188,7 @@ fn columns_after(next: u64, what: Asked) -> u64
 }
 
 fn both(a: Fine, b: Fine) -> Fine
-    ensures { result ≡ bothFine a b }
+    ensures { result ≡ both_fine a b }
 {
     Fine {
         flag: a.flag & b.flag,
@@ -201,7 +201,7 @@ fn both(a: Fine, b: Fine) -> Fine
 // One more where the ranks are the same.
 fn one_more(n: usize, rank: u8, wanted: u8) -> usize
     requires { n < 2 ^ 32 }
-    ensures { result ≡ oneMore n rank wanted }
+    ensures { result ≡ one_more n rank wanted }
 {
     if rank == wanted { n + 1 } else { n }
 }
@@ -338,7 +338,7 @@ fn survey_job(bytes: &[u8]) -> Survey
 // How many items a job has, or the number of the first question that is answered no. The slices that a caller was lent for the job's
 // answer and that make up one list are equally long, or not.
 pub fn check_job_lent(bytes: &[u8], equally_long: bool) -> Checked
-    ensures { checkedOutcome result ≡ verdictLent equally_long bytes.now }
+    ensures { checked_outcome result ≡ verdict_lent equally_long bytes.now }
 {
     let found = survey_job(bytes);
     match found {
@@ -356,7 +356,7 @@ pub fn check_job_lent(bytes: &[u8], equally_long: bool) -> Checked
 
 // The same for a call that was lent no list.
 pub fn check_job(bytes: &[u8]) -> Checked
-    ensures { checkedOutcome result ≡ verdict bytes.now }
+    ensures { checked_outcome result ≡ verdict bytes.now }
 {
     check_job_lent(bytes, true)
 }

@@ -12,9 +12,9 @@ use Rattle.job_walk.specs.Walk.{Sorted}
 use Rattle.job_reader.specs.declared.lists.Measured.{Measured}
 
 -- the next record, where its mark is k
-unfoldable pub ofKind : ℕ → Next → Next
-ofKind k Stop = Stop
-ofKind k (Kind r n) = cond (eqb (rank r) k) (Kind r n) Stop
+unfoldable pub of_kind : ℕ → Next → Next
+of_kind k Stop = Stop
+of_kind k (Kind r n) = cond (eqb (rank r) k) (Kind r n) Stop
 
 -- s is the part of b that has the marks from k on
 pub record From (k : ℕ) (b s : List ℕ) : Type 0 where
@@ -27,31 +27,31 @@ pub record Past (k : ℕ) (b : List ℕ) (n : ℕ) : Type 0 where
   pub left : From k b (drop n b)
 
 -- the marks with a body of one u16, and of one u8, among the settings
-abbrev pub isNumber : ℕ → Bool
-isNumber k = eqb k PC || (eqb k SC || (eqb k FW || eqb k FH))
+abbrev pub is_number : ℕ → Bool
+is_number k = eqb k PC || (eqb k SC || (eqb k FW || eqb k FH))
 
 -- a kind of record that has a flag
-abbrev pub isFlag : ℕ → Bool
-isFlag k = eqb k FT || eqb k OD
+abbrev pub is_flag : ℕ → Bool
+is_flag k = eqb k FT || eqb k OD
 
 -- the marks of slots, and of breaks
-abbrev pub isSlot : ℕ → Bool
-isSlot k = eqb k RW || eqb k CL
+abbrev pub is_slot : ℕ → Bool
+is_slot k = eqb k RW || eqb k CL
 
 -- a kind of record that has a break
-abbrev pub isBreak : ℕ → Bool
-isBreak k = eqb k BR || eqb k BC
+abbrev pub is_break : ℕ → Bool
+is_break k = eqb k BR || eqb k BC
 
 -- a slot's index and size
 abbrev pub measured : Record → Measured
 measured r = record { index = field 0 r; size = field 1 r }
 
 -- a row and a column as slots
-abbrev pub rowMeasured : RowSlot → Measured
-rowMeasured s = record { index = s.index; size = nat_abs s.size }
+abbrev pub row_measured : RowSlot → Measured
+row_measured s = record { index = s.index; size = nat_abs s.size }
 
-abbrev pub columnMeasured : ColumnSlot → Measured
-columnMeasured s = record { index = s.index; size = nat_abs s.size }
+abbrev pub column_measured : ColumnSlot → Measured
+column_measured s = record { index = s.index; size = nat_abs s.size }
 
 -- the four indexes of a merge
 abbrev pub cells : Record → Range

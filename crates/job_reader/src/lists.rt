@@ -2,11 +2,11 @@
 ghost use Rattle.std.specs.Prelude.{◌≡◌, true, [], ◌+◌, ◌≤◌, length};
 ghost use Rattle.planner_rules.specs.Slots.{written};
 ghost use Rattle.job_records.specs.Records.{RW, MR, BR, rank, step, records, marked, values, field};
-ghost use Rattle.job_questions.specs.Verdict.{checkedOutcome};
+ghost use Rattle.job_questions.specs.Verdict.{checked_outcome};
 ghost use Rattle.job_walk.specs.Walk.{before, Sorted};
-ghost use Rattle.job_reader.specs.Walk.{ofKind, Past, isSlot, isBreak, measured};
+ghost use Rattle.job_reader.specs.Walk.{of_kind, Past, is_slot, is_break, measured};
 ghost use Rattle.job_reader.specs.Walk as walk;
-ghost use Rattle.job_reader.specs.Reading.{lists, evenLists, fitIn, admitted, admittedTo, Room, AllWritten, JobRead};
+ghost use Rattle.job_reader.specs.Reading.{lists, even_lists, fit_in, admitted, admitted_to, Room, AllWritten, JobRead};
 
 use crate::settings::settings_of;
 use job_questions::{Checked, Items, MOST_AREAS, check_job_lent};
@@ -38,7 +38,7 @@ pub(crate) struct Measured {
 }
 
 fn row_measured(slot: RowSlot) -> Measured
-    ensures { result ≡ walk.rowMeasured slot }
+    ensures { result ≡ walk.row_measured slot }
 {
     let size = slot.size;
     Measured {
@@ -48,7 +48,7 @@ fn row_measured(slot: RowSlot) -> Measured
 }
 
 fn column_measured(slot: ColumnSlot) -> Measured
-    ensures { result ≡ walk.columnMeasured slot }
+    ensures { result ≡ walk.column_measured slot }
 {
     let size = slot.size;
     Measured {
@@ -58,7 +58,7 @@ fn column_measured(slot: ColumnSlot) -> Measured
 }
 
 fn slot_of(found: Record) -> Measured
-    requires { isSlot (rank found) ≡ true }
+    requires { is_slot (rank found) ≡ true }
     ensures { result ≡ measured found }
 {
     match found {
@@ -69,7 +69,7 @@ fn slot_of(found: Record) -> Measured
 }
 
 fn break_of(found: Record) -> u32
-    requires { isBreak (rank found) ≡ true }
+    requires { is_break (rank found) ≡ true }
     ensures { result ≡ field 0 found }
 {
     match found {
@@ -96,7 +96,7 @@ fn cells_of(found: Record) -> Range
 
 // The next record, where it has this rank.
 fn next_of(s: &[u8], wanted: u8) -> Next
-    ensures { result ≡ ofKind wanted (before (step s.now)) }
+    ensures { result ≡ of_kind wanted (before (step s.now)) }
 {
     let Next::Kind(found, used) = next_record(s) else {
         return Next::Stop;
@@ -128,7 +128,7 @@ fn settings_end(bytes: &[u8]) -> usize
 // Writes the slots with this rank, which stand at the head, and answers how many bytes they have.
 fn write_slots(bytes: &[u8], wanted: u8, indexes: &mut [u32], sizes: &mut [u64]) -> usize
     requires sorted { Sorted wanted (records bytes.now) }
-    requires wanted_value { isSlot wanted ≡ true }
+    requires wanted_value { is_slot wanted ≡ true }
     requires bytes_in_bounds { length (marked wanted (records bytes.now)) ≤ length indexes.old }
     requires indexes_len { length indexes.old ≡ length sizes.old }
     ensures past { Past (wanted + 1) bytes.now result }
@@ -187,7 +187,7 @@ fn write_merges(
 // Writes the breaks with this rank, which stand at the head, and answers how many bytes they have.
 fn write_breaks(bytes: &[u8], wanted: u8, breaks: &mut [u32]) -> usize
     requires sorted { Sorted wanted (records bytes.now) }
-    requires wanted_value { isBreak wanted ≡ true }
+    requires wanted_value { is_break wanted ≡ true }
     requires bytes_in_bounds { length (marked wanted (records bytes.now)) ≤ length breaks.old }
     ensures past { Past (wanted + 1) bytes.now result }
     ensures breaks_after { breaks.new ≡ written (values wanted 0 (records bytes.now)) breaks.old }
@@ -250,7 +250,7 @@ fn write_items(
 }
 
 fn fit_in(items: Items, room: Items) -> bool
-    ensures { result ≡ fitIn items room }
+    ensures { result ≡ fit_in items room }
 {
     let breaks = (items.row_breaks <= room.row_breaks)
         & (items.column_breaks <= room.column_breaks);
@@ -260,7 +260,7 @@ fn fit_in(items: Items, room: Items) -> bool
 
 // How many items a job has that lent lists hold, or the number of the first question that is answered no.
 fn admit(bytes: &[u8], equally_long: bool, room: Items) -> Checked
-    ensures { checkedOutcome result ≡ admitted equally_long room bytes.now }
+    ensures { checked_outcome result ≡ admitted equally_long room bytes.now }
 {
     let checked = check_job_lent(bytes, equally_long);
     match checked {
@@ -286,7 +286,7 @@ fn lent_even(
     last_rows: &[u32],
     last_columns: &[u32],
 ) -> bool
-    ensures { result ≡ evenLists
+    ensures { result ≡ even_lists
         (lists row_indexes.now row_sizes.now column_indexes.now
         column_sizes.now first_rows.now first_columns.now last_rows.now
         last_columns.now [] []) }
@@ -312,7 +312,7 @@ fn admit_to(
     row_breaks: &[u32],
     column_breaks: &[u32],
 ) -> Checked
-    ensures { checkedOutcome result ≡ admittedTo bytes.now
+    ensures { checked_outcome result ≡ admitted_to bytes.now
         (lists row_indexes.now row_sizes.now column_indexes.now
         column_sizes.now merge_first_rows.now merge_first_columns.now
         merge_last_rows.now merge_last_columns.now row_breaks.now

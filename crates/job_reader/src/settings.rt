@@ -3,7 +3,7 @@ ghost use Rattle.std.specs.Prelude.{◌≡◌, true, length};
 ghost use Rattle.job_records.specs.Records.{records, marked, MG, LP, AR, TR, TC};
 ghost use Rattle.job_walk.specs.Walk.{Sorted};
 ghost use Rattle.job_reader.specs.Settings as section;
-ghost use Rattle.job_reader.specs.Walk.{isNumber, isFlag};
+ghost use Rattle.job_reader.specs.Walk.{is_number, is_flag};
 
 use geometry::Setting;
 use job_records::Record;
@@ -17,8 +17,8 @@ use planner_rules::Title;
 
 fn number_of(bytes: &[u8], wanted: u8) -> Setting
     requires sorted { Sorted 0 (records bytes.now) }
-    requires wanted_value { isNumber wanted ≡ true }
-    ensures { result ≡ section.numberFrom (marked wanted (records bytes.now)) }
+    requires wanted_value { is_number wanted ≡ true }
+    ensures { result ≡ section.number_from (marked wanted (records bytes.now)) }
 {
     let Lookup::Found(found) = find_record(bytes, wanted, 0) else {
         return Setting::Absent;
@@ -34,8 +34,8 @@ fn number_of(bytes: &[u8], wanted: u8) -> Setting
 
 fn flag_of(bytes: &[u8], wanted: u8) -> FlagSetting
     requires sorted { Sorted 0 (records bytes.now) }
-    requires wanted_value { isFlag wanted ≡ true }
-    ensures { result ≡ section.flagFrom (marked wanted (records bytes.now)) }
+    requires wanted_value { is_flag wanted ≡ true }
+    ensures { result ≡ section.flag_from (marked wanted (records bytes.now)) }
 {
     let Lookup::Found(found) = find_record(bytes, wanted, 0) else {
         return FlagSetting::Absent;
@@ -49,7 +49,7 @@ fn flag_of(bytes: &[u8], wanted: u8) -> FlagSetting
 
 fn is_there(bytes: &[u8], wanted: u8) -> bool
     requires { Sorted 0 (records bytes.now) }
-    ensures { result ≡ section.isThere (marked wanted (records bytes.now)) }
+    ensures { result ≡ section.is_there (marked wanted (records bytes.now)) }
 {
     let Lookup::Found(_) = find_record(bytes, wanted, 0) else {
         return false;
@@ -59,7 +59,7 @@ fn is_there(bytes: &[u8], wanted: u8) -> bool
 
 fn margins_of(bytes: &[u8]) -> MarginsRead
     requires { Sorted 0 (records bytes.now) }
-    ensures { result ≡ section.marginsFrom (marked MG (records bytes.now)) }
+    ensures { result ≡ section.margins_from (marked MG (records bytes.now)) }
 {
     let Lookup::Found(found) = find_record(bytes, MARGINS, 0) else {
         return MarginsRead::Absent;
@@ -72,7 +72,7 @@ fn margins_of(bytes: &[u8]) -> MarginsRead
 
 fn limit_of(bytes: &[u8]) -> LimitSetting
     requires { Sorted 0 (records bytes.now) }
-    ensures { result ≡ section.limitFrom (marked LP (records bytes.now)) }
+    ensures { result ≡ section.limit_from (marked LP (records bytes.now)) }
 {
     let Lookup::Found(found) = find_record(bytes, PAGE_LIMIT, 0) else {
         return LimitSetting::Absent;
@@ -85,7 +85,7 @@ fn limit_of(bytes: &[u8]) -> LimitSetting
 
 fn row_title_of(bytes: &[u8]) -> Title
     requires { Sorted 0 (records bytes.now) }
-    ensures { result ≡ section.titleFrom (marked TR (records bytes.now)) }
+    ensures { result ≡ section.title_from (marked TR (records bytes.now)) }
 {
     let Lookup::Found(found) = find_record(bytes, ROW_TITLE, 0) else {
         return Title::Absent;
@@ -98,7 +98,7 @@ fn row_title_of(bytes: &[u8]) -> Title
 
 fn column_title_of(bytes: &[u8]) -> Title
     requires { Sorted 0 (records bytes.now) }
-    ensures { result ≡ section.titleFrom (marked TC (records bytes.now)) }
+    ensures { result ≡ section.title_from (marked TC (records bytes.now)) }
 {
     let Lookup::Found(found) = find_record(bytes, COLUMN_TITLE, 0) else {
         return Title::Absent;
@@ -113,7 +113,7 @@ fn column_title_of(bytes: &[u8]) -> Title
 pub(crate) fn settings_of(bytes: &[u8], areas: usize) -> JobSettings
     requires sorted { Sorted 0 (records bytes.now) }
     requires areas_value { areas ≡ length (marked AR (records bytes.now)) }
-    ensures { result ≡ section.settingsOf (records bytes.now) }
+    ensures { result ≡ section.settings_of (records bytes.now) }
 {
     JobSettings {
         paper: number_of(bytes, PAPER),

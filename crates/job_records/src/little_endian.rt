@@ -1,6 +1,6 @@
 // Little-endian numbers in bytes, each read where all its bytes are there.
 ghost use Rattle.std.specs.Prelude.{◌≡◌, ◌+◌, ◌*◌, ◌≤◌, ◌<◌, length};
-ghost use Rattle.job_records.specs.LittleEndian.{u16At, u32At, u64At, i64Of, f64Of};
+ghost use Rattle.job_records.specs.LittleEndian.{u16_at, u32_at, u64_at, i64_of, f64_of};
 
 fn two(low: u8, high: u8) -> u16
     ensures { result ≡ low + 256 * high }
@@ -10,28 +10,28 @@ fn two(low: u8, high: u8) -> u16
 
 pub(crate) fn u16_at(s: &[u8], at: usize) -> u16
     requires { at + 2 ≤ length s.now }
-    ensures { result ≡ u16At s.now at }
+    ensures { result ≡ u16_at s.now at }
 {
     two(s[at], s[at + 1])
 }
 
 pub(crate) fn u32_at(s: &[u8], at: usize) -> u32
     requires { at + 4 ≤ length s.now }
-    ensures { result ≡ u32At s.now at }
+    ensures { result ≡ u32_at s.now at }
 {
     u16_at(s, at) as u32 + 65536 * (u16_at(s, at + 2) as u32)
 }
 
 pub(crate) fn u64_at(s: &[u8], at: usize) -> u64
     requires { at + 8 ≤ length s.now }
-    ensures { result ≡ u64At s.now at }
+    ensures { result ≡ u64_at s.now at }
 {
     u32_at(s, at) as u64 + 4294967296 * (u32_at(s, at + 4) as u64)
 }
 
 // The signed number that 64 bits stand for.
 pub fn signed(bits: u64) -> i64
-    ensures { result ≡ i64Of bits }
+    ensures { result ≡ i64_of bits }
 {
     if bits < 0x8000_0000_0000_0000 {
         bits as i64
@@ -45,7 +45,7 @@ const INFINITY: u64 = 0x7ff0_0000_0000_0000;
 
 // The float that 64 bits stand for; any NaN pattern gives a NaN.
 pub fn float(bits: u64) -> f64
-    ensures { result ≡ f64Of bits }
+    ensures { result ≡ f64_of bits }
 {
     if bits % 0x8000_0000_0000_0000 > INFINITY {
         0.0 / 0.0

@@ -1,6 +1,6 @@
 // The records of a job, one at a time: document 01, section "Jobs".
 ghost use Rattle.std.specs.Prelude.{◌≡◌, ◌≤◌, leb, length};
-ghost use Rattle.job_records.specs.Records.{rangeAt, marginsAt, rowAt, columnAt, find, formats, settings, sizeIn, headRecord, stepOutcome, rank};
+ghost use Rattle.job_records.specs.Records.{range_at, margins_at, row_at, column_at, find, formats, settings, size_in, head_record, step_outcome, rank};
 
 use crate::little_endian::{signed, u16_at, u32_at, u64_at};
 use crate::ranks::{
@@ -98,7 +98,7 @@ pub enum Step {
 
 fn margins_at(s: &[u8]) -> MarginBits
     requires { 50 ≤ length s.now }
-    ensures { result ≡ marginsAt s.now }
+    ensures { result ≡ margins_at s.now }
 {
     MarginBits {
         left: u64_at(s, 2),
@@ -112,7 +112,7 @@ fn margins_at(s: &[u8]) -> MarginBits
 
 fn range_at(s: &[u8]) -> Range
     requires { 14 ≤ length s.now }
-    ensures { result ≡ rangeAt s.now }
+    ensures { result ≡ range_at s.now }
 {
     Range {
         first_row: u32_at(s, 2),
@@ -124,7 +124,7 @@ fn range_at(s: &[u8]) -> Range
 
 fn row_at(s: &[u8]) -> RowSlot
     requires { 14 ≤ length s.now }
-    ensures { result ≡ rowAt s.now }
+    ensures { result ≡ row_at s.now }
 {
     RowSlot {
         index: u32_at(s, 2),
@@ -134,7 +134,7 @@ fn row_at(s: &[u8]) -> RowSlot
 
 fn column_at(s: &[u8]) -> ColumnSlot
     requires { 12 ≤ length s.now }
-    ensures { result ≡ columnAt s.now }
+    ensures { result ≡ column_at s.now }
 {
     ColumnSlot {
         index: u16_at(s, 2),
@@ -184,7 +184,7 @@ const EN: u16 = 0x4e45;
 
 // How many bytes a record with this mark has; 0 for an unknown mark.
 fn size_of(mark: u16) -> usize
-    ensures { result ≡ sizeIn formats mark }
+    ensures { result ≡ size_in formats mark }
 {
     match mark {
         LA | HD | EN => 2,
@@ -204,7 +204,7 @@ const LONGEST: usize = 50;
 
 // Whether the record with this mark ends within so many bytes; it is not asked how many it has where any would.
 fn all_there(bytes: usize, mark: u16) -> bool
-    ensures { result ≡ leb (sizeIn formats mark) bytes }
+    ensures { result ≡ leb (size_in formats mark) bytes }
 {
     if bytes >= LONGEST {
         return true;
@@ -214,8 +214,8 @@ fn all_there(bytes: usize, mark: u16) -> bool
 
 // The record with this mark where it is a setting, whose bytes are all there.
 fn setting_at(s: &[u8], mark: u16) -> Step
-    requires { sizeIn settings mark ≤ length s.now }
-    ensures { stepOutcome result ≡ find mark settings s.now }
+    requires { size_in settings mark ≤ length s.now }
+    ensures { step_outcome result ≡ find mark settings s.now }
 {
     match mark {
         PC => Step::Read(Record::Paper(u16_at(s, 2)), 4),
@@ -238,8 +238,8 @@ fn setting_at(s: &[u8], mark: u16) -> Step
 
 // The record with this mark, whose bytes are all there.
 fn known_at(s: &[u8], mark: u16) -> Step
-    requires { sizeIn formats mark ≤ length s.now }
-    ensures { stepOutcome result ≡ find mark formats s.now }
+    requires { size_in formats mark ≤ length s.now }
+    ensures { step_outcome result ≡ find mark formats s.now }
 {
     match mark {
         RW => Step::Read(Record::Row(row_at(s)), 14),
@@ -254,7 +254,7 @@ fn known_at(s: &[u8], mark: u16) -> Step
 
 // The whole known record at the head of the bytes, and how many bytes it has.
 pub fn read_record(bytes: &[u8]) -> Step
-    ensures { stepOutcome result ≡ headRecord bytes.now }
+    ensures { step_outcome result ≡ head_record bytes.now }
 {
     if bytes.len() < 2 {
         return Step::Nothing;

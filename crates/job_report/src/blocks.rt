@@ -34,7 +34,7 @@ fn lines_held(
     out: &mut [u8; 65536],
 ) -> Block
     requires { section.There plan from spot row_runs.now column_runs.now }
-    ensures { section.LinesHeld from (section.pagesOn plan row_runs.now column_runs.now from spot) result
+    ensures { section.LinesHeld from (section.pages_on plan row_runs.now column_runs.now from spot) result
         out.old out.new }
 {
     let order = plan.order;
@@ -63,7 +63,7 @@ pub fn area_block(
     column_runs: &[u64],
     out: &mut [u8; 65536],
 ) -> BlockAnswer
-    ensures { section.BlockPut (section.blockPages plan row_runs.now column_runs.now from) from result
+    ensures { section.BlockPut (section.block_pages plan row_runs.now column_runs.now from) from result
         out.old out.new }
 {
     let found = page_spot(plan, from);

@@ -1,7 +1,7 @@
 // The lines of a plan: document 01, section "Jobs", and document 02, T-02. Each private function puts its line from the place `at` on, and
 // returns the place after it.
 ghost use Rattle.std.specs.Prelude.{◌≡◌, ◌+◌, ◌≤◌, length};
-ghost use Rattle.planner_rules.specs.Plan.{planOutcome};
+ghost use Rattle.planner_rules.specs.Plan.{plan_outcome};
 ghost use Rattle.job_report.specs.Lines as section;
 
 use crate::text::line;
@@ -9,7 +9,7 @@ use planner_rules::{Notes, Page, Plan, Planning};
 
 // The first area's permille; 0 where there is no area.
 fn first_permille(plan: Plan) -> u16
-    ensures { result ≡ section.firstPermille plan }
+    ensures { result ≡ section.first_permille plan }
 {
     let areas = plan.areas;
     if areas.count == 0 {
@@ -20,10 +20,10 @@ fn first_permille(plan: Plan) -> u16
 }
 
 // The first area's permille and the pages.
-#[tactic(auto, unfolding(crate::specs::Lines::planLine))]
+#[tactic(auto, unfolding(crate::specs::Lines::plan_line))]
 fn plan_line(out: &mut [u8], at: usize, plan: Plan) -> usize
     requires { at + 47 ≤ length out.old }
-    ensures put_at { section.PutAt (section.planLine plan) at result out.old out.new }
+    ensures put_at { section.PutAt (section.plan_line plan) at result out.old out.new }
     ensures upper_bound { result ≤ at + 47 }
 {
     let list = [first_permille(plan) as u64, plan.pages];
@@ -31,10 +31,10 @@ fn plan_line(out: &mut [u8], at: usize, plan: Plan) -> usize
 }
 
 // The nine notes in order.
-#[tactic(auto, unfolding(crate::specs::Lines::notesLine))]
+#[tactic(auto, unfolding(crate::specs::Lines::notes_line))]
 fn notes_line(out: &mut [u8], at: usize, notes: Notes) -> usize
     requires { at + 195 ≤ length out.old }
-    ensures put_at { section.PutAt (section.notesLine notes) at result out.old out.new }
+    ensures put_at { section.PutAt (section.notes_line notes) at result out.old out.new }
     ensures upper_bound { result ≤ at + 195 }
 {
     let list = [
@@ -52,10 +52,10 @@ fn notes_line(out: &mut [u8], at: usize, notes: Notes) -> usize
 }
 
 // The number of a refusal.
-#[tactic(auto, unfolding(crate::specs::Lines::refusalLine))]
+#[tactic(auto, unfolding(crate::specs::Lines::refusal_line))]
 fn refusal_line(out: &mut [u8], at: usize, number: u8) -> usize
     requires { at + 24 ≤ length out.old }
-    ensures put_at { section.PutAt (section.refusalLine number) at result out.old out.new }
+    ensures put_at { section.PutAt (section.refusal_line number) at result out.old out.new }
     ensures upper_bound { result ≤ at + 24 }
 {
     let list = [number as u64];
@@ -63,10 +63,10 @@ fn refusal_line(out: &mut [u8], at: usize, number: u8) -> usize
 }
 
 // The number of an area, from 1, and its permille.
-#[tactic(auto, unfolding(crate::specs::Lines::areaLine))]
+#[tactic(auto, unfolding(crate::specs::Lines::area_line))]
 fn area_at(out: &mut [u8], at: usize, number: u64, permille: u16) -> usize
     requires { at + 47 ≤ length out.old }
-    ensures put_at { section.PutAt (section.areaLine number permille) at result out.old out.new }
+    ensures put_at { section.PutAt (section.area_line number permille) at result out.old out.new }
     ensures upper_bound { result ≤ at + 47 }
 {
     let list = [number, permille as u64];
@@ -74,10 +74,10 @@ fn area_at(out: &mut [u8], at: usize, number: u64, permille: u16) -> usize
 }
 
 // A page and its number.
-#[tactic(auto, unfolding(crate::specs::Lines::pageLine))]
+#[tactic(auto, unfolding(crate::specs::Lines::page_line))]
 pub(crate) fn page_at(out: &mut [u8], at: usize, number: u64, page: Page) -> usize
     requires { at + 194 ≤ length out.old }
-    ensures put_at { section.PutAt (section.pageLine number page) at result out.old out.new }
+    ensures put_at { section.PutAt (section.page_line number page) at result out.old out.new }
     ensures upper_bound { result ≤ at + 194 }
 {
     let rows = page.rows;
@@ -98,7 +98,7 @@ pub(crate) fn page_at(out: &mut [u8], at: usize, number: u64, page: Page) -> usi
 
 // The first lines of what a plan is told by, or the line of a refusal, at the start of `out`; it answers how many bytes.
 pub fn head_lines(planning: Planning, out: &mut [u8; 256]) -> usize
-    ensures { section.LinesPut (section.headLines (planOutcome planning)) result out.old out.new }
+    ensures { section.LinesPut (section.head_lines (plan_outcome planning)) result out.old out.new }
 {
     match planning {
         Planning::Value(plan) => {
@@ -112,14 +112,14 @@ pub fn head_lines(planning: Planning, out: &mut [u8; 256]) -> usize
 
 // The line before the pages of a later area, at the start of `out`; it answers how many bytes.
 pub fn area_line(number: u64, permille: u16, out: &mut [u8; 256]) -> usize
-    ensures { section.LinesPut (section.areaLine number permille) result out.old out.new }
+    ensures { section.LinesPut (section.area_line number permille) result out.old out.new }
 {
     area_at(out, 0, number, permille)
 }
 
 // The line of a page, at the start of `out`; it answers how many bytes.
 pub fn page_line(number: u64, page: Page, out: &mut [u8; 256]) -> usize
-    ensures { section.LinesPut (section.pageLine number page) result out.old out.new }
+    ensures { section.LinesPut (section.page_line number page) result out.old out.new }
 {
     page_at(out, 0, number, page)
 }

@@ -47,7 +47,7 @@ pub struct JobSettings {
 }
 
 fn is_given(setting: Setting) -> bool
-    ensures { result ≡ section.isGiven setting }
+    ensures { result ≡ section.is_given setting }
 {
     match setting {
         Setting::Absent => false,
@@ -57,7 +57,7 @@ fn is_given(setting: Setting) -> bool
 
 // Whether the pages are fitted: by FT, or, where it is absent, by whether a target is there.
 pub fn fit_on(fit: FlagSetting, fit_width: Setting, fit_height: Setting) -> bool
-    ensures { result ≡ section.fitOn fit fit_width fit_height }
+    ensures { result ≡ section.fit_on fit fit_width fit_height }
 {
     match fit {
         FlagSetting::Absent => is_given(fit_width) | is_given(fit_height),
@@ -67,7 +67,7 @@ pub fn fit_on(fit: FlagSetting, fit_width: Setting, fit_height: Setting) -> bool
 
 // Whether pages go over, then down.
 pub fn over_then_down(order: FlagSetting) -> bool
-    ensures { result ≡ section.overThenDown order }
+    ensures { result ≡ section.over_then_down order }
 {
     match order {
         FlagSetting::Absent => false,
@@ -80,7 +80,7 @@ const DEFAULT_PAGE_LIMIT: u64 = 10_000;
 
 // The most pages that a plan may have.
 pub fn page_limit(limit: LimitSetting) -> u64
-    ensures { result ≡ section.limitOf limit }
+    ensures { result ≡ section.limit_of limit }
 {
     match limit {
         LimitSetting::Absent => DEFAULT_PAGE_LIMIT,
@@ -90,7 +90,7 @@ pub fn page_limit(limit: LimitSetting) -> u64
 
 // The six margins as floats, for content geometry.
 pub fn margin_setting(margins: MarginsRead) -> MarginSetting
-    ensures { result ≡ section.marginSetting margins }
+    ensures { result ≡ section.margin_setting margins }
 {
     let MarginsRead::Given(bits) = margins else {
         return MarginSetting::Absent;
@@ -106,7 +106,7 @@ pub fn margin_setting(margins: MarginsRead) -> MarginSetting
 }
 
 fn order_for(order: FlagSetting) -> PageOrder
-    ensures { result ≡ section.orderFor order }
+    ensures { result ≡ section.order_for order }
 {
     if over_then_down(order) {
         PageOrder::OverThenDown
@@ -117,7 +117,7 @@ fn order_for(order: FlagSetting) -> PageOrder
 
 // The settings as the planner takes them.
 pub fn settings_for(read: JobSettings) -> Settings
-    ensures { result ≡ section.settingsFor read }
+    ensures { result ≡ section.settings_for read }
 {
     let paper = read.paper;
     let margins = read.margins;
@@ -145,7 +145,7 @@ pub fn settings_for(read: JobSettings) -> Settings
 
 // A range as the planner takes it.
 pub fn range_for(cells: Range) -> PrintRange
-    ensures { result ≡ section.rangeFor cells }
+    ensures { result ≡ section.range_for cells }
 {
     PrintRange {
         first_row: cells.first_row,
@@ -157,7 +157,7 @@ pub fn range_for(cells: Range) -> PrintRange
 
 // The areas as the planner takes them.
 pub fn areas_for(read: JobAreas) -> Areas
-    ensures { result ≡ section.areasFor read }
+    ensures { result ≡ section.areas_for read }
 {
     let first = read.first;
     let second = read.second;

@@ -5,10 +5,10 @@ use Rattle.job_records.specs.declared.records.Record.{Record}
 use Rattle.job_records.specs.declared.records.Record.TheVariants.{Cells, Area}
 use Rattle.job_records.specs.Records.{rank}
 
-pub only-cells : (r : Record) → rank r ≡ 11 → ((x : ℕ) → r ≡ Cells x → ⊥) → ⊥
-only-cells (Cells x) e h = h x refl
-only-cells r e h = omega arith
+pub only_cells : (r : Record) → rank r ≡ 11 → ((x : ℕ) → r ≡ Cells x → ⊥) → ⊥
+only_cells (Cells x) e h = h x refl
+only_cells r e h = omega arith
 
-pub only-area : (r : Record) → rank r ≡ 12 → ((a : Range) → r ≡ Area a → ⊥) → ⊥
-only-area (Area a) e h = h a refl
-only-area r e h = omega arith
+pub only_area : (r : Record) → rank r ≡ 12 → ((a : Range) → r ≡ Area a → ⊥) → ⊥
+only_area (Area a) e h = h a refl
+only_area r e h = omega arith

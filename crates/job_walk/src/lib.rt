@@ -38,7 +38,7 @@ pub fn next_record(s: &[u8]) -> Next
 
 // The record with the rank `wanted` that has so many of them before it. The first record with a later rank ends the search.
 pub fn find_record(bytes: &[u8], wanted: u8, before: usize) -> Lookup
-    ensures { result ≡ walk.firstOf (drop before (walk.inPlace wanted (records bytes.now))) }
+    ensures { result ≡ walk.first_of (drop before (walk.in_place wanted (records bytes.now))) }
 {
     let mut s = bytes;
     let mut left = before;
@@ -61,7 +61,7 @@ pub fn find_record(bytes: &[u8], wanted: u8, before: usize) -> Lookup
 }
 
 pub fn cell_limit_of(bytes: &[u8]) -> CellLimit
-    ensures { result ≡ section.cellLimitFrom (walk.inPlace UC (records bytes.now)) }
+    ensures { result ≡ section.cell_limit_from (walk.in_place UC (records bytes.now)) }
 {
     let Lookup::Found(found) = find_record(bytes, CELL_LIMIT, 0) else {
         return CellLimit::Absent;
@@ -85,7 +85,7 @@ fn nowhere() -> Range
 
 // The area that has so many before it.
 fn area_of(bytes: &[u8], before: usize) -> Range
-    ensures { result ≡ section.rangeFrom (drop before (walk.inPlace AR (records bytes.now))) }
+    ensures { result ≡ section.range_from (drop before (walk.in_place AR (records bytes.now))) }
 {
     let Lookup::Found(found) = find_record(bytes, RANGE, before) else {
         return nowhere();
@@ -98,7 +98,7 @@ fn area_of(bytes: &[u8], before: usize) -> Range
 
 // The same of the first so many areas: past them nothing is looked for.
 fn counted_area(bytes: &[u8], before: usize, count: usize) -> Range
-    ensures { result ≡ section.rangeFrom (drop before (take count (walk.inPlace AR (records bytes.now)))) }
+    ensures { result ≡ section.range_from (drop before (take count (walk.in_place AR (records bytes.now)))) }
 {
     if before >= count {
         return nowhere();
@@ -108,7 +108,7 @@ fn counted_area(bytes: &[u8], before: usize, count: usize) -> Range
 
 // The first so many areas, at most eight, and that count.
 pub fn areas_of(bytes: &[u8], count: usize) -> JobAreas
-    ensures { result ≡ section.areasHeld count (take count (walk.inPlace AR (records bytes.now))) }
+    ensures { result ≡ section.areas_held count (take count (walk.in_place AR (records bytes.now))) }
 {
     JobAreas {
         count,

@@ -1,6 +1,6 @@
 // One area: ready to be cut, its scale, counted and written. Document 01, sections "Scale" and "Pages", and document 02, T-02.
 ghost use Rattle.std.specs.Prelude.{◌≡◌, cond, ◌&&◌, []};
-ghost use Rattle.planner_rules.specs.Scale.{fixedScale, fitScale, scaleOf, fitPasses, Low};
+ghost use Rattle.planner_rules.specs.Scale.{fixed_scale, fit_scale, scale_of, fit_passes, Low};
 ghost use Rattle.planner_rules.specs.Plan as call;
 ghost use Rattle.planner_rules.specs.Steps as step;
 
@@ -20,7 +20,7 @@ use units::Fixed;
 #[inline(always)]
 fn ready_axis(axis: AxisRange, side: Fixed, title: ReadyTitle, indexes: &[u32]) -> Ready
     requires { step.Startable indexes.now title axis.first }
-    ensures { result ≡ step.readyFrom side title (call.axisFor axis indexes.now [] [] [] []) }
+    ensures { result ≡ step.ready_from side title (call.axis_for axis indexes.now [] [] [] []) }
 {
     let widened = title.title;
     let start = body_start(widened, axis.first);
@@ -54,7 +54,7 @@ pub(crate) fn ready_area(
 ) -> ReadyArea
     requires startable_rows { step.Startable row_indexes.now shared.rows range.first_row }
     requires startable_columns { step.Startable column_indexes.now shared.columns range.first_column }
-    ensures { result ≡ step.readyIn shared range row_indexes.now column_indexes.now }
+    ensures { result ≡ step.ready_in shared range row_indexes.now column_indexes.now }
 {
     let settings = shared.settings;
     let sides = shared.sides;
@@ -78,7 +78,7 @@ pub(crate) fn ready_area(
 pub(crate) fn frames_at(ready: ReadyArea, permille: u16) -> Frames
     requires low_rows { Low ready.rows.fit.page }
     requires low_columns { Low ready.columns.fit.page }
-    ensures { result ≡ step.framesOf ready permille }
+    ensures { result ≡ step.frames_of ready permille }
 {
     let rows = ready.rows;
     let columns = ready.columns;
@@ -106,13 +106,13 @@ pub(crate) fn choose_scale(
 ) -> ChosenScale
     requires cuttable_rows { call.Cuttable ready.rows row_indexes.now row_sizes.now }
     requires cuttable_columns { call.Cuttable ready.columns column_indexes.now column_sizes.now }
-    ensures { scaleOf result ≡ cond settings.fit
-        (fitScale
-        (λ p. fitPasses ready.rows.fit merge_first_rows.now merge_last_rows.now
-        (call.within ready.rows row_indexes.now) (call.within ready.rows row_sizes.now) p && fitPasses
+    ensures { scale_of result ≡ cond settings.fit
+        (fit_scale
+        (λ p. fit_passes ready.rows.fit merge_first_rows.now merge_last_rows.now
+        (call.within ready.rows row_indexes.now) (call.within ready.rows row_sizes.now) p && fit_passes
         ready.columns.fit merge_first_columns.now merge_last_columns.now
         (call.within ready.columns column_indexes.now) (call.within ready.columns column_sizes.now) p))
-        (fixedScale settings.percent) }
+        (fixed_scale settings.percent) }
 {
     if settings.fit {
         let rows = ready.rows;
@@ -144,7 +144,7 @@ pub(crate) fn choose_scale(
 #[inline(always)]
 fn area_from(scale: ChosenScale, rows: FinalCut, columns: FinalCut) -> CountedArea
     requires { step.Addable rows columns }
-    ensures { result ≡ step.areaFrom rows columns (scaleOf scale) }
+    ensures { result ≡ step.area_from rows columns (scale_of scale) }
 {
     CountedArea {
         area: AreaPlan {
@@ -185,12 +185,12 @@ pub(crate) fn count_at(
 ) -> CountedArea
     requires cuttable_rows { call.Cuttable ready.rows row_indexes.now row_sizes.now }
     requires cuttable_columns { call.Cuttable ready.columns column_indexes.now column_sizes.now }
-    requires frames_are { frames ≡ step.framesOf ready scale.permille }
-    ensures counted { let rows = step.readyCut ready.rows scale.permille row_indexes.now row_sizes.now
-        merge_first_rows.now merge_last_rows.now (call.lookedAt fit row_breaks.now) in
-        let columns = step.readyCut ready.columns scale.permille column_indexes.now column_sizes.now
-        merge_first_columns.now merge_last_columns.now (call.lookedAt fit column_breaks.now) in
-        result ≡ step.areaFrom rows columns (scaleOf scale) }
+    requires frames_are { frames ≡ step.frames_of ready scale.permille }
+    ensures counted { let rows = step.ready_cut ready.rows scale.permille row_indexes.now row_sizes.now
+        merge_first_rows.now merge_last_rows.now (call.looked_at fit row_breaks.now) in
+        let columns = step.ready_cut ready.columns scale.permille column_indexes.now column_sizes.now
+        merge_first_columns.now merge_last_columns.now (call.looked_at fit column_breaks.now) in
+        result ≡ step.area_from rows columns (scale_of scale) }
     ensures few_cut { step.FewCut result }
 {
     let rows = ready.rows;
@@ -237,14 +237,14 @@ pub(crate) fn count_area(
     row_breaks: &[u32],
     column_breaks: &[u32],
 ) -> CountedArea
-    requires settled { let sheet = step.sheetBy shared row_indexes.now row_sizes.now column_indexes.now column_sizes.now merge_first_rows.now
+    requires settled { let sheet = step.sheet_by shared row_indexes.now row_sizes.now column_indexes.now column_sizes.now merge_first_rows.now
         merge_first_columns.now merge_last_rows.now merge_last_columns.now row_breaks.now column_breaks.now in
         step.Settled shared sheet }
     requires fine_area { step.FineArea range }
-    ensures counted { let sheet = step.sheetBy shared row_indexes.now row_sizes.now column_indexes.now
+    ensures counted { let sheet = step.sheet_by shared row_indexes.now row_sizes.now column_indexes.now
         column_sizes.now merge_first_rows.now merge_first_columns.now merge_last_rows.now
         merge_last_columns.now row_breaks.now column_breaks.now in
-        result ≡ (call.areaLayout (step.sidesIn shared) sheet range).counted }
+        result ≡ (call.area_layout (step.sides_in shared) sheet range).counted }
     ensures few { step.Few result }
 {
     let settings = shared.settings;
@@ -302,16 +302,16 @@ pub(crate) fn write_ready(
     row_runs: &mut [u64],
     column_runs: &mut [u64],
 )
-    requires settled { let sheet = step.sheetBy shared row_indexes.now row_sizes.now column_indexes.now column_sizes.now merge_first_rows.now
+    requires settled { let sheet = step.sheet_by shared row_indexes.now row_sizes.now column_indexes.now column_sizes.now merge_first_rows.now
         merge_first_columns.now merge_last_rows.now merge_last_columns.now row_breaks.now column_breaks.now in
         step.Settled shared sheet × step.Writable shared sheet ready.range area row_at column_at row_runs.old column_runs.old }
-    requires is_ready { ready ≡ step.readyIn shared ready.range row_indexes.now column_indexes.now }
-    requires frames_are { frames ≡ step.framesOf ready area.permille }
-    ensures { let sheet = step.sheetBy shared row_indexes.now row_sizes.now column_indexes.now
+    requires is_ready { ready ≡ step.ready_in shared ready.range row_indexes.now column_indexes.now }
+    requires frames_are { frames ≡ step.frames_of ready area.permille }
+    ensures { let sheet = step.sheet_by shared row_indexes.now row_sizes.now column_indexes.now
         column_sizes.now merge_first_rows.now merge_first_columns.now merge_last_rows.now
         merge_last_columns.now row_breaks.now column_breaks.now in
-        (row_runs.new ≡ step.putAt (step.rowsAt shared sheet ready.range area.permille) row_at row_runs.old)
-        × (column_runs.new ≡ step.putAt (step.columnsAt shared sheet ready.range area.permille) column_at column_runs.old) }
+        (row_runs.new ≡ step.put_at (step.rows_at shared sheet ready.range area.permille) row_at row_runs.old)
+        × (column_runs.new ≡ step.put_at (step.columns_at shared sheet ready.range area.permille) column_at column_runs.old) }
 {
     let settings = shared.settings;
     let range = ready.range;
@@ -365,15 +365,15 @@ pub(crate) fn write_area_runs(
     row_runs: &mut [u64],
     column_runs: &mut [u64],
 )
-    requires settled { let sheet = step.sheetBy shared row_indexes.now row_sizes.now column_indexes.now column_sizes.now merge_first_rows.now
+    requires settled { let sheet = step.sheet_by shared row_indexes.now row_sizes.now column_indexes.now column_sizes.now merge_first_rows.now
         merge_first_columns.now merge_last_rows.now merge_last_columns.now row_breaks.now column_breaks.now in
         step.Settled shared sheet × step.Writable shared sheet range area row_at column_at row_runs.old column_runs.old }
     requires fine_area { step.FineArea range }
-    ensures { let sheet = step.sheetBy shared row_indexes.now row_sizes.now column_indexes.now
+    ensures { let sheet = step.sheet_by shared row_indexes.now row_sizes.now column_indexes.now
         column_sizes.now merge_first_rows.now merge_first_columns.now merge_last_rows.now
         merge_last_columns.now row_breaks.now column_breaks.now in
-        (row_runs.new ≡ step.putAt (step.rowsAt shared sheet range area.permille) row_at row_runs.old)
-        × (column_runs.new ≡ step.putAt (step.columnsAt shared sheet range area.permille) column_at column_runs.old) }
+        (row_runs.new ≡ step.put_at (step.rows_at shared sheet range area.permille) row_at row_runs.old)
+        × (column_runs.new ≡ step.put_at (step.columns_at shared sheet range area.permille) column_at column_runs.old) }
 {
     let ready = ready_area(shared, range, row_indexes, column_indexes);
     let frames = frames_at(ready, area.permille);

@@ -1,7 +1,7 @@
 // All areas, one after another: counted, then written. Document 02, T-02.
 ghost use Rattle.std.specs.Prelude.{◌≡◌, [], map, ◌+◌, ◌<◌};
 ghost use Rattle.planner_rules.specs.Slots.{written};
-ghost use Rattle.planner_rules.specs.Areas.{areasIn, heldPlans};
+ghost use Rattle.planner_rules.specs.Areas.{areas_in, held_plans};
 ghost use Rattle.planner_rules.specs.Lent.{flat};
 ghost use Rattle.planner_rules.specs.Plan as call;
 ghost use Rattle.planner_rules.specs.Steps as step;
@@ -16,7 +16,7 @@ const MOST: u64 = 18_446_744_073_709_551_615;
 
 // A sum that no u64 holds counts as the largest that one holds.
 fn counted_sum(a: u64, b: u64) -> u64
-    ensures { result ≡ call.asCount (a + b) }
+    ensures { result ≡ call.as_count (a + b) }
 {
     if b > MOST - a {
         return MOST;
@@ -27,7 +27,7 @@ fn counted_sum(a: u64, b: u64) -> u64
 // No area, yet.
 #[inline(always)]
 pub(crate) fn no_areas() -> CountedAreas
-    ensures { result ≡ step.countedOf [] }
+    ensures { result ≡ step.counted_of [] }
 {
     let none = AreaPlan {
         permille: 0,
@@ -107,14 +107,14 @@ pub(crate) fn count_areas(
     row_breaks: &[u32],
     column_breaks: &[u32],
 ) -> CountedAreas
-    requires settled { let sheet = step.sheetBy shared row_indexes.now row_sizes.now column_indexes.now column_sizes.now merge_first_rows.now
+    requires settled { let sheet = step.sheet_by shared row_indexes.now row_sizes.now column_indexes.now column_sizes.now merge_first_rows.now
         merge_first_columns.now merge_last_rows.now merge_last_columns.now row_breaks.now column_breaks.now in
         step.Settled shared sheet }
     requires fine_areas { step.FineAreas areas }
-    ensures { let sheet = step.sheetBy shared row_indexes.now row_sizes.now column_indexes.now
+    ensures { let sheet = step.sheet_by shared row_indexes.now row_sizes.now column_indexes.now
         column_sizes.now merge_first_rows.now merge_first_columns.now merge_last_rows.now
         merge_last_columns.now row_breaks.now column_breaks.now in
-        result ≡ step.countedOf (call.layoutsOf (step.sidesIn shared) sheet (areasIn areas)) }
+        result ≡ step.counted_of (call.layouts_of (step.sides_in shared) sheet (areas_in areas)) }
 {
     let mut all = no_areas();
     let mut i = 0;
@@ -158,17 +158,17 @@ pub(crate) fn write_areas(
     row_runs: &mut [u64],
     column_runs: &mut [u64],
 )
-    requires settled { let sheet = step.sheetBy shared row_indexes.now row_sizes.now column_indexes.now column_sizes.now merge_first_rows.now
+    requires settled { let sheet = step.sheet_by shared row_indexes.now row_sizes.now column_indexes.now column_sizes.now merge_first_rows.now
         merge_first_columns.now merge_last_rows.now merge_last_columns.now row_breaks.now column_breaks.now in
-        let layouts = call.layoutsOf (step.sidesIn shared) sheet (areasIn areas) in
-        step.Settled shared sheet × (plans ≡ heldPlans (map call.planIn layouts)) × step.RoomForAll layouts row_runs.old column_runs.old }
+        let layouts = call.layouts_of (step.sides_in shared) sheet (areas_in areas) in
+        step.Settled shared sheet × (plans ≡ held_plans (map call.plan_in layouts)) × step.RoomForAll layouts row_runs.old column_runs.old }
     requires fine_areas { step.FineAreas areas }
-    ensures { let sheet = step.sheetBy shared row_indexes.now row_sizes.now column_indexes.now
+    ensures { let sheet = step.sheet_by shared row_indexes.now row_sizes.now column_indexes.now
         column_sizes.now merge_first_rows.now merge_first_columns.now merge_last_rows.now
         merge_last_columns.now row_breaks.now column_breaks.now in
-        let layouts = call.layoutsOf (step.sidesIn shared) sheet (areasIn areas) in
-        (row_runs.new ≡ written (flat (call.rowRunsOf layouts)) row_runs.old)
-        × (column_runs.new ≡ written (flat (call.columnRunsOf layouts)) column_runs.old) }
+        let layouts = call.layouts_of (step.sides_in shared) sheet (areas_in areas) in
+        (row_runs.new ≡ written (flat (call.row_runs_of layouts)) row_runs.old)
+        × (column_runs.new ≡ written (flat (call.column_runs_of layouts)) column_runs.old) }
 {
     let mut row_at = 0;
     let mut column_at = 0;

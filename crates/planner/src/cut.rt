@@ -1,10 +1,10 @@
 // The final cut of an axis, counted and written: document 01, sections "Runs" and "Pages".
 ghost use Rattle.std.specs.Prelude.{◌≡◌, cond, ◌+◌, ◌≤◌, ◌^◌, max, ltb, length};
 ghost use Rattle.planner_rules.specs.Slots.{Slots, written};
-ghost use Rattle.planner_rules.specs.Runs.{axisRuns};
+ghost use Rattle.planner_rules.specs.Runs.{axis_runs};
 ghost use Rattle.planner_rules.specs.Lent.{Room, flat};
-ghost use Rattle.planner_rules.specs.Scale.{fitsSide, spaceOf, Low};
-ghost use Rattle.planner_rules.specs.Pages.{none, orEmpty};
+ghost use Rattle.planner_rules.specs.Scale.{fits_side, space_of, Low};
+ghost use Rattle.planner_rules.specs.Pages.{none, or_empty};
 ghost use Rattle.planner_rules.specs.Plan as call;
 
 use crate::runs::{count_axis, write_axis, write_empty};
@@ -15,7 +15,7 @@ use planner_rules::{FinalCut, Frame, PageSide, Ready};
 // How many runs of the final cut overflow, of what was counted: an axis without runs gets one, which does where titles plus headings do not fit.
 fn cut_overflows(page: PageSide, permille: u16, runs: usize, overflows: u64) -> u64
     requires { Low page }
-    ensures value { result ≡ cond (ltb 0 runs) overflows (cond (fitsSide (spaceOf page) permille (page.titles + page.headings)) 0 1) }
+    ensures value { result ≡ cond (ltb 0 runs) overflows (cond (fits_side (space_of page) permille (page.titles + page.headings)) 0 1) }
     ensures upper_bound { result ≤ max overflows 1 }
 {
     if runs > 0 {
@@ -36,13 +36,13 @@ pub(crate) fn count_cut(
     sizes: &[u64],
 ) -> FinalCut
     requires cuttable { call.Cuttable ready indexes.now sizes.now }
-    requires frame_is { frame ≡ call.readyFrame ready.fit permille }
+    requires frame_is { frame ≡ call.ready_frame ready.fit permille }
     ensures counted { let is = indexes.now in
         let firsts = merge_firsts.now in
         let lasts = merge_lasts.now in
         let bs = breaks.now in
-        let runs = call.readyRuns ready permille is sizes.now firsts lasts bs in
-        result ≡ call.cutOf runs (call.readyShifts ready permille is firsts lasts bs) (call.readyOverflows ready permille runs) }
+        let runs = call.ready_runs ready permille is sizes.now firsts lasts bs in
+        result ≡ call.cut_of runs (call.ready_shifts ready permille is firsts lasts bs) (call.ready_overflows ready permille runs) }
     ensures runs_bound { (result.runs ≤ 2 ^ 20) × (result.expansions ≤ 2 ^ 20) × (result.shifts ≤ length breaks.now) × (result.overflows ≤ 2 ^ 20) }
 {
     let fit = ready.fit;
@@ -77,11 +77,11 @@ fn write_page_runs(
     list: &mut [u64],
 )
     requires slots { Slots indexes.now sizes.now }
-    requires room { let runs = axisRuns frame merge_firsts.now merge_lasts.now indexes.now sizes.now 0 breaks.now in
-        (empty ≡ none runs) × Room (orEmpty first runs) list.old }
-    ensures { let runs = axisRuns frame merge_firsts.now merge_lasts.now indexes.now
+    requires room { let runs = axis_runs frame merge_firsts.now merge_lasts.now indexes.now sizes.now 0 breaks.now in
+        (empty ≡ none runs) × Room (or_empty first runs) list.old }
+    ensures { let runs = axis_runs frame merge_firsts.now merge_lasts.now indexes.now
         sizes.now 0 breaks.now in
-        list.new ≡ written (flat (orEmpty first runs)) list.old }
+        list.new ≡ written (flat (or_empty first runs)) list.old }
 {
     if empty {
         write_empty(first, list);
@@ -113,11 +113,11 @@ pub(crate) fn write_cut(
 )
     requires cuttable { call.Cuttable ready indexes.now sizes.now }
     requires room { let is = call.within ready indexes.now in
-        let runs = axisRuns frame merge_firsts.now merge_lasts.now is (call.within ready sizes.now) 0 breaks.now in
-        (empty ≡ none runs) × Room (orEmpty first runs) list.old }
+        let runs = axis_runs frame merge_firsts.now merge_lasts.now is (call.within ready sizes.now) 0 breaks.now in
+        (empty ≡ none runs) × Room (or_empty first runs) list.old }
     ensures { let is = call.within ready indexes.now in
-        let runs = axisRuns frame merge_firsts.now merge_lasts.now is (call.within ready sizes.now) 0 breaks.now in
-        list.new ≡ written (flat (orEmpty first runs)) list.old }
+        let runs = axis_runs frame merge_firsts.now merge_lasts.now is (call.within ready sizes.now) 0 breaks.now in
+        list.new ≡ written (flat (or_empty first runs)) list.old }
 {
     let from = ready.from;
     let to = ready.to;

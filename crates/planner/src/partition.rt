@@ -1,8 +1,8 @@
 // The call that cuts an axis into a lent list: document 01, sections "Titles" and "Runs".
 ghost use Rattle.planner_rules.specs.Slots.{Slots};
-ghost use Rattle.planner_rules.specs.Titles.{limitOf};
-ghost use Rattle.planner_rules.specs.Runs.{axisRuns, axisTally};
-ghost use Rattle.planner_rules.specs.Lent.{roomIn};
+ghost use Rattle.planner_rules.specs.Titles.{limit_of};
+ghost use Rattle.planner_rules.specs.Runs.{axis_runs, axis_tally};
+ghost use Rattle.planner_rules.specs.Lent.{room_in};
 ghost use Rattle.planner_rules.specs.Partition as call;
 
 use crate::places::place_of;
@@ -29,8 +29,8 @@ fn partition_slots(
         let is = indexes.now in
         let ss = sizes.now in
         let bs = breaks.now in
-        let runs = axisRuns frame firsts lasts is ss 0 bs in
-        call.Answered (call.roomFor runs (axisTally frame firsts lasts is ss bs) (roomIn list.old)) runs result
+        let runs = axis_runs frame firsts lasts is ss 0 bs in
+        call.Answered (call.room_for runs (axis_tally frame firsts lasts is ss bs) (room_in list.old)) runs result
         list.old list.new }
 {
     // how many runs overflow is not answered, so that any page serves
@@ -81,7 +81,7 @@ fn partition_body(
         let is = indexes.now in
         let ss = sizes.now in
         let bs = breaks.now in
-        call.Answered (call.fits setup is ss firsts lasts bs (roomIn list.old)) (call.bodyRuns setup is ss firsts lasts bs) result
+        call.Answered (call.fits setup is ss firsts lasts bs (room_in list.old)) (call.body_runs setup is ss firsts lasts bs) result
         list.old list.new }
 {
     let first = setup.first;
@@ -132,8 +132,8 @@ pub fn partition_axis_with_breaks(
         let is = indexes.now in
         let ss = sizes.now in
         let bs = breaks.now in
-        call.Answered (call.partition (limitOf axis) setup is ss firsts lasts bs list.old)
-        (call.bodyRuns setup is ss firsts lasts bs) result list.old list.new }
+        call.Answered (call.partition (limit_of axis) setup is ss firsts lasts bs list.old)
+        (call.body_runs setup is ss firsts lasts bs) result list.old list.new }
 {
     let limit = axis.limit();
     let refusal = partition_refusal(limit, setup, indexes, sizes, merge_firsts, merge_lasts);

@@ -1,8 +1,8 @@
 // The plan calls: questions, then all areas counted and written, or one written. Document 01, sections "Pages" and "Questions in order", and
 // document 02, T-02.
 ghost use Rattle.std.specs.Prelude.{◌≡◌, List, [], ◌∷◌, ℕ};
-ghost use Rattle.planner_rules.specs.Lent.{roomIn};
-ghost use Rattle.planner_rules.specs.Areas.{areasIn};
+ghost use Rattle.planner_rules.specs.Lent.{room_in};
+ghost use Rattle.planner_rules.specs.Areas.{areas_in};
 ghost use Rattle.planner_rules.specs.Demand.{CoversPairs, FewestPlan, LargestPlan};
 ghost use Rattle.planner_rules.specs.Plan as call;
 ghost use Rattle.planner_rules.specs.Steps as step;
@@ -35,7 +35,7 @@ fn prepare(
 ) -> Prepared
     ensures { (rb cb : List ℕ) →
         step.IsPrepared result
-        (call.sheetOf settings row_title column_title row_indexes.now row_sizes.now column_indexes.now
+        (call.sheet_of settings row_title column_title row_indexes.now row_sizes.now column_indexes.now
         column_sizes.now merge_first_rows.now merge_first_columns.now merge_last_rows.now
         merge_last_columns.now rb cb) areas }
 {
@@ -84,7 +84,7 @@ fn prepare(
 // The plan of counted areas. Paper, margin and title notes count once.
 fn plan_of(shared: Shared, counted: CountedAreas) -> Plan
     requires { step.TitlesFew shared }
-    ensures { result ≡ step.planFrom shared counted }
+    ensures { result ≡ step.plan_from shared counted }
 {
     let settings = shared.settings;
     let sides = shared.sides;
@@ -129,15 +129,15 @@ fn plan_one(
     row_runs: &mut [u64],
     column_runs: &mut [u64],
 ) -> Planning
-    requires settled { let sheet = step.sheetBy shared row_indexes.now row_sizes.now column_indexes.now column_sizes.now merge_first_rows.now
+    requires settled { let sheet = step.sheet_by shared row_indexes.now row_sizes.now column_indexes.now column_sizes.now merge_first_rows.now
         merge_first_columns.now merge_last_rows.now merge_last_columns.now row_breaks.now column_breaks.now in
         step.Settled shared sheet }
     requires fine_area { step.FineArea range }
-    ensures { let sheet = step.sheetBy shared row_indexes.now row_sizes.now column_indexes.now
+    ensures { let sheet = step.sheet_by shared row_indexes.now row_sizes.now column_indexes.now
         column_sizes.now merge_first_rows.now merge_first_columns.now merge_last_rows.now
         merge_last_columns.now row_breaks.now column_breaks.now in
-        let layout = call.layout (step.sidesIn shared) sheet (range ∷ []) in
-        call.Planned (call.roomFor sheet layout (roomIn row_runs.old) (roomIn column_runs.old)) result
+        let layout = call.layout (step.sides_in shared) sheet (range ∷ []) in
+        call.Planned (call.room_for sheet layout (room_in row_runs.old) (room_in column_runs.old)) result
         row_runs.old column_runs.old row_runs.new column_runs.new }
 {
     let settings = shared.settings;
@@ -226,15 +226,15 @@ fn plan_several(
     row_runs: &mut [u64],
     column_runs: &mut [u64],
 ) -> Planning
-    requires settled { let sheet = step.sheetBy shared row_indexes.now row_sizes.now column_indexes.now column_sizes.now merge_first_rows.now
+    requires settled { let sheet = step.sheet_by shared row_indexes.now row_sizes.now column_indexes.now column_sizes.now merge_first_rows.now
         merge_first_columns.now merge_last_rows.now merge_last_columns.now row_breaks.now column_breaks.now in
         step.Settled shared sheet }
     requires fine_areas { step.FineAreas areas }
-    ensures { let sheet = step.sheetBy shared row_indexes.now row_sizes.now column_indexes.now
+    ensures { let sheet = step.sheet_by shared row_indexes.now row_sizes.now column_indexes.now
         column_sizes.now merge_first_rows.now merge_first_columns.now merge_last_rows.now
         merge_last_columns.now row_breaks.now column_breaks.now in
-        let layout = call.layout (step.sidesIn shared) sheet (areasIn areas) in
-        call.Planned (call.roomFor sheet layout (roomIn row_runs.old) (roomIn column_runs.old)) result
+        let layout = call.layout (step.sides_in shared) sheet (areas_in areas) in
+        call.Planned (call.room_for sheet layout (room_in row_runs.old) (room_in column_runs.old)) result
         row_runs.old column_runs.old row_runs.new column_runs.new }
 {
     let settings = shared.settings;
@@ -302,15 +302,15 @@ fn plan_areas(
     row_runs: &mut [u64],
     column_runs: &mut [u64],
 ) -> Planning
-    requires settled { let sheet = step.sheetBy shared row_indexes.now row_sizes.now column_indexes.now column_sizes.now merge_first_rows.now
+    requires settled { let sheet = step.sheet_by shared row_indexes.now row_sizes.now column_indexes.now column_sizes.now merge_first_rows.now
         merge_first_columns.now merge_last_rows.now merge_last_columns.now row_breaks.now column_breaks.now in
         step.Settled shared sheet }
     requires fine_areas { step.FineAreas areas }
-    ensures { let sheet = step.sheetBy shared row_indexes.now row_sizes.now column_indexes.now
+    ensures { let sheet = step.sheet_by shared row_indexes.now row_sizes.now column_indexes.now
         column_sizes.now merge_first_rows.now merge_first_columns.now merge_last_rows.now
         merge_last_columns.now row_breaks.now column_breaks.now in
-        let layout = call.layout (step.sidesIn shared) sheet (areasIn areas) in
-        call.Planned (call.roomFor sheet layout (roomIn row_runs.old) (roomIn column_runs.old)) result
+        let layout = call.layout (step.sides_in shared) sheet (areas_in areas) in
+        call.Planned (call.room_for sheet layout (room_in row_runs.old) (room_in column_runs.old)) result
         row_runs.old column_runs.old row_runs.new column_runs.new }
 {
     if areas.count == 1 {
@@ -370,20 +370,20 @@ pub fn plan_pages(
     row_runs: &mut [u64],
     column_runs: &mut [u64],
 ) -> Planning
-    ensures planned { let sheet = call.sheetOf settings row_title column_title row_indexes.now row_sizes.now
+    ensures planned { let sheet = call.sheet_of settings row_title column_title row_indexes.now row_sizes.now
         column_indexes.now column_sizes.now merge_first_rows.now merge_first_columns.now
         merge_last_rows.now merge_last_columns.now row_breaks.now column_breaks.now in
         call.Planned (call.planned sheet areas row_runs.old column_runs.old) result
         row_runs.old column_runs.old row_runs.new column_runs.new }
-    ensures covered { let sheet = call.sheetOf settings row_title column_title row_indexes.now row_sizes.now
+    ensures covered { let sheet = call.sheet_of settings row_title column_title row_indexes.now row_sizes.now
         column_indexes.now column_sizes.now merge_first_rows.now merge_first_columns.now
         merge_last_rows.now merge_last_columns.now row_breaks.now column_breaks.now in
         CoversPairs result sheet areas row_runs.new column_runs.new }
-    ensures fewest { let sheet = call.sheetOf settings row_title column_title row_indexes.now row_sizes.now
+    ensures fewest { let sheet = call.sheet_of settings row_title column_title row_indexes.now row_sizes.now
         column_indexes.now column_sizes.now merge_first_rows.now merge_first_columns.now
         merge_last_rows.now merge_last_columns.now row_breaks.now column_breaks.now in
         FewestPlan result sheet areas row_runs.new column_runs.new }
-    ensures largest { let sheet = call.sheetOf settings row_title column_title row_indexes.now row_sizes.now
+    ensures largest { let sheet = call.sheet_of settings row_title column_title row_indexes.now row_sizes.now
         column_indexes.now column_sizes.now merge_first_rows.now merge_first_columns.now
         merge_last_rows.now merge_last_columns.now row_breaks.now column_breaks.now in
         LargestPlan result sheet areas }
@@ -438,14 +438,14 @@ fn counted_plan(
     row_breaks: &[u32],
     column_breaks: &[u32],
 ) -> Planning
-    requires settled { let sheet = step.sheetBy shared row_indexes.now row_sizes.now column_indexes.now column_sizes.now merge_first_rows.now
+    requires settled { let sheet = step.sheet_by shared row_indexes.now row_sizes.now column_indexes.now column_sizes.now merge_first_rows.now
         merge_first_columns.now merge_last_rows.now merge_last_columns.now row_breaks.now column_breaks.now in
         step.Settled shared sheet }
     requires fine_areas { step.FineAreas areas }
-    ensures { let sheet = step.sheetBy shared row_indexes.now row_sizes.now column_indexes.now
+    ensures { let sheet = step.sheet_by shared row_indexes.now row_sizes.now column_indexes.now
         column_sizes.now merge_first_rows.now merge_first_columns.now merge_last_rows.now
         merge_last_columns.now row_breaks.now column_breaks.now in
-        call.Counted (call.withinLimit sheet (call.layout (step.sidesIn shared) sheet (areasIn areas))) result }
+        call.Counted (call.within_limit sheet (call.layout (step.sides_in shared) sheet (areas_in areas))) result }
 {
     let settings = shared.settings;
     let counted = count_areas(
@@ -485,7 +485,7 @@ pub fn count_pages(
     row_breaks: &[u32],
     column_breaks: &[u32],
 ) -> Planning
-    ensures { let sheet = call.sheetOf settings row_title column_title row_indexes.now row_sizes.now
+    ensures { let sheet = call.sheet_of settings row_title column_title row_indexes.now row_sizes.now
         column_indexes.now column_sizes.now merge_first_rows.now merge_first_columns.now
         merge_last_rows.now merge_last_columns.now row_breaks.now column_breaks.now in
         call.Counted (call.counted sheet areas) result }
@@ -541,15 +541,15 @@ fn write_range(
     row_runs: &mut [u64],
     column_runs: &mut [u64],
 ) -> Writing
-    requires settled { let sheet = step.sheetBy shared row_indexes.now row_sizes.now column_indexes.now column_sizes.now merge_first_rows.now
+    requires settled { let sheet = step.sheet_by shared row_indexes.now row_sizes.now column_indexes.now column_sizes.now merge_first_rows.now
         merge_first_columns.now merge_last_rows.now merge_last_columns.now row_breaks.now column_breaks.now in
         step.Settled shared sheet }
     requires fine_area { step.FineArea range }
-    ensures { let sheet = step.sheetBy shared row_indexes.now row_sizes.now column_indexes.now
+    ensures { let sheet = step.sheet_by shared row_indexes.now row_sizes.now column_indexes.now
         column_sizes.now merge_first_rows.now merge_first_columns.now merge_last_rows.now
         merge_last_columns.now row_breaks.now column_breaks.now in
-        let area = call.areaAt (step.sidesIn shared) (call.rowsIn sheet range) (call.columnsIn sheet range) (call.scaleAt permille) in
-        call.AreaWrote (call.areaRoom area (roomIn row_runs.old) (roomIn column_runs.old)) result
+        let area = call.area_at (step.sides_in shared) (call.rows_in sheet range) (call.columns_in sheet range) (call.scale_at permille) in
+        call.AreaWrote (call.area_room area (room_in row_runs.old) (room_in column_runs.old)) result
         row_runs.old column_runs.old row_runs.new column_runs.new }
 {
     let settings = shared.settings;
@@ -627,14 +627,14 @@ fn write_numbered(
     row_runs: &mut [u64],
     column_runs: &mut [u64],
 ) -> Writing
-    requires settled { let sheet = step.sheetBy shared row_indexes.now row_sizes.now column_indexes.now column_sizes.now merge_first_rows.now
+    requires settled { let sheet = step.sheet_by shared row_indexes.now row_sizes.now column_indexes.now column_sizes.now merge_first_rows.now
         merge_first_columns.now merge_last_rows.now merge_last_columns.now row_breaks.now column_breaks.now in
         step.Settled shared sheet }
     requires fine_areas { step.FineAreas areas }
-    ensures { let sheet = step.sheetBy shared row_indexes.now row_sizes.now column_indexes.now
+    ensures { let sheet = step.sheet_by shared row_indexes.now row_sizes.now column_indexes.now
         column_sizes.now merge_first_rows.now merge_first_columns.now merge_last_rows.now
         merge_last_columns.now row_breaks.now column_breaks.now in
-        call.AreaWrote (call.numberedArea (step.sidesIn shared) sheet areas number permille row_runs.old column_runs.old) result
+        call.AreaWrote (call.numbered_area (step.sides_in shared) sheet areas number permille row_runs.old column_runs.old) result
         row_runs.old column_runs.old row_runs.new column_runs.new }
 {
     if permille == 0 {
@@ -687,10 +687,10 @@ pub fn write_area(
     row_runs: &mut [u64],
     column_runs: &mut [u64],
 ) -> Writing
-    ensures { let sheet = call.sheetOf settings row_title column_title row_indexes.now row_sizes.now
+    ensures { let sheet = call.sheet_of settings row_title column_title row_indexes.now row_sizes.now
         column_indexes.now column_sizes.now merge_first_rows.now merge_first_columns.now
         merge_last_rows.now merge_last_columns.now row_breaks.now column_breaks.now in
-        call.AreaWrote (call.areaWritten sheet areas number permille row_runs.old column_runs.old) result
+        call.AreaWrote (call.area_written sheet areas number permille row_runs.old column_runs.old) result
         row_runs.old column_runs.old row_runs.new column_runs.new }
 {
     let prepared = prepare(

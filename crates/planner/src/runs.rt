@@ -1,11 +1,11 @@
 // Where the slots of an axis are cut into runs: document 01, section "Runs".
 ghost use Rattle.std.specs.Prelude.{◌≡◌, false, [], ◌∷◌, ◌++◌, ◌+◌, ◌≤◌, ◌<◌, length, take, drop};
 ghost use Rattle.planner_rules.specs.Slots.{Small, Rising, Slots, sum, below, written};
-ghost use Rattle.planner_rules.specs.Runs.{filled, resumed, resumption, taken, merged, ends, runEnd, runs, expansions, firstMarked};
-ghost use Rattle.planner_rules.specs.Runs.{placed, nextCut, stretch, axisRuns, axisTally};
+ghost use Rattle.planner_rules.specs.Runs.{filled, resumed, resumption, taken, merged, ends, run_end, runs, expansions, first_marked};
+ghost use Rattle.planner_rules.specs.Runs.{placed, next_cut, stretch, axis_runs, axis_tally};
 ghost use Rattle.planner_rules.specs.Lent.{Room, Written, RoomAt, WrittenAt, flat};
-ghost use Rattle.planner_rules.specs.Scale.{spaceOf, Low};
-ghost use Rattle.planner_rules.specs.Pages.{orEmpty, overflowing};
+ghost use Rattle.planner_rules.specs.Scale.{space_of, Low};
+ghost use Rattle.planner_rules.specs.Pages.{or_empty, overflowing};
 
 use crate::filling::{Filling, natural_fill, total};
 use crate::places::{moved_cut, place_of};
@@ -131,7 +131,7 @@ pub(crate) fn run_end(
 ) -> Reach
     requires slots { Slots indexes.now sizes.now }
     requires sizes_nonzero { 0 < length sizes.now }
-    ensures grown_value { (ends result.slots result.grown ≡ runEnd k firsts.now lasts.now indexes.now sizes.now)
+    ensures grown_value { (ends result.slots result.grown ≡ run_end k firsts.now lasts.now indexes.now sizes.now)
         × (result.size ≡ sum (take result.slots sizes.now)) }
     ensures le_slots { (1 ≤ result.slots) × (result.slots ≤ length sizes.now) × (result.grown ≤ 1) }
 {
@@ -163,7 +163,7 @@ fn count_runs(
     requires low { Low page }
     requires slots { Slots indexes.now sizes.now }
     ensures counts { let rs = runs k mfirsts.now mlasts.now indexes.now sizes.now in
-        (result.runs ≡ length rs) × (result.grown ≡ expansions rs) × (result.overflows ≡ overflowing (spaceOf page) k.title permille false rs) }
+        (result.runs ≡ length rs) × (result.grown ≡ expansions rs) × (result.overflows ≡ overflowing (space_of page) k.title permille false rs) }
     ensures bounds { let n = length sizes.now in (result.runs ≤ n) × (result.grown ≤ n) × (result.overflows ≤ n) }
 {
     let title = k.title;
@@ -204,8 +204,8 @@ fn put_run(list: &mut [u64], at: usize, first: u32, last: u32, size: u64, mark: 
 
 // Writes the run of an axis without slots to the front of a lent list: at the range's first, size 0.
 pub(crate) fn write_empty(first: u32, list: &mut [u64])
-    requires { Room (orEmpty first []) list.old }
-    ensures { list.new ≡ written (flat (orEmpty first [])) list.old }
+    requires { Room (or_empty first []) list.old }
+    ensures { list.new ≡ written (flat (or_empty first [])) list.old }
 {
     put_run(list, 0, first, first, 0, 0);
 }
@@ -222,8 +222,8 @@ fn write_runs(
     list: &mut [u64],
 ) -> usize
     requires slots { Slots indexes.now sizes.now }
-    requires room { Room (firstMarked mark (runs k mfirsts.now mlasts.now indexes.now sizes.now)) list.old }
-    ensures { Written (firstMarked mark (runs k mfirsts.now mlasts.now indexes.now sizes.now))
+    requires room { Room (first_marked mark (runs k mfirsts.now mlasts.now indexes.now sizes.now)) list.old }
+    ensures { Written (first_marked mark (runs k mfirsts.now mlasts.now indexes.now sizes.now))
         result list.old list.new }
 {
     let mut is = indexes;
@@ -302,7 +302,7 @@ fn break_place(indexes: &[u32], prev: usize, b: u32) -> usize
 fn next_cut(k: Frame, mfirsts: &[u32], mlasts: &[u32], indexes: &[u32], prev: usize, b: u32) -> Cut
     requires rising { Rising indexes.now }
     requires prev_in_bounds { prev ≤ length indexes.now }
-    ensures value { result ≡ nextCut k mfirsts.now mlasts.now indexes.now prev b }
+    ensures value { result ≡ next_cut k mfirsts.now mlasts.now indexes.now prev b }
     ensures prev_le_place { (prev ≤ result.place) × (result.place ≤ length indexes.now) × (result.shifted ≤ 1) }
 {
     if mfirsts.len() == 0 {
@@ -348,8 +348,8 @@ pub(crate) fn count_axis(
         let is = indexes.now in
         let ss = sizes.now in
         let bs = breaks.now in
-        (result.tally ≡ axisTally k firsts lasts is ss bs)
-        × (result.overflows ≡ overflowing (spaceOf page) k.title permille false (axisRuns k firsts lasts is ss 0 bs)) }
+        (result.tally ≡ axis_tally k firsts lasts is ss bs)
+        × (result.overflows ≡ overflowing (space_of page) k.title permille false (axis_runs k firsts lasts is ss 0 bs)) }
     ensures bounds { let n = length sizes.now in
         (result.tally.runs ≤ n) × (result.tally.expansions ≤ n) × (result.tally.shifts ≤ length breaks.now) × (result.overflows ≤ n) }
 {
@@ -439,9 +439,9 @@ pub(crate) fn write_axis(
     list: &mut [u64],
 ) -> usize
     requires slots { Slots indexes.now sizes.now }
-    requires room { Room (axisRuns k mfirsts.now mlasts.now indexes.now sizes.now 0 breaks.now) list.old }
+    requires room { Room (axis_runs k mfirsts.now mlasts.now indexes.now sizes.now 0 breaks.now) list.old }
     ensures { Written
-        (axisRuns k mfirsts.now mlasts.now indexes.now sizes.now 0
+        (axis_runs k mfirsts.now mlasts.now indexes.now sizes.now 0
         breaks.now)
         result list.old list.new }
 {

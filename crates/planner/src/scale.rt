@@ -2,8 +2,8 @@
 ghost use Rattle.std.specs.Prelude.{◌≡◌, false, cond, ◌&&◌, ◌+◌, ◌≤◌, ◌^◌, pos, length};
 ghost use Rattle.planner_rules.specs.Slots.{Slots};
 ghost use Rattle.planner_rules.specs.Runs.{runs};
-ghost use Rattle.planner_rules.specs.Scale.{capacityOf, fitsSide, allFit, meets, halve, fitScale, spaceOf, scaleOf, titled, Low, fitPasses, Fitted};
-ghost use Rattle.planner_rules.specs.Plan.{readyFrame};
+ghost use Rattle.planner_rules.specs.Scale.{capacity_of, fits_side, all_fit, meets, halve, fit_scale, space_of, scale_of, titled, Low, fit_passes, Fitted};
+ghost use Rattle.planner_rules.specs.Plan.{ready_frame};
 ghost use Rattle.planner_rules.specs.Scale as section;
 
 use crate::runs::run_end;
@@ -26,7 +26,7 @@ fn length_of(n: u64) -> Fixed
 fn capacity_at(page: PageSide, permille: u16, titles: u64) -> u64
     requires low { Low page }
     requires titles_bound { titles ≤ 2 ^ 50 }
-    ensures { result ≡ capacityOf (spaceOf page) permille titles }
+    ensures { result ≡ capacity_of (space_of page) permille titles }
 {
     let side = page.side;
     let answer = units::unscaled_capacity(
@@ -44,7 +44,7 @@ fn capacity_at(page: PageSide, permille: u16, titles: u64) -> u64
 // Whether a size, scaled and rounded, is at most the side.
 fn fits_side(page: PageSide, permille: u16, size: u64) -> bool
     requires { size ≤ 2 ^ 53 }
-    ensures { result ≡ fitsSide (spaceOf page) permille size }
+    ensures { result ≡ fits_side (space_of page) permille size }
 {
     let answer = units::scale_fixed(length_of(size), permille);
     match answer {
@@ -57,7 +57,7 @@ fn fits_side(page: PageSide, permille: u16, size: u64) -> bool
 fn printed(page: PageSide, title: Title, first: u32, size: u64) -> u64
     requires low { Low page }
     requires size_bound { size ≤ 2 ^ 50 }
-    ensures value { result ≡ section.printed (spaceOf page) title false first size }
+    ensures value { result ≡ section.printed (space_of page) title false first size }
     ensures upper_bound { result ≤ 2 ^ 53 }
 {
     let Title::Pair(_, last) = title else {
@@ -73,7 +73,7 @@ fn printed(page: PageSide, title: Title, first: u32, size: u64) -> u64
 pub(crate) fn run_fits(page: PageSide, title: Title, permille: u16, first: u32, size: u64) -> bool
     requires low { Low page }
     requires size_bound { size ≤ 2 ^ 50 }
-    ensures { result ≡ fitsSide (spaceOf page) permille (section.printed (spaceOf page) title false first size) }
+    ensures { result ≡ fits_side (space_of page) permille (section.printed (space_of page) title false first size) }
 {
     let whole = printed(page, title, first, size);
     fits_side(page, permille, whole)
@@ -82,7 +82,7 @@ pub(crate) fn run_fits(page: PageSide, title: Title, permille: u16, first: u32, 
 // Whether the run of an axis without slots is: titles plus headings.
 pub(crate) fn empty_fits(page: PageSide, permille: u16) -> bool
     requires { Low page }
-    ensures { result ≡ fitsSide (spaceOf page) permille (page.titles + page.headings) }
+    ensures { result ≡ fits_side (space_of page) permille (page.titles + page.headings) }
 {
     fits_side(page, permille, page.titles + page.headings)
 }
@@ -98,7 +98,7 @@ pub(crate) fn excess(fits: bool) -> u64
 // What the runs of an axis go by at a permille.
 pub(crate) fn frame_at(fit: Fit, permille: u16) -> Frame
     requires { Low fit.page }
-    ensures { result ≡ readyFrame fit permille }
+    ensures { result ≡ ready_frame fit permille }
 {
     let page = fit.page;
     let stretch = fit.stretch;
@@ -132,7 +132,7 @@ fn runs_pass(
     requires low { Low page }
     requires slots { Slots indexes.now sizes.now }
     ensures { let rs = runs frame mfirsts.now mlasts.now indexes.now sizes.now in
-        result ≡ allFit (spaceOf page) (titled frame.title) permille rs && meets target (length rs) }
+        result ≡ all_fit (space_of page) (titled frame.title) permille rs && meets target (length rs) }
 {
     let title = frame.title;
     let mut is = indexes;
@@ -164,7 +164,7 @@ fn fit_passes(
     sizes: &[u64],
 ) -> bool
     requires { Fitted fit indexes.now sizes.now }
-    ensures { result ≡ fitPasses fit mfirsts.now mlasts.now indexes.now sizes.now permille }
+    ensures { result ≡ fit_passes fit mfirsts.now mlasts.now indexes.now sizes.now permille }
 {
     let page = fit.page;
     if sizes.len() == 0 {
@@ -192,8 +192,8 @@ fn both_pass(
 ) -> bool
     requires fitted_rows { Fitted rows rindexes.now rsizes.now }
     requires fitted_columns { Fitted columns cindexes.now csizes.now }
-    ensures { result ≡ fitPasses rows rfirsts.now rlasts.now rindexes.now rsizes.now permille &&
-        fitPasses columns cfirsts.now clasts.now cindexes.now csizes.now permille }
+    ensures { result ≡ fit_passes rows rfirsts.now rlasts.now rindexes.now rsizes.now permille &&
+        fit_passes columns cfirsts.now clasts.now cindexes.now csizes.now permille }
 {
     if !fit_passes(rows, permille, rfirsts, rlasts, rindexes, rsizes) {
         return false;
@@ -217,8 +217,8 @@ fn halved_permille(
     requires fitted_rows { Fitted rows rindexes.now rsizes.now }
     requires fitted_columns { Fitted columns cindexes.now csizes.now }
     ensures { result ≡ halve
-        (λ p. fitPasses rows rfirsts.now rlasts.now rindexes.now rsizes.now p &&
-        fitPasses columns cfirsts.now clasts.now cindexes.now csizes.now p)
+        (λ p. fit_passes rows rfirsts.now rlasts.now rindexes.now rsizes.now p &&
+        fit_passes columns cfirsts.now clasts.now cindexes.now csizes.now p)
         10 100 1000 }
 {
     let mut low: u16 = 100;
@@ -252,9 +252,9 @@ pub(crate) fn fit_scale(
 ) -> ChosenScale
     requires fitted_rows { Fitted rows rindexes.now rsizes.now }
     requires fitted_columns { Fitted columns cindexes.now csizes.now }
-    ensures { scaleOf result ≡ fitScale
-        (λ p. fitPasses rows rfirsts.now rlasts.now rindexes.now rsizes.now p &&
-        fitPasses columns cfirsts.now clasts.now cindexes.now csizes.now p) }
+    ensures { scale_of result ≡ fit_scale
+        (λ p. fit_passes rows rfirsts.now rlasts.now rindexes.now rsizes.now p &&
+        fit_passes columns cfirsts.now clasts.now cindexes.now csizes.now p) }
 {
     if !both_pass(
         rows, columns, 100, rfirsts, rlasts, rindexes, rsizes, cfirsts, clasts, cindexes, csizes,

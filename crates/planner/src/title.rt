@@ -1,8 +1,8 @@
 // What a title takes of a page: document 01, section "Titles".
 ghost use Rattle.std.specs.Prelude.{◌≡◌, true};
 ghost use Rattle.planner_rules.specs.Slots.{Slots};
-ghost use Rattle.planner_rules.specs.Questions.{allWithin};
-ghost use Rattle.planner_rules.specs.Titles.{titleTotal};
+ghost use Rattle.planner_rules.specs.Questions.{all_within};
+ghost use Rattle.planner_rules.specs.Titles.{title_total};
 ghost use Rattle.planner_rules.specs.Steps.{TitleReady};
 
 use crate::filling::total;
@@ -14,7 +14,7 @@ use planner_titles::widened_title;
 // The sum of the measured slots in the title.
 pub(crate) fn title_total(title: Title, indexes: &[u32], sizes: &[u64]) -> u64
     requires { Slots indexes.now sizes.now }
-    ensures { result ≡ titleTotal title indexes.now sizes.now }
+    ensures { result ≡ title_total title indexes.now sizes.now }
 {
     let Title::Pair(first, last) = title else {
         return 0;
@@ -37,7 +37,7 @@ pub(crate) fn ready_title(
     merge_lasts: &[u32],
 ) -> ReadyTitle
     requires slots { Slots indexes.now sizes.now }
-    requires merge_lasts_value { allWithin limit merge_lasts.now ≡ true }
+    requires merge_lasts_value { all_within limit merge_lasts.now ≡ true }
     ensures asked_value { result.asked ≡ title }
     ensures title_ready { TitleReady result limit indexes.now sizes.now merge_firsts.now merge_lasts.now }
 {

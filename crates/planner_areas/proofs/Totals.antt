@@ -6,36 +6,36 @@ use Prim.Native.Nat.{ℕ, zero, suc, ◌+◌, ◌-◌, ◌*◌, ◌≤◌, ◌<�
 use native.Mathlib.Omega.{arith}
 use lib.ListN.{length}
 use Rattle.planner_rules.specs.declared.planning.PrintRange.{PrintRange}
-use Rattle.planner_rules.specs.Union.{inSome, total}
+use Rattle.planner_rules.specs.Union.{in_some, total}
 use Rattle.planner_areas.specs.declared.union.Stretch.{Stretch}
-use Rattle.planner_areas.specs.Edges.{Clear, StretchOf, rowCells}
-use Rattle.planner_areas.proofs.Edges.{none-held, rows-alike}
+use Rattle.planner_areas.specs.Edges.{Clear, StretchOf, row_cells}
+use Rattle.planner_areas.proofs.Edges.{none_held, rows_alike}
 
-pub total-none : (f : ℕ → ℕ) → total 0 f ≡ 0
+pub total_none : (f : ℕ → ℕ) → total 0 f ≡ 0
 unfolding total
-total-none f = refl
+total_none f = refl
 
 -- so many more, all of the same value
-total-more : (from n : ℕ) (f : ℕ → ℕ) (v : ℕ) → ((x : ℕ) → from ≤ x → x < from + n → f x ≡ v) → total (from + n) f ≡ total from f + n * v
+total_more : (from n : ℕ) (f : ℕ → ℕ) (v : ℕ) → ((x : ℕ) → from ≤ x → x < from + n → f x ≡ v) → total (from + n) f ≡ total from f + n * v
 unfolding total
-total-more from zero f v e = let a : from + 0 ≡ from = omega arith in rw a (omega arith)
-total-more from (suc n) f v e =
+total_more from zero f v e = let a : from + 0 ≡ from = omega arith in rw a (omega arith)
+total_more from (suc n) f v e =
     let a : from + suc n ≡ suc (from + n) = omega arith in
-    rw a (omega (arith, total-more from n f v (λ x l h. e x l (omega arith)), e (from + n) (omega arith) (omega arith)))
+    rw a (omega (arith, total_more from n f v (λ x l h. e x l (omega arith)), e (from + n) (omega arith) (omega arith)))
 
-pub total-to : (from to : ℕ) (f : ℕ → ℕ) (v : ℕ) → from ≤ to → ((x : ℕ) → from ≤ x → x < to → f x ≡ v) → total to f ≡ total from f + (to - from) * v
-total-to from to f v h e =
+pub total_to : (from to : ℕ) (f : ℕ → ℕ) (v : ℕ) → from ≤ to → ((x : ℕ) → from ≤ x → x < to → f x ≡ v) → total to f ≡ total from f + (to - from) * v
+total_to from to f v h e =
     let a : to ≡ from + (to - from) = omega arith in
-    ap (λ (t : ℕ). total t f) a ∙ total-more from (to - from) f v (λ x l g. e x l (omega arith))
+    ap (λ (t : ℕ). total t f) a ∙ total_more from (to - from) f v (λ x l g. e x l (omega arith))
 
-pub total-same : (n : ℕ) (f g : ℕ → ℕ) → ((x : ℕ) → f x ≡ g x) → total n f ≡ total n g
+pub total_same : (n : ℕ) (f g : ℕ → ℕ) → ((x : ℕ) → f x ≡ g x) → total n f ≡ total n g
 unfolding total
-total-same zero f g e = refl
-total-same (suc n) f g e = omega (arith, total-same n f g e, e n)
+total_same zero f g e = refl
+total_same (suc n) f g e = omega (arith, total_same n f g e, e n)
 
 -- 1 where the cell lies in some area
 abbrev pub cell : List PrintRange → ℕ → ℕ → ℕ
-cell gs row column = cond (inSome gs row column) 1 0
+cell gs row column = cond (in_some gs row column) 1 0
 
 -- the cells of a row before a column
 abbrev pub before : List PrintRange → ℕ → ℕ → ℕ
@@ -46,28 +46,28 @@ abbrev pub above : List PrintRange → ℕ → ℕ
 above gs row = total row (λ (r : ℕ). total 16384 (λ (c : ℕ). cell gs r c))
 
 module _ (gs : List PrintRange) where
-  pub before-none : (row : ℕ) → before gs row 0 ≡ 0
-  before-none row = total-none (λ (c : ℕ). cell gs row c)
+  pub before_none : (row : ℕ) → before gs row 0 ≡ 0
+  before_none row = total_none (λ (c : ℕ). cell gs row c)
 
-  pub above-none : above gs 0 ≡ 0
-  above-none = total-none (λ (r : ℕ). before gs r 16384)
+  pub above_none : above gs 0 ≡ 0
+  above_none = total_none (λ (r : ℕ). before gs r 16384)
 
   -- a stretch adds the cells that it reaches
-  pub stretch-adds : (row column : ℕ) (s : Stretch) → StretchOf (length gs) gs row column s
+  pub stretch_adds : (row column : ℕ) (s : Stretch) → StretchOf (length gs) gs row column s
       → before gs row (max s.reach s.start) ≡ before gs row column + (s.reach - column)
-  stretch-adds row column s o =
+  stretch_adds row column s o =
       let reached =
-      total-to column s.reach (λ (c : ℕ). cell gs row c) 1 o.from (λ x l h. ap (λ (b : Bool). cond b 1 0) (o.held x l h)) in
+      total_to column s.reach (λ (c : ℕ). cell gs row c) 1 o.from (λ x l h. ap (λ (b : Bool). cond b 1 0) (o.held x l h)) in
       let left =
-      total-to s.reach (max s.reach s.start) (λ (c : ℕ). cell gs row c) 0 (omega arith)
-      (λ x l h. ap (λ (b : Bool). cond b 1 0) (none-held gs row x (λ k b. o.free k b x l (omega arith)))) in
+      total_to s.reach (max s.reach s.start) (λ (c : ℕ). cell gs row c) 0 (omega arith)
+      (λ x l h. ap (λ (b : Bool). cond b 1 0) (none_held gs row x (λ k b. o.free k b x l (omega arith)))) in
       omega (arith, reached, left)
 
-  pub band : (from to cells : ℕ) → Clear gs from to → cells ≡ rowCells gs from → above gs to ≡ above gs from + (to - from) * cells
-  unfolding rowCells
+  pub band : (from to cells : ℕ) → Clear gs from to → cells ≡ row_cells gs from → above gs to ≡ above gs from + (to - from) * cells
+  unfolding row_cells
   band from to cells clear e =
       rw e
-      (total-to from to (λ (r : ℕ). before gs r 16384) (before gs from 16384) (omega (arith, clear.past))
+      (total_to from to (λ (r : ℕ). before gs r 16384) (before gs from 16384) (omega (arith, clear.past))
       (λ x l h.
-      total-same 16384 (λ (c : ℕ). cell gs x c) (λ (c : ℕ). cell gs from c)
-      (λ c. ap (λ (b : Bool). cond b 1 0) (rows-alike gs from to x c l h clear))))
+      total_same 16384 (λ (c : ℕ). cell gs x c) (λ (c : ℕ). cell gs from c)
+      (λ c. ap (λ (b : Bool). cond b 1 0) (rows_alike gs from to x c l h clear))))

@@ -15,7 +15,7 @@ pub fn at_most_eight(count: usize) -> usize
 // The eight ranges, from the first.
 #[inline(always)]
 pub fn eight_ranges(areas: Areas) -> [PrintRange; 8]
-    ensures { result ≡ held.eightRanges areas }
+    ensures { result ≡ held.eight_ranges areas }
 {
     [
         areas.first,
@@ -32,7 +32,7 @@ pub fn eight_ranges(areas: Areas) -> [PrintRange; 8]
 // The range of the area with a number; past the eighth there is none.
 #[inline(always)]
 pub fn area_at(areas: Areas, at: usize) -> PrintRange
-    ensures { result ≡ get_or (held.eightRanges areas) at held.noRange }
+    ensures { result ≡ get_or (held.eight_ranges areas) at held.no_range }
 {
     match at {
         0 => areas.first,
@@ -55,7 +55,7 @@ pub fn area_at(areas: Areas, at: usize) -> PrintRange
 // What the area with a number came to; past the eighth there is none.
 #[inline(always)]
 pub fn plan_at(plans: AreaPlans, at: usize) -> AreaPlan
-    ensures { result ≡ get_or (held.eightPlans plans) at held.noPlan }
+    ensures { result ≡ get_or (held.eight_plans plans) at held.no_plan }
 {
     match at {
         0 => plans.first,
@@ -80,7 +80,7 @@ pub fn plan_at(plans: AreaPlans, at: usize) -> AreaPlan
 // The areas with another one in a place; past the eighth there is none.
 #[inline(always)]
 pub fn with_plan(plans: AreaPlans, at: usize, area: AreaPlan) -> AreaPlans
-    ensures { (held.eightPlans result ≡ set (held.eightPlans plans) at area) × (result.count ≡ plans.count) }
+    ensures { (held.eight_plans result ≡ set (held.eight_plans plans) at area) × (result.count ≡ plans.count) }
 {
     let mut changed = plans;
     match at {

@@ -1,7 +1,7 @@
 // How many cells lie in at least one area. From one row where an area starts or has ended to the next, each row has as many. Those of a row
 // are counted by stretches: cells that areas hold, and behind them cells that none does. One look at the areas finds a stretch.
 ghost use Rattle.std.specs.Prelude.{◌≡◌, ◌+◌, ◌≤◌, ◌<◌};
-ghost use Rattle.planner_rules.specs.Areas.{areasIn};
+ghost use Rattle.planner_rules.specs.Areas.{areas_in};
 ghost use Rattle.planner_rules.specs.Union as definition;
 ghost use Rattle.planner_areas.specs.Edges as edges;
 
@@ -88,7 +88,7 @@ fn stretch_from(ranges: &[PrintRange], row: u64, column: u64) -> Stretch
 
 // How many cells of a row lie in at least one area.
 fn row_cells(ranges: &[PrintRange], row: u64) -> u64
-    ensures { (result ≡ edges.rowCells ranges.now row) × (result ≤ 16384) }
+    ensures { (result ≡ edges.row_cells ranges.now row) × (result ≤ 16384) }
 {
     let mut cells = 0;
     let mut column = 0;
@@ -102,7 +102,7 @@ fn row_cells(ranges: &[PrintRange], row: u64) -> u64
 
 // The cells of the grid that lie in at least one of some areas, each counted once.
 fn cells_of(ranges: &[PrintRange]) -> u64
-    ensures { result ≡ definition.unionCells ranges.now }
+    ensures { result ≡ definition.union_cells ranges.now }
 {
     let mut cells = 0;
     let mut row = 0;
@@ -116,7 +116,7 @@ fn cells_of(ranges: &[PrintRange]) -> u64
 
 // The same of the areas of a job.
 pub fn union_cells(areas: Areas) -> u64
-    ensures { result ≡ definition.unionCells (areasIn areas) }
+    ensures { result ≡ definition.union_cells (areas_in areas) }
 {
     let eight = eight_ranges(areas);
     cells_of(&eight[..at_most_eight(areas.count)])
@@ -125,7 +125,7 @@ pub fn union_cells(areas: Areas) -> u64
 // 15: no more cells than the limit lie in at least one area. Without a limit none is counted.
 #[inline(always)]
 pub fn cells_hold(limit: CellLimit, areas: Areas) -> bool
-    ensures { result ≡ definition.cellsHold limit (areasIn areas) }
+    ensures { result ≡ definition.cells_hold limit (areas_in areas) }
 {
     match limit {
         CellLimit::Absent => true,

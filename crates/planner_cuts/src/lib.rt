@@ -6,9 +6,9 @@ mod merges;
 
 ghost use Rattle.std.specs.Prelude.{◌≡◌, ◌≤◌, min, length};
 ghost use Rattle.planner_rules.specs.Slots.{below, through};
-ghost use Rattle.planner_rules.specs.Titles.{titleHolds};
-ghost use Rattle.planner_rules.specs.Plan.{cutFrom};
-ghost use Rattle.planner_rules.specs.Runs.{capacityAt, mergeStep};
+ghost use Rattle.planner_rules.specs.Titles.{title_holds};
+ghost use Rattle.planner_rules.specs.Plan.{cut_from};
+ghost use Rattle.planner_rules.specs.Runs.{capacity_at, merge_step};
 
 pub use merges::holding_merge;
 use planner_compare::wide;
@@ -45,9 +45,9 @@ fn slots_through(indexes: &[u32], last: u32) -> usize
 }
 
 // The capacity of a run whose first slot has this index.
-#[tactic(auto, unfolding(planner_rules::specs::Runs::capacityAt, planner_rules::specs::Titles::pastTitle))]
+#[tactic(auto, unfolding(planner_rules::specs::Runs::capacity_at, planner_rules::specs::Titles::past_title))]
 pub fn capacity_for(k: Frame, index: u32) -> u64
-    ensures { result ≡ capacityAt k index }
+    ensures { result ≡ capacity_at k index }
 {
     let title = k.title;
     let Title::Pair(_, last) = title else {
@@ -60,9 +60,9 @@ pub fn capacity_for(k: Frame, index: u32) -> u64
 }
 
 // The merge step, where a run has n slots and `held` holds the boundary after them.
-#[tactic(auto, unfolding(planner_rules::specs::Runs::mergeStep))]
+#[tactic(auto, unfolding(planner_rules::specs::Runs::merge_step))]
 pub fn merge_step(indexes: &[u32], n: usize, held: Held) -> RunEnd
-    ensures { result ≡ mergeStep held n indexes.now }
+    ensures { result ≡ merge_step held n indexes.now }
 {
     let Held::By(first, last) = held else {
         return RunEnd { slots: n, grown: 0 };
@@ -85,9 +85,9 @@ pub fn merge_step(indexes: &[u32], n: usize, held: Held) -> RunEnd
 }
 
 // Whether the title holds b.
-#[tactic(auto, unfolding(planner_rules::specs::Titles::titleHolds))]
+#[tactic(auto, unfolding(planner_rules::specs::Titles::title_holds))]
 pub fn title_holds(title: Title, b: u32) -> bool
-    ensures { result ≡ titleHolds title b }
+    ensures { result ≡ title_holds title b }
 {
     let Title::Pair(first, last) = title else {
         return false;
@@ -109,7 +109,7 @@ pub fn mark_of(cut: usize) -> u64
 
 // The final cut of an axis, of what was counted and so many overflowing runs: an axis without runs gets one.
 pub fn final_cut(tally: Tally, overflows: u64) -> FinalCut
-    ensures { result ≡ cutFrom tally overflows }
+    ensures { result ≡ cut_from tally overflows }
 {
     let empty = tally.runs == 0;
     FinalCut {

@@ -1,7 +1,7 @@
 // The merge that is used at a boundary: document 01, section "Runs".
 ghost use Rattle.std.specs.Prelude.{◌≡◌, ◌-◌};
-ghost use Rattle.planner_rules.specs.Titles.{holds, noMerge};
-ghost use Rattle.planner_rules.specs.Runs.{earlier, nearer, holding, holdingOnto};
+ghost use Rattle.planner_rules.specs.Titles.{holds, no_merge};
+ghost use Rattle.planner_rules.specs.Runs.{earlier, nearer, holding, holding_onto};
 
 use planner_compare::{greater, lesser, shorter};
 use planner_rules::Held;
@@ -41,7 +41,7 @@ fn nearer_of(first: u32, last: u32, b: u32, held: Held) -> Held
 
 // Whether no merge holds b: all are asked, so that there is no branch on what one of them answers.
 fn none_holds(firsts: &[u32], lasts: &[u32], b: u32) -> bool
-    ensures { result ≡ noMerge (λ f l. holds f l b) firsts.now lasts.now }
+    ensures { result ≡ no_merge (λ f l. holds f l b) firsts.now lasts.now }
 {
     let mut i = shorter(firsts.len(), lasts.len());
     let mut none = true;
@@ -54,7 +54,7 @@ fn none_holds(firsts: &[u32], lasts: &[u32], b: u32) -> bool
 
 // The earliest of some merges that hold b, clipped to the stretch, and of what was found before.
 fn earliest_of(firsts: &[u32], lasts: &[u32], lo: u32, hi: u32, b: u32, found: Held) -> Held
-    ensures { result ≡ holdingOnto lo hi b firsts.now lasts.now found }
+    ensures { result ≡ holding_onto lo hi b firsts.now lasts.now found }
 {
     let mut i = shorter(firsts.len(), lasts.len());
     let mut held = found;

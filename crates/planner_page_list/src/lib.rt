@@ -25,8 +25,8 @@ fn both(pages: [Page; 4], answer: Listing) -> Four
 pub fn list_four(mut list: [Page; 4], plan: Plan, row_runs: &[u64], column_runs: &[u64]) -> Four
     ensures { let rows = row_runs.now in
         let columns = column_runs.now in
-        let outcome = section.listPages plan rows columns 4 in
-        (section.listOutcome result.answer ≡ outcome) × (result.pages ≡ section.pagesLent outcome (section.pagesOf plan rows columns) list) }
+        let outcome = section.list_pages plan rows columns 4 in
+        (section.list_outcome result.answer ≡ outcome) × (result.pages ≡ section.pages_lent outcome (section.pages_of plan rows columns) list) }
 {
     let answer = planner_pages::list_pages(&mut list, plan, row_runs, column_runs);
     both(list, answer)

@@ -4,8 +4,8 @@
 mod areas;
 
 ghost use Rattle.std.specs.Prelude.{◌≡◌, ◌+◌, ◌≤◌, ◌<◌, length};
-ghost use Rattle.planner_rules.specs.Areas.{plansIn, overAreas};
-ghost use Rattle.planner_rules.specs.Lent.{roomIn};
+ghost use Rattle.planner_rules.specs.Areas.{plans_in, over_areas};
+ghost use Rattle.planner_rules.specs.Lent.{room_in};
 ghost use Rattle.planner_rules.specs.Pages as section;
 
 use crate::areas::{has_more, runs_before, runs_fit, walk};
@@ -21,7 +21,7 @@ use planner_rules::{
 fn place_of(order: PageOrder, row_runs: usize, column_runs: usize, before: usize) -> Place
     requires row_runs_nonzero { 0 < row_runs }
     requires column_runs_nonzero { 0 < column_runs }
-    ensures { result ≡ section.placeOf order row_runs column_runs before }
+    ensures { result ≡ section.place_of order row_runs column_runs before }
 {
     match order {
         PageOrder::DownThenOver => Place {
@@ -37,8 +37,8 @@ fn place_of(order: PageOrder, row_runs: usize, column_runs: usize, before: usize
 
 // The run with a number, from 0.
 fn run_at(list: &[u64], empty_body: bool, number: usize) -> PageRun
-    requires { number < roomIn list.now }
-    ensures { result ≡ section.runAt list.now empty_body number }
+    requires { number < room_in list.now }
+    ensures { result ≡ section.run_at list.now empty_body number }
 {
     let at = RUN_NUMBERS * number;
     PageRun {
@@ -59,11 +59,11 @@ fn page_at(
     row_runs: &[u64],
     column_runs: &[u64],
 ) -> Page
-    requires row_runs_bound { runs.rows + area.row_runs ≤ roomIn row_runs.now }
-    requires column_runs_bound { runs.columns + area.column_runs ≤ roomIn column_runs.now }
-    requires before_bound { before < section.pagesIn area }
-    ensures { result ≡ section.areaPageAfter order area (section.afterRuns runs.rows row_runs.now)
-        (section.afterRuns runs.columns column_runs.now) before }
+    requires row_runs_bound { runs.rows + area.row_runs ≤ room_in row_runs.now }
+    requires column_runs_bound { runs.columns + area.column_runs ≤ room_in column_runs.now }
+    requires before_bound { before < section.pages_in area }
+    ensures { result ≡ section.area_page_after order area (section.after_runs runs.rows row_runs.now)
+        (section.after_runs runs.columns column_runs.now) before }
 {
     let place = place_of(order, area.row_runs, area.column_runs, before);
     let vertical = place.vertical;
@@ -82,10 +82,10 @@ fn page_at(
 
 // The page at a spot, over the lists of runs that were lent to the plan.
 fn spot_page(plan: Plan, spot: Spot, row_runs: &[u64], column_runs: &[u64]) -> Page
-    requires rows_fit { section.rowRuns (plansIn plan.areas) ≤ roomIn row_runs.now }
-    requires columns_fit { section.columnRuns (plansIn plan.areas) ≤ roomIn column_runs.now }
-    requires stands { section.Stands (plansIn plan.areas) spot }
-    ensures { result ≡ section.spotPage plan.order (plansIn plan.areas) row_runs.now column_runs.now spot }
+    requires rows_fit { section.row_runs (plans_in plan.areas) ≤ room_in row_runs.now }
+    requires columns_fit { section.column_runs (plans_in plan.areas) ≤ room_in column_runs.now }
+    requires stands { section.Stands (plans_in plan.areas) spot }
+    ensures { result ≡ section.spot_page plan.order (plans_in plan.areas) row_runs.now column_runs.now spot }
 {
     let areas = plan.areas;
     let area = plan_at(areas, spot.area);
@@ -96,7 +96,7 @@ fn spot_page(plan: Plan, spot: Spot, row_runs: &[u64], column_runs: &[u64]) -> P
 
 // Where the page with a number stands.
 pub fn page_spot(plan: Plan, number: u64) -> Found
-    ensures { result ≡ section.spotOf plan number }
+    ensures { result ≡ section.spot_of plan number }
 {
     if number == 0 {
         return Found::Nothing;
@@ -122,7 +122,7 @@ pub fn area_page(
     row_runs: &[u64],
     column_runs: &[u64],
 ) -> PageAnswer
-    ensures { section.pageOutcome result ≡ section.areaNumbered order area row_runs.now column_runs.now number }
+    ensures { section.page_outcome result ≡ section.area_numbered order area row_runs.now column_runs.now number }
 {
     if area.row_runs > room_in(row_runs.len()) {
         return PageAnswer::Refused(11);
@@ -146,7 +146,7 @@ pub fn area_page(
 
 // The page of a plan with a number from 1 to its count, over the lists of runs that were lent to the plan.
 pub fn page_numbered(plan: Plan, number: u64, row_runs: &[u64], column_runs: &[u64]) -> PageAnswer
-    ensures { section.pageOutcome result ≡ section.pageNumbered plan row_runs.now column_runs.now number }
+    ensures { section.page_outcome result ≡ section.page_numbered plan row_runs.now column_runs.now number }
 {
     let areas = plan.areas;
     if !runs_fit(areas, room_in(row_runs.len()), room_in(column_runs.len())) {
@@ -161,10 +161,10 @@ pub fn page_numbered(plan: Plan, number: u64, row_runs: &[u64], column_runs: &[u
 
 // The page of a plan that has so many pages before it.
 fn page_after(before: usize, plan: Plan, row_runs: &[u64], column_runs: &[u64]) -> Page
-    requires rows_fit { section.rowRuns (plansIn plan.areas) ≤ roomIn row_runs.now }
-    requires columns_fit { section.columnRuns (plansIn plan.areas) ≤ roomIn column_runs.now }
-    requires before_bound { before < overAreas section.pagesIn (plansIn plan.areas) }
-    ensures { result ≡ section.pageAfter plan row_runs.now column_runs.now before }
+    requires rows_fit { section.row_runs (plans_in plan.areas) ≤ room_in row_runs.now }
+    requires columns_fit { section.column_runs (plans_in plan.areas) ≤ room_in column_runs.now }
+    requires before_bound { before < over_areas section.pages_in (plans_in plan.areas) }
+    ensures { result ≡ section.page_after plan row_runs.now column_runs.now before }
 {
     let areas = plan.areas;
     let spot = walk(areas, before);
@@ -173,7 +173,7 @@ fn page_after(before: usize, plan: Plan, row_runs: &[u64], column_runs: &[u64]) 
 
 // How many pages a plan has: a walk that takes off as many as it says tells whether its areas have so many.
 fn page_count(plan: Plan) -> u64
-    ensures { result ≡ section.pageCount plan }
+    ensures { result ≡ section.page_count plan }
 {
     let areas = plan.areas;
     let spot = walk(areas, plan.pages as usize);
@@ -185,7 +185,7 @@ fn page_count(plan: Plan) -> u64
 
 // What `list_pages` answers where so many pages have room.
 fn listing(room: usize, plan: Plan, row_runs: &[u64], column_runs: &[u64]) -> Listing
-    ensures { section.listOutcome result ≡ section.listPages plan row_runs.now column_runs.now room }
+    ensures { section.list_outcome result ≡ section.list_pages plan row_runs.now column_runs.now room }
 {
     let areas = plan.areas;
     if !runs_fit(areas, room_in(row_runs.len()), room_in(column_runs.len())) {
@@ -200,7 +200,7 @@ fn listing(room: usize, plan: Plan, row_runs: &[u64], column_runs: &[u64]) -> Li
 
 // How many pages are written.
 fn count_in(answer: Listing) -> usize
-    ensures { result ≡ section.countIn (section.listOutcome answer) }
+    ensures { result ≡ section.count_in (section.list_outcome answer) }
 {
     match answer {
         Listing::Value(n) => n as usize,
@@ -214,8 +214,8 @@ pub fn list_pages(pages: &mut [Page], plan: Plan, row_runs: &[u64], column_runs:
     ensures { let rows = row_runs.now in
         let columns = column_runs.now in
         let old = pages.old in
-        let outcome = section.listPages plan rows columns (length old) in
-        (section.listOutcome result ≡ outcome) × (pages.new ≡ section.pagesLent outcome (section.pagesOf plan rows columns) old) }
+        let outcome = section.list_pages plan rows columns (length old) in
+        (section.list_outcome result ≡ outcome) × (pages.new ≡ section.pages_lent outcome (section.pages_of plan rows columns) old) }
 {
     let answer = listing(pages.len(), plan, row_runs, column_runs);
     let count = count_in(answer);

@@ -2,8 +2,8 @@
 #![tactic(auto)]
 
 ghost use Rattle.std.specs.Prelude.{◌≡◌, ℕ, ◌/◌, ◌&&◌, List};
-ghost use Rattle.planner_rules.specs.Questions.{noOr, equallyLong, allOrdered, allWithin, rising, risingWithin, allSmall};
-ghost use Rattle.planner_rules.specs.Areas.{areasIn, everyArea, upright, insideGrid};
+ghost use Rattle.planner_rules.specs.Questions.{no_or, equally_long, all_ordered, all_within, rising, rising_within, all_small};
+ghost use Rattle.planner_rules.specs.Areas.{areas_in, every_area, upright, inside_grid};
 ghost use Rattle.planner_rules.specs.Plan as call;
 ghost use Rattle.planner_rules.specs.Partition as partition;
 
@@ -21,7 +21,7 @@ pub fn room_in(numbers: usize) -> usize
 
 // 6: no first is above its last.
 pub fn pairs_ordered(firsts: &[u32], lasts: &[u32]) -> bool
-    ensures { result ≡ allOrdered firsts.now lasts.now }
+    ensures { result ≡ all_ordered firsts.now lasts.now }
 {
     let end = shorter(firsts.len(), lasts.len());
     let mut n = 0;
@@ -36,7 +36,7 @@ pub fn pairs_ordered(firsts: &[u32], lasts: &[u32]) -> bool
 
 // 7: no index is past the limit.
 pub fn all_within(indexes: &[u32], limit: u32) -> bool
-    ensures { result ≡ allWithin limit indexes.now }
+    ensures { result ≡ all_within limit indexes.now }
 {
     let mut n = 0;
     while n < indexes.len() {
@@ -63,7 +63,7 @@ fn strictly_rising(indexes: &[u32]) -> bool
 
 // 8: each index is below the next, and the last is not past the limit.
 pub fn rising_within(indexes: &[u32], limit: u32) -> bool
-    ensures { result ≡ risingWithin limit indexes.now }
+    ensures { result ≡ rising_within limit indexes.now }
 {
     if !strictly_rising(indexes) {
         return false;
@@ -77,7 +77,7 @@ pub fn rising_within(indexes: &[u32], limit: u32) -> bool
 
 // 9: no size is above the largest, which has all its bits set: so none is, if all bits of all sizes together make no greater number.
 pub fn all_small(sizes: &[u64]) -> bool
-    ensures { result ≡ allSmall sizes.now }
+    ensures { result ≡ all_small sizes.now }
 {
     let mut i = sizes.len();
     let mut bits = 0;
@@ -104,14 +104,14 @@ fn is_upright(range: PrintRange) -> bool
 
 // 7 of an area: its last cell is in the grid.
 fn is_inside(range: PrintRange) -> bool
-    ensures { result ≡ insideGrid range }
+    ensures { result ≡ inside_grid range }
 {
     (range.last_row <= MAX_WORKSHEET_ROW) & (range.last_column <= MAX_WORKSHEET_COLUMN as u32)
 }
 
 fn ask_areas(areas: Areas) -> AreasAsked
-    ensures upright_value { result.upright ≡ everyArea upright (areasIn areas) }
-    ensures inside_value { result.inside ≡ everyArea insideGrid (areasIn areas) }
+    ensures upright_value { result.upright ≡ every_area upright (areas_in areas) }
+    ensures inside_value { result.inside ≡ every_area inside_grid (areas_in areas) }
 {
     let count = at_most_eight(areas.count);
     let mut upright = true;
@@ -128,8 +128,8 @@ fn ask_areas(areas: Areas) -> AreasAsked
 
 // 6 of the lists of an axis: equally long, and no first is above its last.
 fn formed(indexes: &[u32], sizes: &[u64], merge_firsts: &[u32], merge_lasts: &[u32]) -> bool
-    ensures { result ≡ (equallyLong indexes.now sizes.now && equallyLong merge_firsts.now merge_lasts.now
-        && allOrdered merge_firsts.now merge_lasts.now) }
+    ensures { result ≡ (equally_long indexes.now sizes.now && equally_long merge_firsts.now merge_lasts.now
+        && all_ordered merge_firsts.now merge_lasts.now) }
 {
     (indexes.len() == sizes.len())
         & (merge_firsts.len() == merge_lasts.len())
@@ -138,7 +138,7 @@ fn formed(indexes: &[u32], sizes: &[u64], merge_firsts: &[u32], merge_lasts: &[u
 
 // The number of a question whose answer is no, or the number that comes after it.
 fn no_or(question: u8, yes: bool, after: u8) -> u8
-    ensures { result ≡ noOr question yes after }
+    ensures { result ≡ no_or question yes after }
 {
     if yes { after } else { question }
 }
@@ -152,7 +152,7 @@ pub fn partition_refusal(
     merge_firsts: &[u32],
     merge_lasts: &[u32],
 ) -> u8
-    ensures { result ≡ partition.firstNo limit setup indexes.now sizes.now merge_firsts.now
+    ensures { result ≡ partition.first_no limit setup indexes.now sizes.now merge_firsts.now
         merge_lasts.now }
 {
     let six = (indexes.len() == sizes.len())
@@ -179,8 +179,8 @@ pub fn plan_refusal(
     merge_last_columns: &[u32],
 ) -> u8
     ensures { (rt ct : Title) (rb cb : List ℕ) →
-        result ≡ call.firstNo
-        (call.sheetOf settings rt ct row_indexes.now row_sizes.now column_indexes.now
+        result ≡ call.first_no
+        (call.sheet_of settings rt ct row_indexes.now row_sizes.now column_indexes.now
         column_sizes.now merge_first_rows.now merge_first_columns.now
         merge_last_rows.now merge_last_columns.now rb cb) areas }
 {
@@ -219,7 +219,7 @@ pub fn room_refusal(
     column_room: usize,
     limit: u64,
 ) -> u8
-    ensures { result ≡ call.roomNo rows columns pages row_room column_room limit }
+    ensures { result ≡ call.room_no rows columns pages row_room column_room limit }
 {
     let eleven = (rows <= row_room) & (columns <= column_room);
     no_or(11, eleven, no_or(12, pages <= limit, 0))

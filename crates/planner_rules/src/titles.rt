@@ -1,6 +1,6 @@
 // Titles: document 01, section "Titles".
 ghost use Rattle.std.specs.Prelude.{◌≡◌};
-ghost use Rattle.planner_rules.specs.Titles.{limitOf};
+ghost use Rattle.planner_rules.specs.Titles.{limit_of};
 
 use units::{MAX_WORKSHEET_COLUMN, MAX_WORKSHEET_ROW};
 
@@ -12,9 +12,9 @@ pub enum Axis {
 
 impl Axis {
     // The last index of the grid.
-    #[tactic(auto, unfolding(crate::specs::Titles::limitOf))]
+    #[tactic(auto, unfolding(crate::specs::Titles::limit_of))]
     pub fn limit(self) -> u32
-        ensures { result ≡ limitOf self }
+        ensures { result ≡ limit_of self }
     {
         match self {
             Axis::Rows => MAX_WORKSHEET_ROW,

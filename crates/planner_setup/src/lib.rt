@@ -2,7 +2,7 @@
 #![tactic(auto)]
 
 ghost use Rattle.std.specs.Prelude.{◌≡◌, cond};
-ghost use Rattle.planner_rules.specs.Scale.{orElse, fixedScale, meets, middle, scaleOf};
+ghost use Rattle.planner_rules.specs.Scale.{or_else, fixed_scale, meets, middle, scale_of};
 ghost use Rattle.planner_rules.specs.Plan as call;
 
 use geometry::{Content, Setting};
@@ -17,7 +17,7 @@ const DEFAULT_TARGET: u16 = 1;
 
 // A setting, or what its absence means.
 fn or_else(setting: Setting, absent: u16) -> u16
-    ensures { result ≡ orElse setting absent }
+    ensures { result ≡ or_else setting absent }
 {
     match setting {
         Setting::Absent => absent,
@@ -27,7 +27,7 @@ fn or_else(setting: Setting, absent: u16) -> u16
 
 // The scale of a percent, clamped.
 pub fn fixed_scale(percent: Setting) -> ChosenScale
-    ensures { scaleOf result ≡ fixedScale percent }
+    ensures { scale_of result ≡ fixed_scale percent }
 {
     let asked = or_else(percent, DEFAULT_PERCENT);
     if asked < 10 {
@@ -97,7 +97,7 @@ pub fn looked_at(fit: bool, breaks: usize) -> usize
 
 // The content's width and height, with what was noted of paper and margins.
 pub fn content_sides(settings: Settings) -> SidesFound
-    ensures { call.sidesOutcome result ≡ call.contentSides settings }
+    ensures { call.sides_outcome result ≡ call.content_sides settings }
 {
     let code = settings.paper;
     let margins = settings.margins;

@@ -2,8 +2,8 @@
 #![tactic(auto)]
 
 ghost use Rattle.std.specs.Prelude.{◌≡◌};
-ghost use Rattle.planner_rules.specs.Titles.{bodyStart, limitOf, normalized, noMerge, widens, widenTo, pass, sameSpan, expand, widened, widenTitle};
-ghost use Rattle.planner_rules.specs.Titles.{wideningOutcome};
+ghost use Rattle.planner_rules.specs.Titles.{body_start, limit_of, normalized, no_merge, widens, widen_to, pass, same_span, expand, widened, widen_title};
+ghost use Rattle.planner_rules.specs.Titles.{widening_outcome};
 
 use planner_compare::{greater, lesser, shorter, wide};
 use planner_questions::{all_within, pairs_ordered};
@@ -38,9 +38,9 @@ fn normalize_repeat(title: Title, limit: u32) -> Normalized
 }
 
 // The span, widened to a merge that meets it.
-#[tactic(auto, unfolding(planner_rules::specs::Titles::widenTo))]
+#[tactic(auto, unfolding(planner_rules::specs::Titles::widen_to))]
 fn widen_to(span: Span, first: u32, last: u32) -> Span
-    ensures { result ≡ widenTo span first last }
+    ensures { result ≡ widen_to span first last }
 {
     if first <= span.last {
         if last >= span.first {
@@ -53,9 +53,9 @@ fn widen_to(span: Span, first: u32, last: u32) -> Span
     span
 }
 
-#[tactic(auto, unfolding(planner_rules::specs::Titles::sameSpan))]
+#[tactic(auto, unfolding(planner_rules::specs::Titles::same_span))]
 fn same_span(a: Span, b: Span) -> bool
-    ensures { result ≡ sameSpan a b }
+    ensures { result ≡ same_span a b }
 {
     if a.first == b.first {
         if a.last == b.last {
@@ -67,7 +67,7 @@ fn same_span(a: Span, b: Span) -> bool
 
 // Whether no merge of these widens the span: all are asked, so that there is no branch on what one of them answers.
 fn none_widens(span: Span, firsts: &[u32], lasts: &[u32]) -> bool
-    ensures { result ≡ noMerge (widens span) firsts.now lasts.now }
+    ensures { result ≡ no_merge (widens span) firsts.now lasts.now }
 {
     let first = span.first;
     let last = span.last;
@@ -124,7 +124,7 @@ fn expand_repeat_for_merges(first: u32, last: u32, firsts: &[u32], lasts: &[u32]
 }
 
 // The title that the pages repeat: ignored where it does not hold, then widened.
-#[tactic(auto, unfolding(planner_rules::specs::Titles::widened, planner_rules::specs::Titles::widenedFrom))]
+#[tactic(auto, unfolding(planner_rules::specs::Titles::widened, planner_rules::specs::Titles::widened_from))]
 pub fn widened_title(limit: u32, title: Title, firsts: &[u32], lasts: &[u32]) -> Widened
     ensures { result ≡ widened limit title firsts.now lasts.now }
 {
@@ -149,9 +149,9 @@ pub fn widened_title(limit: u32, title: Title, firsts: &[u32], lasts: &[u32]) ->
 }
 
 // The title of an axis, normalized and widened by its merges.
-#[tactic(auto, unfolding(planner_rules::specs::Titles::widenTitle))]
+#[tactic(auto, unfolding(planner_rules::specs::Titles::widen_title))]
 pub fn widen_title(axis: Axis, title: Title, firsts: &[u32], lasts: &[u32]) -> Widening
-    ensures { wideningOutcome result ≡ widenTitle (limitOf axis) title firsts.now lasts.now }
+    ensures { widening_outcome result ≡ widen_title (limit_of axis) title firsts.now lasts.now }
 {
     if firsts.len() != lasts.len() {
         return Widening::Refused(6);
@@ -167,9 +167,9 @@ pub fn widen_title(axis: Axis, title: Title, firsts: &[u32], lasts: &[u32]) -> W
 }
 
 // Where the body of a range starts, which may be past the largest index.
-#[tactic(auto, unfolding(planner_rules::specs::Titles::bodyStart))]
+#[tactic(auto, unfolding(planner_rules::specs::Titles::body_start))]
 pub fn body_start(title: Title, first: u32) -> u64
-    ensures { result ≡ bodyStart title first }
+    ensures { result ≡ body_start title first }
 {
     let Title::Pair(from, to) = title else {
         return wide(first);

@@ -2,9 +2,9 @@
 use Rattle.std.proofs.Common.{◌≡◌, pos, refl}
 use lib.Ieee.{of_bits, of_int, binary64}
 
-pub ninety-six : of_bits binary64 4636455816377925632 ≡ of_int binary64 (pos 96)
+pub ninety_six : of_bits binary64 4636455816377925632 ≡ of_int binary64 (pos 96)
 unfolding of_bits of_int
-ninety-six = refl
+ninety_six = refl
 
 pub thousand : of_bits binary64 4652218415073722368 ≡ of_int binary64 (pos 1024)
 unfolding of_bits of_int

@@ -4,7 +4,7 @@
 mod grid;
 
 ghost use Rattle.std.specs.Prelude.{◌≡◌, ◌+◌, ◌*◌, ◌/◌, ◌^◌, ◌<◌, min, pos, ◌-ℤ◌, neg_ℤ, unsigned_abs};
-ghost use Rattle.units.specs.Units.{lengthOutcome, inI64, signedRatio, lessOf, atLeastOne, scaleFixed, unscaledCapacity, inchesToFixed};
+ghost use Rattle.units.specs.Units.{length_outcome, in_i64, signed_ratio, less_of, at_least_one, scale_fixed, unscaled_capacity, inches_to_fixed};
 
 pub use grid::{LARGEST_SIZE, MAX_WORKSHEET_COLUMN, MAX_WORKSHEET_ROW};
 
@@ -66,7 +66,7 @@ fn magnitude(z: i64) -> u64
 
 // n where it is an i64
 fn positive(n: u64) -> Length
-    ensures { lengthOutcome result ≡ inI64 (pos n) }
+    ensures { length_outcome result ≡ in_i64 (pos n) }
 {
     if n < 0x8000_0000_0000_0000 {
         Length::Value(Fixed(n as i64))
@@ -77,7 +77,7 @@ fn positive(n: u64) -> Length
 
 // -n where it is an i64
 fn negative(n: u64) -> Length
-    ensures { lengthOutcome result ≡ inI64 (neg_ℤ (pos n)) }
+    ensures { length_outcome result ≡ in_i64 (neg_ℤ (pos n)) }
 {
     if n == 0 {
         return Length::Value(Fixed::ZERO);
@@ -127,7 +127,7 @@ fn ratio(m: u64, k: u16, h: u16, d: u16) -> u64
 // (|z| × k + h) / d with the sign of z, where it is an i64
 fn signed_ratio(z: i64, k: u16, h: u16, d: u16) -> Length
     requires { 0 < d }
-    ensures { lengthOutcome result ≡ inI64 (signedRatio z k h d) }
+    ensures { length_outcome result ≡ in_i64 (signed_ratio z k h d) }
 {
     let n = ratio(magnitude(z), k, h, d);
     if z >= 0 { positive(n) } else { negative(n) }
@@ -135,14 +135,14 @@ fn signed_ratio(z: i64, k: u16, h: u16, d: u16) -> Length
 
 // Size × permille / 1,000, halves away from zero.
 pub fn scale_fixed(size: Fixed, permille: u16) -> Length
-    ensures { lengthOutcome result ≡ scaleFixed size.0 permille }
+    ensures { length_outcome result ≡ scale_fixed size.0 permille }
 {
     signed_ratio(size.0, permille, 500, 1000)
 }
 
 // a - b where it is an i64
 fn minus(a: i64, b: i64) -> Length
-    ensures { lengthOutcome result ≡ inI64 (a -ℤ b) }
+    ensures { length_outcome result ≡ in_i64 (a -ℤ b) }
 {
     let m = magnitude(a);
     let n = magnitude(b);
@@ -171,7 +171,7 @@ fn minus(a: i64, b: i64) -> Length
 
 // a - b where both are there and the difference is an i64
 pub fn less(a: Length, b: Length) -> Length
-    ensures { lengthOutcome result ≡ lessOf (lengthOutcome a) (lengthOutcome b) }
+    ensures { length_outcome result ≡ less_of (length_outcome a) (length_outcome b) }
 {
     let Length::Value(x) = a else {
         return Length::CoordinateOverflow;
@@ -184,7 +184,7 @@ pub fn less(a: Length, b: Length) -> Length
 
 // The length, never under 1, and 1 where it overflowed.
 fn at_least_one(l: Length) -> Fixed
-    ensures { result.0 ≡ atLeastOne (lengthOutcome l) }
+    ensures { result.0 ≡ at_least_one (length_outcome l) }
 {
     let Length::Value(a) = l else {
         return Fixed(1);
@@ -195,7 +195,7 @@ fn at_least_one(l: Length) -> Fixed
 
 // Side × 1,000 / permille, less titles, less headings, and never under 1.
 pub fn unscaled_capacity(side: Fixed, permille: u16, titles: Fixed, headings: Fixed) -> Length
-    ensures { lengthOutcome result ≡ unscaledCapacity side.0 permille titles.0 headings.0 }
+    ensures { length_outcome result ≡ unscaled_capacity side.0 permille titles.0 headings.0 }
 {
     if permille == 0 {
         return Length::CoordinateOverflow;
@@ -210,7 +210,7 @@ pub fn unscaled_capacity(side: Fixed, permille: u16, titles: Fixed, headings: Fi
 
 // Inches × 96 × 1,024, to the nearest unit.
 pub fn inches_to_fixed(inches: f64) -> Length
-    ensures { lengthOutcome result ≡ inchesToFixed inches }
+    ensures { length_outcome result ≡ inches_to_fixed inches }
 {
     let raw = inches * 96.0 * 1024.0;
     if raw > -0.5 {

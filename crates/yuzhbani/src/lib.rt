@@ -5,17 +5,17 @@
 
 ghost use Rattle.std.specs.Prelude.{◌≡◌};
 ghost use Rattle.planner_rules.specs.Questions.{ask};
-ghost use Rattle.planner_rules.specs.Pages.{pageNumbered};
-ghost use Rattle.planner_rules.specs.Plan.{planned, planOutcome, writingOutcome};
+ghost use Rattle.planner_rules.specs.Pages.{page_numbered};
+ghost use Rattle.planner_rules.specs.Plan.{planned, plan_outcome, writing_outcome};
 ghost use Rattle.planner_rules.specs.Demand.{CoversPairs, FewestPlan, LargestPlan};
 ghost use Rattle.planner_rules.specs.declared.planning.RunCounts.{RunCounts};
 ghost use Rattle.job.specs.PlanJob as job;
-ghost use Rattle.job_report.specs.Lines.{headLines, areaLine, LinesPut};
+ghost use Rattle.job_report.specs.Lines.{head_lines, area_line, LinesPut};
 ghost use Rattle.job_report.specs.declared.blocks.Block.{Block};
-ghost use Rattle.job_report.specs.Blocks.{blockPages, blockOutcome};
+ghost use Rattle.job_report.specs.Blocks.{block_pages, block_outcome};
 ghost use Rattle.yuzhbani_answers.specs.Numbers as section;
-ghost use Rattle.yuzhbani_answers.specs.Answers.{answerTo, PageHanded};
-ghost use Rattle.yuzhbani_request.specs.Request.{sheetRequested, areasFrom, areasCounted, flagsHold};
+ghost use Rattle.yuzhbani_answers.specs.Answers.{answer_to, PageHanded};
+ghost use Rattle.yuzhbani_request.specs.Request.{sheet_requested, areas_from, areas_counted, flags_hold};
 ghost use Rattle.yuzhbani.specs.Calls as calls;
 
 use job::{count_job, plan_job, write_job_area};
@@ -37,16 +37,16 @@ pub extern "C" fn yuzhbani_plan(
 ) -> u8
     ensures planned { let rows₀ = row_runs.old in
         let columns₀ = column_runs.old in
-        calls.PlanHanded (job.planJob bytes.now rows₀ columns₀)
+        calls.PlanHanded (job.plan_job bytes.now rows₀ columns₀)
         result numbers.old numbers.new rows₀ columns₀ row_runs.new column_runs.new }
     ensures covered { let asked = bytes.now in
-        CoversPairs (section.told result numbers.new) (job.jobSheet asked) (job.jobAreas asked)
+        CoversPairs (section.told result numbers.new) (job.job_sheet asked) (job.job_areas asked)
         row_runs.new column_runs.new }
     ensures fewest { let asked = bytes.now in
-        FewestPlan (section.told result numbers.new) (job.jobSheet asked) (job.jobAreas asked)
+        FewestPlan (section.told result numbers.new) (job.job_sheet asked) (job.job_areas asked)
         row_runs.new column_runs.new }
     ensures largest { let asked = bytes.now in
-        LargestPlan (section.told result numbers.new) (job.jobSheet asked) (job.jobAreas asked) }
+        LargestPlan (section.told result numbers.new) (job.job_sheet asked) (job.job_areas asked) }
 {
     let planning = plan_job(bytes, row_runs, column_runs);
     put_planning(planning, numbers)
@@ -56,7 +56,7 @@ pub extern "C" fn yuzhbani_plan(
 // refusal, and nothing is written.
 #[unsafe(no_mangle)]
 pub extern "C" fn yuzhbani_count(bytes: &[u8], numbers: &mut [u64; 60]) -> u8
-    ensures { calls.CountHanded (job.countJob bytes.now) result numbers.old numbers.new }
+    ensures { calls.CountHanded (job.count_job bytes.now) result numbers.old numbers.new }
 {
     let planning = count_job(bytes);
     put_planning(planning, numbers)
@@ -64,9 +64,9 @@ pub extern "C" fn yuzhbani_count(bytes: &[u8], numbers: &mut [u64; 60]) -> u8
 
 // Puts how many runs were written, or nothing, and answers 0, or the number of the refusal.
 fn put_counts(writing: Writing, counts: &mut [u64; 2]) -> u8
-    ensures value { result ≡ answerTo (writingOutcome writing) }
+    ensures value { result ≡ answer_to (writing_outcome writing) }
     ensures counts_after { counts.new
-        ≡ calls.pairIn (λ (n : RunCounts). n.rows) (λ (n : RunCounts). n.columns) (writingOutcome writing) counts.old }
+        ≡ calls.pair_in (λ (n : RunCounts). n.rows) (λ (n : RunCounts). n.columns) (writing_outcome writing) counts.old }
 {
     match writing {
         Writing::Value(wrote) => {
@@ -90,7 +90,7 @@ pub extern "C" fn yuzhbani_write_area(
 ) -> u8
     ensures { let rows₀ = row_runs.old in
         let columns₀ = column_runs.old in
-        calls.AreaHanded (job.writeJobArea bytes.now number permille rows₀ columns₀)
+        calls.AreaHanded (job.write_job_area bytes.now number permille rows₀ columns₀)
         result counts.old counts.new rows₀ columns₀ row_runs.new column_runs.new }
 {
     let writing = write_job_area(bytes, number, permille, row_runs, column_runs);
@@ -117,28 +117,28 @@ pub extern "C" fn yuzhbani_plan_lists(
     column_runs: &mut [u64],
 ) -> u8
     ensures planned { let asked = request.now in
-        let sheet = sheetRequested asked row_indexes.now row_sizes.now column_indexes.now
+        let sheet = sheet_requested asked row_indexes.now row_sizes.now column_indexes.now
         column_sizes.now merge_first_rows.now merge_first_columns.now merge_last_rows.now
         merge_last_columns.now row_breaks.now column_breaks.now in
         let rows₀ = row_runs.old in
         let columns₀ = column_runs.old in
-        calls.PlanHanded (ask 4 (areasCounted asked) (ask 5 (flagsHold asked) (planned sheet (areasFrom asked) rows₀ columns₀)))
+        calls.PlanHanded (ask 4 (areas_counted asked) (ask 5 (flags_hold asked) (planned sheet (areas_from asked) rows₀ columns₀)))
         result numbers.old numbers.new rows₀ columns₀ row_runs.new column_runs.new }
     ensures covered { let asked = request.now in
-        let sheet = sheetRequested asked row_indexes.now row_sizes.now column_indexes.now
+        let sheet = sheet_requested asked row_indexes.now row_sizes.now column_indexes.now
         column_sizes.now merge_first_rows.now merge_first_columns.now merge_last_rows.now
         merge_last_columns.now row_breaks.now column_breaks.now in
-        CoversPairs (section.told result numbers.new) sheet (areasFrom asked) row_runs.new column_runs.new }
+        CoversPairs (section.told result numbers.new) sheet (areas_from asked) row_runs.new column_runs.new }
     ensures fewest { let asked = request.now in
-        let sheet = sheetRequested asked row_indexes.now row_sizes.now column_indexes.now
+        let sheet = sheet_requested asked row_indexes.now row_sizes.now column_indexes.now
         column_sizes.now merge_first_rows.now merge_first_columns.now merge_last_rows.now
         merge_last_columns.now row_breaks.now column_breaks.now in
-        FewestPlan (section.told result numbers.new) sheet (areasFrom asked) row_runs.new column_runs.new }
+        FewestPlan (section.told result numbers.new) sheet (areas_from asked) row_runs.new column_runs.new }
     ensures largest { let asked = request.now in
-        let sheet = sheetRequested asked row_indexes.now row_sizes.now column_indexes.now
+        let sheet = sheet_requested asked row_indexes.now row_sizes.now column_indexes.now
         column_sizes.now merge_first_rows.now merge_first_columns.now merge_last_rows.now
         merge_last_columns.now row_breaks.now column_breaks.now in
-        LargestPlan (section.told result numbers.new) sheet (areasFrom asked) }
+        LargestPlan (section.told result numbers.new) sheet (areas_from asked) }
 {
     if !areas_counted(request) {
         return 4;
@@ -183,7 +183,7 @@ pub extern "C" fn yuzhbani_page(
     page: &mut [u64; 12],
 ) -> u8
     ensures { PageHanded
-        (pageNumbered (section.planFrom numbers.now) row_runs.now column_runs.now number)
+        (page_numbered (section.plan_from numbers.now) row_runs.now column_runs.now number)
         result page.old page.new }
 {
     let plan = plan_from(numbers);
@@ -195,7 +195,7 @@ pub extern "C" fn yuzhbani_page(
 // of `out`; it answers how many bytes.
 #[unsafe(no_mangle)]
 pub extern "C" fn yuzhbani_head(answer: u8, numbers: &[u64; 60], out: &mut [u8; 256]) -> usize
-    ensures { LinesPut (headLines (planOutcome (section.told answer numbers.now)))
+    ensures { LinesPut (head_lines (plan_outcome (section.told answer numbers.now)))
         result out.old out.new }
 {
     let planning = told(answer, numbers);
@@ -205,15 +205,15 @@ pub extern "C" fn yuzhbani_head(answer: u8, numbers: &[u64; 60], out: &mut [u8; 
 // The line before the pages of a later area, by its number from 1 and its permille, at the start of `out`; it answers how many bytes.
 #[unsafe(no_mangle)]
 pub extern "C" fn yuzhbani_area_line(number: u64, permille: u16, out: &mut [u8; 256]) -> usize
-    ensures { LinesPut (areaLine number permille) result out.old out.new }
+    ensures { LinesPut (area_line number permille) result out.old out.new }
 {
     area_line(number, permille, out)
 }
 
 // Puts the two numbers of a block, or nothing, and answers 0, or the number of the refusal.
 fn put_block(answer: BlockAnswer, block: &mut [u64; 2]) -> u8
-    ensures value { result ≡ answerTo (blockOutcome answer) }
-    ensures block_after { block.new ≡ calls.pairIn (λ (b : Block). b.pages) (λ (b : Block). b.bytes) (blockOutcome answer) block.old }
+    ensures value { result ≡ answer_to (block_outcome answer) }
+    ensures block_after { block.new ≡ calls.pair_in (λ (b : Block). b.pages) (λ (b : Block). b.bytes) (block_outcome answer) block.old }
 {
     match answer {
         BlockAnswer::Value(held) => {
@@ -237,7 +237,7 @@ pub extern "C" fn yuzhbani_block(
     out: &mut [u8; 65536],
 ) -> u8
     ensures { calls.BlockHanded
-        (blockPages (section.planFrom numbers.now) row_runs.now column_runs.now from) from
+        (block_pages (section.plan_from numbers.now) row_runs.now column_runs.now from) from
         result block.old out.old block.new out.new }
 {
     let plan = plan_from(numbers);

@@ -2,15 +2,15 @@
 #![tactic(auto)]
 
 ghost use Rattle.std.specs.Prelude.{◌≡◌, ◌≤◌, min};
-ghost use Rattle.planner_rules.specs.Pages.{pageOutcome};
+ghost use Rattle.planner_rules.specs.Pages.{page_outcome};
 ghost use Rattle.yuzhbani_answers.specs.Numbers as section;
-ghost use Rattle.yuzhbani_answers.specs.Answers.{answerOf, numbersOf, HadBack, PageHanded};
+ghost use Rattle.yuzhbani_answers.specs.Answers.{answer_of, numbers_of, HadBack, PageHanded};
 
 use planner_areas::plan_at;
 use planner_rules::{AreaPlan, AreaPlans, Notes, PageAnswer, PageOrder, Plan, Planning};
 
 fn order_number(order: PageOrder) -> u64
-    ensures { result ≡ section.orderNumber order }
+    ensures { result ≡ section.order_number order }
 {
     match order {
         PageOrder::DownThenOver => 0,
@@ -19,7 +19,7 @@ fn order_number(order: PageOrder) -> u64
 }
 
 pub fn order_from(n: u64) -> PageOrder
-    ensures { result ≡ section.orderFrom n }
+    ensures { result ≡ section.order_from n }
 {
     if n > 0 {
         PageOrder::OverThenDown
@@ -35,9 +35,9 @@ pub fn u16_from(n: u64) -> u16
 }
 
 // The count of areas, the pages, the order and the notes, at the front.
-#[tactic(auto, unfolding(crate::specs::Numbers::headPut))]
+#[tactic(auto, unfolding(crate::specs::Numbers::head_put))]
 fn put_head(numbers: &mut [u64; 60], plan: Plan)
-    ensures { numbers.new ≡ section.headPut plan numbers.old }
+    ensures { numbers.new ≡ section.head_put plan numbers.old }
 {
     let order = plan.order;
     let notes = plan.notes;
@@ -58,7 +58,7 @@ fn put_head(numbers: &mut [u64; 60], plan: Plan)
 // The six numbers of an area, from a place on.
 fn put_area(numbers: &mut [u64; 60], at: usize, area: AreaPlan)
     requires { at ≤ 54 }
-    ensures numbers_after { numbers.new ≡ section.areaPut area at numbers.old }
+    ensures numbers_after { numbers.new ≡ section.area_put area at numbers.old }
     ensures area_back { section.AreaBack area }
 {
     numbers[at] = area.permille as u64;
@@ -70,7 +70,7 @@ fn put_area(numbers: &mut [u64; 60], at: usize, area: AreaPlan)
 }
 
 fn put_areas(numbers: &mut [u64; 60], areas: AreaPlans)
-    ensures numbers_after { numbers.new ≡ section.areasPut areas 8 numbers.old }
+    ensures numbers_after { numbers.new ≡ section.areas_put areas 8 numbers.old }
     ensures all_back { section.AllBack areas 8 }
 {
     let mut k = 0;
@@ -81,8 +81,8 @@ fn put_areas(numbers: &mut [u64; 60], areas: AreaPlans)
 }
 
 fn put_plan(numbers: &mut [u64; 60], plan: Plan)
-    ensures numbers_after { numbers.new ≡ section.planNumbers plan }
-    ensures plan_value { section.planFrom (section.planNumbers plan) ≡ plan }
+    ensures numbers_after { numbers.new ≡ section.plan_numbers plan }
+    ensures plan_value { section.plan_from (section.plan_numbers plan) ≡ plan }
 {
     *numbers = [0; 60];
     put_head(numbers, plan);
@@ -92,8 +92,8 @@ fn put_plan(numbers: &mut [u64; 60], plan: Plan)
 // The answer of a plan call; the numbers of its plan are put, or nothing.
 #[inline(always)]
 pub fn put_planning(planning: Planning, numbers: &mut [u64; 60]) -> u8
-    ensures value { result ≡ answerOf planning }
-    ensures numbers_after { numbers.new ≡ numbersOf planning numbers.old }
+    ensures value { result ≡ answer_of planning }
+    ensures numbers_after { numbers.new ≡ numbers_of planning numbers.old }
     ensures had_back { HadBack planning }
 {
     match planning {
@@ -105,10 +105,10 @@ pub fn put_planning(planning: Planning, numbers: &mut [u64; 60]) -> u8
     }
 }
 
-#[tactic(auto, unfolding(crate::specs::Numbers::areaFrom))]
+#[tactic(auto, unfolding(crate::specs::Numbers::area_from))]
 fn area_from(numbers: &[u64; 60], at: usize) -> AreaPlan
     requires { at ≤ 54 }
-    ensures { result ≡ section.areaFrom numbers.now at }
+    ensures { result ≡ section.area_from numbers.now at }
 {
     AreaPlan {
         permille: u16_from(numbers[at]),
@@ -120,9 +120,9 @@ fn area_from(numbers: &[u64; 60], at: usize) -> AreaPlan
     }
 }
 
-#[tactic(auto, unfolding(crate::specs::Numbers::areasFrom))]
+#[tactic(auto, unfolding(crate::specs::Numbers::areas_from))]
 fn areas_from(numbers: &[u64; 60]) -> AreaPlans
-    ensures { result ≡ section.areasFrom numbers.now }
+    ensures { result ≡ section.areas_from numbers.now }
 {
     AreaPlans {
         count: numbers[0] as usize,
@@ -137,9 +137,9 @@ fn areas_from(numbers: &[u64; 60]) -> AreaPlans
     }
 }
 
-#[tactic(auto, unfolding(crate::specs::Numbers::planFrom))]
+#[tactic(auto, unfolding(crate::specs::Numbers::plan_from))]
 pub fn plan_from(numbers: &[u64; 60]) -> Plan
-    ensures { result ≡ section.planFrom numbers.now }
+    ensures { result ≡ section.plan_from numbers.now }
 {
     Plan {
         areas: areas_from(numbers),
@@ -171,7 +171,7 @@ pub fn told(answer: u8, numbers: &[u64; 60]) -> Planning
 
 // The answer of a page call; the numbers of its page are put, or nothing.
 pub fn put_page(answer: PageAnswer, numbers: &mut [u64; 12]) -> u8
-    ensures { PageHanded (pageOutcome answer) result numbers.old numbers.new }
+    ensures { PageHanded (page_outcome answer) result numbers.old numbers.new }
 {
     match answer {
         PageAnswer::Value(page) => {

@@ -22,7 +22,7 @@ pub struct Request {
 
 fn setting_from(request: &[u64; 61], at: usize) -> Setting
     requires { at ≤ 59 }
-    ensures { result ≡ section.settingFrom request.now at }
+    ensures { result ≡ section.setting_from request.now at }
 {
     if request[at] > 0 {
         Setting::Given(u16_from(request[at + 1]))
@@ -33,7 +33,7 @@ fn setting_from(request: &[u64; 61], at: usize) -> Setting
 
 fn title_from(request: &[u64; 61], at: usize) -> Title
     requires { at ≤ 58 }
-    ensures { result ≡ section.titleFrom request.now at }
+    ensures { result ≡ section.title_from request.now at }
 {
     if request[at] > 0 {
         Title::Pair(index_of(request[at + 1]), index_of(request[at + 2]))
@@ -42,9 +42,9 @@ fn title_from(request: &[u64; 61], at: usize) -> Title
     }
 }
 
-#[tactic(auto, unfolding(crate::specs::Request::marginsFrom))]
+#[tactic(auto, unfolding(crate::specs::Request::margins_from))]
 fn margins_from(request: &[u64; 61]) -> MarginSetting
-    ensures { result ≡ section.marginsFrom request.now }
+    ensures { result ≡ section.margins_from request.now }
 {
     if request[3] > 0 {
         margin_setting(MarginsRead::Given(MarginBits {
@@ -61,7 +61,7 @@ fn margins_from(request: &[u64; 61]) -> MarginSetting
 }
 
 fn cell_limit_from(request: &[u64; 61]) -> CellLimit
-    ensures { result ≡ section.cellLimitFrom request.now }
+    ensures { result ≡ section.cell_limit_from request.now }
 {
     if request[20] > 0 {
         CellLimit::Given(request[21])
@@ -70,9 +70,9 @@ fn cell_limit_from(request: &[u64; 61]) -> CellLimit
     }
 }
 
-#[tactic(auto, unfolding(crate::specs::Request::settingsFrom))]
+#[tactic(auto, unfolding(crate::specs::Request::settings_from))]
 fn settings_from(request: &[u64; 61]) -> Settings
-    ensures { result ≡ section.settingsFrom request.now }
+    ensures { result ≡ section.settings_from request.now }
 {
     Settings {
         paper: setting_from(request, 0),
@@ -89,10 +89,10 @@ fn settings_from(request: &[u64; 61]) -> Settings
     }
 }
 
-#[tactic(auto, unfolding(crate::specs::Request::rangeFrom))]
+#[tactic(auto, unfolding(crate::specs::Request::range_from))]
 fn range_from(request: &[u64; 61], at: usize) -> PrintRange
     requires { at ≤ 57 }
-    ensures { result ≡ section.rangeFrom request.now at }
+    ensures { result ≡ section.range_from request.now at }
 {
     PrintRange {
         first_row: index_of(request[at]),
@@ -102,9 +102,9 @@ fn range_from(request: &[u64; 61], at: usize) -> PrintRange
     }
 }
 
-#[tactic(auto, unfolding(crate::specs::Request::areasFrom))]
+#[tactic(auto, unfolding(crate::specs::Request::areas_from))]
 fn areas_from(request: &[u64; 61]) -> Areas
-    ensures { result ≡ section.areasFrom request.now }
+    ensures { result ≡ section.areas_from request.now }
 {
     Areas {
         count: request[22] as usize,
@@ -120,23 +120,23 @@ fn areas_from(request: &[u64; 61]) -> Areas
 }
 
 // 4: one to eight areas are asked for.
-#[tactic(auto, unfolding(crate::specs::Request::areasCounted))]
+#[tactic(auto, unfolding(crate::specs::Request::areas_counted))]
 pub fn areas_counted(request: &[u64; 61]) -> bool
-    ensures { result ≡ section.areasCounted request.now }
+    ensures { result ≡ section.areas_counted request.now }
 {
     (1 <= request[22]) & (request[22] <= 8)
 }
 
 // 5: a fit and an order are 0 or 1, in numbers as in bytes.
-#[tactic(auto, unfolding(crate::specs::Request::flagsHold))]
+#[tactic(auto, unfolding(crate::specs::Request::flags_hold))]
 pub fn flags_hold(request: &[u64; 61]) -> bool
-    ensures { result ≡ section.flagsHold request.now }
+    ensures { result ≡ section.flags_hold request.now }
 {
     (request[12] <= 1) & (request[17] <= 1)
 }
 
 pub fn request_from(request: &[u64; 61]) -> Request
-    ensures { result ≡ section.requestFrom request.now }
+    ensures { result ≡ section.request_from request.now }
 {
     Request {
         settings: settings_from(request),

@@ -1,21 +1,21 @@
 -- `check_job_lent`: the pass over the records tells the first no.
-use Rattle.job_questions.proofs.PassLaws.{job-stopped, job-state, job-no, job-yes}
+use Rattle.job_questions.proofs.PassLaws.{job_stopped, job_state, job_no, job_yes}
 use Rattle.job_questions.proofs.check_job_lent.Goals as goal
 
 pub first_no-number-requires : goal.first_no-number-requires
 first_no-number-requires c =
-    job-state c.args.equally_long c.args.bytes.now c.survey_job-found.result c.survey_job-found.ensures _ c.in-Whole.is
+    job_state c.args.equally_long c.args.bytes.now c.survey_job-found.result c.survey_job-found.ensures _ c.in-Whole.is
 
 pub returns-then-number-gt0 : goal.returns-then-number-gt0
 returns-then-number-gt0 c =
-    job-no c.args.equally_long c.args.bytes.now c.survey_job-found.result c.survey_job-found.ensures _ c.in-Whole.is _ c.first_no-number.ensures
+    job_no c.args.equally_long c.args.bytes.now c.survey_job-found.result c.survey_job-found.ensures _ c.in-Whole.is _ c.first_no-number.ensures
     c.if-number-gt0.true
 
 pub returns-in-Stopped : goal.returns-in-Stopped
 returns-in-Stopped c =
-    job-stopped c.args.equally_long c.args.bytes.now c.survey_job-found.result c.survey_job-found.ensures _ c.in-Stopped.is
+    job_stopped c.args.equally_long c.args.bytes.now c.survey_job-found.result c.survey_job-found.ensures _ c.in-Stopped.is
 
 pub returns-else-number-gt0 : goal.returns-else-number-gt0
 returns-else-number-gt0 c =
-    job-yes c.args.equally_long c.args.bytes.now c.survey_job-found.result c.survey_job-found.ensures _ c.in-Whole.is _ c.first_no-number.ensures
+    job_yes c.args.equally_long c.args.bytes.now c.survey_job-found.result c.survey_job-found.ensures _ c.in-Whole.is _ c.first_no-number.ensures
     c.if-number-gt0.false

@@ -2,69 +2,69 @@
 use mathlib.Core.Path.{sym, ◌∙◌}
 use borrow.Author.Tests.{not-true, not-false}
 use Rattle.job_questions.specs.Pass.{answer}
-use Rattle.job_questions.proofs.PassLaws.{no-here, yes-here, none-no, sorted-after, areas-after}
+use Rattle.job_questions.proofs.PassLaws.{no_here, yes_here, none_no, sorted_after, areas_after}
 use Rattle.planner_rules.proofs.QuestionLaws.{both}
 use Rattle.job_questions.proofs.first_no.Goals as goal
 
 pub returns-then-not-t-areas : goal.returns-then-not-t-areas
 unfolding answer
-returns-then-not-t-areas c = no-here _ _ _ c.if-not-t-areas.true
+returns-then-not-t-areas c = no_here _ _ _ c.if-not-t-areas.true
 
 pub returns-then-not-t : goal.returns-then-not-t
 unfolding answer
-returns-then-not-t c = yes-here _ _ _ _ c.if-not-t-areas.false (no-here _ _ _ (not-true _ c.if-not-t.true))
+returns-then-not-t c = yes_here _ _ _ _ c.if-not-t-areas.false (no_here _ _ _ (not-true _ c.if-not-t.true))
 
 pub returns-then-not-equally_long-t : goal.returns-then-not-equally_long-t
 unfolding answer
 returns-then-not-equally_long-t c =
-    yes-here _ _ _ _ c.if-not-t-areas.false (yes-here _ _ _ _ (not-false _ c.if-not-t.false) (no-here _ _ _ c.if-not-equally_long-t.true))
+    yes_here _ _ _ _ c.if-not-t-areas.false (yes_here _ _ _ _ (not-false _ c.if-not-t.false) (no_here _ _ _ c.if-not-equally_long-t.true))
 
 pub returns-then-not-t-2 : goal.returns-then-not-t-2
 unfolding answer
 returns-then-not-t-2 c =
-    yes-here _ _ _ _ c.if-not-t-areas.false
-    (yes-here _ _ _ _ (not-false _ c.if-not-t.false) (yes-here _ _ _ _ c.if-not-equally_long-t.false (no-here _ _ _ (not-true _ c.if-not-t-2.true))))
+    yes_here _ _ _ _ c.if-not-t-areas.false
+    (yes_here _ _ _ _ (not-false _ c.if-not-t.false) (yes_here _ _ _ _ c.if-not-equally_long-t.false (no_here _ _ _ (not-true _ c.if-not-t-2.true))))
 
 pub cells_ok-held-requires-clause-sorted : goal.cells_ok-held-requires-clause-sorted
 cells_ok-held-requires-clause-sorted c =
-    sorted-after c.args.t _ c.requires (both c.args.t.ordered _ c.if-not-t-areas.false).0
+    sorted_after c.args.t _ c.requires (both c.args.t.ordered _ c.if-not-t-areas.false).0
 
 pub cells_ok-held-requires-clause-count_value : goal.cells_ok-held-requires-clause-count_value
-cells_ok-held-requires-clause-count_value c = areas-after c.args.t _ c.requires
+cells_ok-held-requires-clause-count_value c = areas_after c.args.t _ c.requires
 
 pub returns-then-not-held : goal.returns-then-not-held
 unfolding answer
 returns-then-not-held c =
-    yes-here _ _ _ _ c.if-not-t-areas.false
-    (yes-here _ _ _ _ (not-false _ c.if-not-t.false)
-    (yes-here _ _ _ _ c.if-not-equally_long-t.false
-    (yes-here _ _ _ _ (not-false _ c.if-not-t-2.false) (no-here _ _ _ (sym c.cells_ok-held.ensures ∙ c.if-not-held.true)))))
+    yes_here _ _ _ _ c.if-not-t-areas.false
+    (yes_here _ _ _ _ (not-false _ c.if-not-t.false)
+    (yes_here _ _ _ _ c.if-not-equally_long-t.false
+    (yes_here _ _ _ _ (not-false _ c.if-not-t-2.false) (no_here _ _ _ (sym c.cells_ok-held.ensures ∙ c.if-not-held.true)))))
 
 pub returns-then-not-rising : goal.returns-then-not-rising
 unfolding answer
 returns-then-not-rising c =
-    yes-here _ _ _ _ c.if-not-t-areas.false
-    (yes-here _ _ _ _ (not-false _ c.if-not-t.false)
-    (yes-here _ _ _ _ c.if-not-equally_long-t.false
-    (yes-here _ _ _ _ (not-false _ c.if-not-t-2.false)
-    (yes-here _ _ _ _ (sym c.cells_ok-held.ensures ∙ search) (no-here _ _ _ c.if-not-rising.true)))))
+    yes_here _ _ _ _ c.if-not-t-areas.false
+    (yes_here _ _ _ _ (not-false _ c.if-not-t.false)
+    (yes_here _ _ _ _ c.if-not-equally_long-t.false
+    (yes_here _ _ _ _ (not-false _ c.if-not-t-2.false)
+    (yes_here _ _ _ _ (sym c.cells_ok-held.ensures ∙ search) (no_here _ _ _ c.if-not-rising.true)))))
 
 pub returns-then-not-t-3 : goal.returns-then-not-t-3
 unfolding answer
 returns-then-not-t-3 c =
-    yes-here _ _ _ _ c.if-not-t-areas.false
-    (yes-here _ _ _ _ (not-false _ c.if-not-t.false)
-    (yes-here _ _ _ _ c.if-not-equally_long-t.false
-    (yes-here _ _ _ _ (not-false _ c.if-not-t-2.false)
-    (yes-here _ _ _ _ (sym c.cells_ok-held.ensures ∙ c.if-not-held.false)
-    (yes-here _ _ _ _ c.if-not-rising.false (no-here _ _ _ (not-true _ c.if-not-t-3.true)))))))
+    yes_here _ _ _ _ c.if-not-t-areas.false
+    (yes_here _ _ _ _ (not-false _ c.if-not-t.false)
+    (yes_here _ _ _ _ c.if-not-equally_long-t.false
+    (yes_here _ _ _ _ (not-false _ c.if-not-t-2.false)
+    (yes_here _ _ _ _ (sym c.cells_ok-held.ensures ∙ c.if-not-held.false)
+    (yes_here _ _ _ _ c.if-not-rising.false (no_here _ _ _ (not-true _ c.if-not-t-3.true)))))))
 
 pub returns : goal.returns
 unfolding answer
 returns c =
-    yes-here _ _ _ _ c.if-not-t-areas.false
-    (yes-here _ _ _ _ (not-false _ c.if-not-t.false)
-    (yes-here _ _ _ _ c.if-not-equally_long-t.false
-    (yes-here _ _ _ _ (not-false _ c.if-not-t-2.false)
-    (yes-here _ _ _ _ (sym c.cells_ok-held.ensures ∙ c.if-not-held.false)
-    (yes-here _ _ _ _ c.if-not-rising.false (yes-here _ _ _ _ (not-false _ c.if-not-t-3.false) none-no))))))
+    yes_here _ _ _ _ c.if-not-t-areas.false
+    (yes_here _ _ _ _ (not-false _ c.if-not-t.false)
+    (yes_here _ _ _ _ c.if-not-equally_long-t.false
+    (yes_here _ _ _ _ (not-false _ c.if-not-t-2.false)
+    (yes_here _ _ _ _ (sym c.cells_ok-held.ensures ∙ c.if-not-held.false)
+    (yes_here _ _ _ _ c.if-not-rising.false (yes_here _ _ _ _ (not-false _ c.if-not-t-3.false) none_no))))))

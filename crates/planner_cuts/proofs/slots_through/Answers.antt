@@ -1,22 +1,22 @@
 -- The slot before the loop's place decides; none is left at the front.
 use Rattle.std.proofs.Common.{◌≡◌, ◌+◌, ◌-◌, arith}
 use Rattle.planner_rules.specs.Slots.{through}
-use Rattle.planner_rules.proofs.EndLaws.{through-none, through-found, through-passed, through-front}
+use Rattle.planner_rules.proofs.EndLaws.{through_none, through_found, through_passed, through_front}
 use Rattle.planner_cuts.proofs.slots_through.Goals as goal
 
 pub loop-i-init : goal.loop-i-init
-loop-i-init c = (omega arith, through-none c.args.last c.args.indexes.now)
+loop-i-init c = (omega arith, through_none c.args.last c.args.indexes.now)
 
 pub returns-then-indexes-i-clause-value : goal.returns-then-indexes-i-clause-value
 returns-then-indexes-i-clause-value c =
     let l = c.loop-i in
-    let e : through c.args.last c.args.indexes.now ≡ l.i - 1 + 1 = through-front c.args.last (l.i - 1) 0 c.args.indexes.now
-    (through-found c.args.last l.i c.args.indexes.now c.loop-i-test.true l.invariant.0 l.invariant.1 c.if-indexes-i.true) in
+    let e : through c.args.last c.args.indexes.now ≡ l.i - 1 + 1 = through_front c.args.last (l.i - 1) 0 c.args.indexes.now
+    (through_found c.args.last l.i c.args.indexes.now c.loop-i-test.true l.invariant.0 l.invariant.1 c.if-indexes-i.true) in
     omega arith
 
 pub loop-i-preserved : goal.loop-i-preserved
 loop-i-preserved c =
     let l = c.loop-i in (
       omega arith,
-      through-passed c.args.last l.i c.args.indexes.now c.loop-i-test.true l.invariant.0 l.invariant.1 c.if-indexes-i.false,
+      through_passed c.args.last l.i c.args.indexes.now c.loop-i-test.true l.invariant.0 l.invariant.1 c.if-indexes-i.false,
     )

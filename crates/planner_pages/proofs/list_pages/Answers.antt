@@ -1,56 +1,56 @@
 -- Each turn writes the next page of the plan at its place, and when all are written the list is what is asked for.
 use Rattle.std.proofs.Common.{◌≡◌, ap, ◌∙◌, length, arith}
-use Rattle.planner_rules.specs.Pages.{countIn, listPages, pagesOf}
-use Rattle.planner_rules.proofs.ListLaws.{count-room, page-asked, page-next, pages-lent, filled-more}
+use Rattle.planner_rules.specs.Pages.{count_in, list_pages, pages_of}
+use Rattle.planner_rules.proofs.ListLaws.{count_room, page_asked, page_next, pages_lent_lem, filled_more}
 use Rattle.planner_pages.proofs.list_pages.Goals as goal
 
 pub page_after-requires-clause-rows_fit : goal.page_after-requires-clause-rows_fit
 page_after-requires-clause-rows_fit c =
     let a = c.args in
-    let told = c.count_in-count.ensures ∙ ap countIn c.listing-answer.ensures in
-    (page-asked a.plan a.row_runs.now a.column_runs.now (length a.pages.now) c.loop-i.i (omega (arith, told))).0
+    let told = c.count_in-count.ensures ∙ ap count_in c.listing-answer.ensures in
+    (page_asked a.plan a.row_runs.now a.column_runs.now (length a.pages.now) c.loop-i.i (omega (arith, told))).0
 
 pub page_after-requires-clause-columns_fit : goal.page_after-requires-clause-columns_fit
 page_after-requires-clause-columns_fit c =
     let a = c.args in
-    let told = c.count_in-count.ensures ∙ ap countIn c.listing-answer.ensures in
-    (page-asked a.plan a.row_runs.now a.column_runs.now (length a.pages.now) c.loop-i.i (omega (arith, told))).1.0
+    let told = c.count_in-count.ensures ∙ ap count_in c.listing-answer.ensures in
+    (page_asked a.plan a.row_runs.now a.column_runs.now (length a.pages.now) c.loop-i.i (omega (arith, told))).1.0
 
 pub page_after-requires-clause-before_bound : goal.page_after-requires-clause-before_bound
 page_after-requires-clause-before_bound c =
     let a = c.args in
-    let told = c.count_in-count.ensures ∙ ap countIn c.listing-answer.ensures in
-    (page-asked a.plan a.row_runs.now a.column_runs.now (length a.pages.now) c.loop-i.i (omega (arith, told))).1.1
+    let told = c.count_in-count.ensures ∙ ap count_in c.listing-answer.ensures in
+    (page_asked a.plan a.row_runs.now a.column_runs.now (length a.pages.now) c.loop-i.i (omega (arith, told))).1.1
 
 pub offset_bounds-pages-i : goal.offset_bounds-pages-i
 offset_bounds-pages-i c =
     let a = c.args in
-    let told = c.count_in-count.ensures ∙ ap countIn c.listing-answer.ensures in
-    omega (arith, told, count-room a.plan a.row_runs.now a.column_runs.now (length a.pages.now))
+    let told = c.count_in-count.ensures ∙ ap count_in c.listing-answer.ensures in
+    omega (arith, told, count_room a.plan a.row_runs.now a.column_runs.now (length a.pages.now))
 
 pub bounds-pages-i : goal.bounds-pages-i
 bounds-pages-i c =
     let a = c.args in
-    let told = c.count_in-count.ensures ∙ ap countIn c.listing-answer.ensures in
-    omega (arith, told, count-room a.plan a.row_runs.now a.column_runs.now (length a.pages.now))
+    let told = c.count_in-count.ensures ∙ ap count_in c.listing-answer.ensures in
+    omega (arith, told, count_room a.plan a.row_runs.now a.column_runs.now (length a.pages.now))
 
 pub loop-i-preserved : goal.loop-i-preserved
 loop-i-preserved c =
     let a = c.args in
     let i = c.loop-i.i in
     let ys = a.pages.now in
-    let told = c.count_in-count.ensures ∙ ap countIn c.listing-answer.ensures in
-    let room = count-room a.plan a.row_runs.now a.column_runs.now (length ys) in
-    let next = page-next a.plan a.row_runs.now a.column_runs.now (length ys) i (omega (arith, told)) in
+    let told = c.count_in-count.ensures ∙ ap count_in c.listing-answer.ensures in
+    let room = count_room a.plan a.row_runs.now a.column_runs.now (length ys) in
+    let next = page_next a.plan a.row_runs.now a.column_runs.now (length ys) i (omega (arith, told)) in
     record {
       within = omega arith;
       filled = rw (c.loop-i.invariant.filled, c.page_after.ensures)
-          (filled-more i (pagesOf a.plan a.row_runs.now a.column_runs.now) ys _ next (omega (arith, told, room)));
+          (filled_more i (pages_of a.plan a.row_runs.now a.column_runs.now) ys _ next (omega (arith, told, room)));
     }
 
 pub returns : goal.returns
 returns c =
     let a = c.args in
-    let told = c.count_in-count.ensures ∙ ap countIn c.listing-answer.ensures in
-    let e : c.loop-i.i ≡ countIn (listPages a.plan a.row_runs.now a.column_runs.now (length a.pages.now)) = omega (arith, told) in
-    (c.listing-answer.ensures, rw e at c.loop-i.invariant.filled ∙ pages-lent a.plan a.row_runs.now a.column_runs.now a.pages.now)
+    let told = c.count_in-count.ensures ∙ ap count_in c.listing-answer.ensures in
+    let e : c.loop-i.i ≡ count_in (list_pages a.plan a.row_runs.now a.column_runs.now (length a.pages.now)) = omega (arith, told) in
+    (c.listing-answer.ensures, rw e at c.loop-i.invariant.filled ∙ pages_lent_lem a.plan a.row_runs.now a.column_runs.now a.pages.now)

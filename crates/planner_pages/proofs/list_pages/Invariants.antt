@@ -6,7 +6,7 @@ use Rattle.planner_pages.proofs.list_pages.Given as goal
 abbrev pub invariant-loop-i : goal.invariant-loop-i
 invariant-loop-i l = record {
   within : l.i ≤ l.count;
-  filled : l.pages ≡ take l.i (section.pagesOf l.plan l.row_runs l.column_runs) ++ drop l.i l.initial.pages;
+  filled : l.pages ≡ take l.i (section.pages_of l.plan l.row_runs l.column_runs) ++ drop l.i l.initial.pages;
 }
 
 abbrev pub decreases-loop-i : goal.decreases-loop-i

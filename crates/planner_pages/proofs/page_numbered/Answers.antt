@@ -1,46 +1,46 @@
 -- Its first no refuses, and else the spot has the page or there is none.
 use Rattle.std.proofs.Common.{◌≡◌, sym, ap, ◌∙◌}
 use Rattle.units.specs.Outcome.{given}
-use Rattle.planner_rules.specs.Pages.{holdsRuns}
-use Rattle.planner_rules.proofs.PagesCode.{rooms-of, page-few, page-missing, page-stands, page-found}
+use Rattle.planner_rules.specs.Pages.{holds_runs}
+use Rattle.planner_rules.proofs.PagesCode.{rooms_of, page_few, page_missing, page_stands, page_found}
 use Rattle.planner_pages.proofs.page_numbered.Goals as goal
 
 pub returns-then-not-runs_fit : goal.returns-then-not-runs_fit
 returns-then-not-runs_fit c =
     let a = c.args in
-    let asked : c.runs_fit.result ≡ holdsRuns a.plan a.row_runs.now a.column_runs.now = rw (c.room_in.ensures, c.room_in-2.ensures) at c.runs_fit.ensures in
-    page-few a.plan a.row_runs.now a.column_runs.now a.number (sym asked ∙ c.if-not-runs_fit.true)
+    let asked : c.runs_fit.result ≡ holds_runs a.plan a.row_runs.now a.column_runs.now = rw (c.room_in.ensures, c.room_in-2.ensures) at c.runs_fit.ensures in
+    page_few a.plan a.row_runs.now a.column_runs.now a.number (sym asked ∙ c.if-not-runs_fit.true)
 
 pub spot_page-requires-clause-rows_fit : goal.spot_page-requires-clause-rows_fit
 spot_page-requires-clause-rows_fit c =
     let a = c.args in
-    let asked : c.runs_fit.result ≡ holdsRuns a.plan a.row_runs.now a.column_runs.now = rw (c.room_in.ensures, c.room_in-2.ensures) at c.runs_fit.ensures in
-    (rooms-of a.plan a.row_runs.now a.column_runs.now (sym asked ∙ c.if-not-runs_fit.false)).0
+    let asked : c.runs_fit.result ≡ holds_runs a.plan a.row_runs.now a.column_runs.now = rw (c.room_in.ensures, c.room_in-2.ensures) at c.runs_fit.ensures in
+    (rooms_of a.plan a.row_runs.now a.column_runs.now (sym asked ∙ c.if-not-runs_fit.false)).0
 
 pub spot_page-requires-clause-columns_fit : goal.spot_page-requires-clause-columns_fit
 spot_page-requires-clause-columns_fit c =
     let a = c.args in
-    let asked : c.runs_fit.result ≡ holdsRuns a.plan a.row_runs.now a.column_runs.now = rw (c.room_in.ensures, c.room_in-2.ensures) at c.runs_fit.ensures in
-    (rooms-of a.plan a.row_runs.now a.column_runs.now (sym asked ∙ c.if-not-runs_fit.false)).1
+    let asked : c.runs_fit.result ≡ holds_runs a.plan a.row_runs.now a.column_runs.now = rw (c.room_in.ensures, c.room_in-2.ensures) at c.runs_fit.ensures in
+    (rooms_of a.plan a.row_runs.now a.column_runs.now (sym asked ∙ c.if-not-runs_fit.false)).1
 
 pub spot_page-requires-clause-stands : goal.spot_page-requires-clause-stands
 spot_page-requires-clause-stands c =
     let a = c.args in
-    let asked : c.runs_fit.result ≡ holdsRuns a.plan a.row_runs.now a.column_runs.now = rw (c.room_in.ensures, c.room_in-2.ensures) at c.runs_fit.ensures in
-    page-stands a.plan a.row_runs.now a.column_runs.now a.number (sym asked ∙ c.if-not-runs_fit.false) c.page_spot-found.result c.page_spot-found.ensures
+    let asked : c.runs_fit.result ≡ holds_runs a.plan a.row_runs.now a.column_runs.now = rw (c.room_in.ensures, c.room_in-2.ensures) at c.runs_fit.ensures in
+    page_stands a.plan a.row_runs.now a.column_runs.now a.number (sym asked ∙ c.if-not-runs_fit.false) c.page_spot-found.result c.page_spot-found.ensures
     c.in-At.spot c.in-At.is
 
 pub returns-in-At : goal.returns-in-At
 returns-in-At c =
     let a = c.args in
-    let asked : c.runs_fit.result ≡ holdsRuns a.plan a.row_runs.now a.column_runs.now = rw (c.room_in.ensures, c.room_in-2.ensures) at c.runs_fit.ensures in
+    let asked : c.runs_fit.result ≡ holds_runs a.plan a.row_runs.now a.column_runs.now = rw (c.room_in.ensures, c.room_in-2.ensures) at c.runs_fit.ensures in
     ap given c.spot_page.ensures
-    ∙ page-found a.plan a.row_runs.now a.column_runs.now a.number (sym asked ∙ c.if-not-runs_fit.false) c.page_spot-found.result
+    ∙ page_found a.plan a.row_runs.now a.column_runs.now a.number (sym asked ∙ c.if-not-runs_fit.false) c.page_spot-found.result
     c.page_spot-found.ensures c.in-At.spot c.in-At.is
 
 pub returns-in-Nothing : goal.returns-in-Nothing
 returns-in-Nothing c =
     let a = c.args in
-    let asked : c.runs_fit.result ≡ holdsRuns a.plan a.row_runs.now a.column_runs.now = rw (c.room_in.ensures, c.room_in-2.ensures) at c.runs_fit.ensures in
-    page-missing a.plan a.row_runs.now a.column_runs.now a.number (sym asked ∙ c.if-not-runs_fit.false) c.page_spot-found.result c.page_spot-found.ensures
+    let asked : c.runs_fit.result ≡ holds_runs a.plan a.row_runs.now a.column_runs.now = rw (c.room_in.ensures, c.room_in-2.ensures) at c.runs_fit.ensures in
+    page_missing a.plan a.row_runs.now a.column_runs.now a.number (sym asked ∙ c.if-not-runs_fit.false) c.page_spot-found.result c.page_spot-found.ensures
     c.in-Nothing.is

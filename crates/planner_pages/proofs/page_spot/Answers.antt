@@ -2,25 +2,25 @@
 use Rattle.std.proofs.Common.{ap, ◌∙◌, arith}
 use Rattle.planner_rules.specs.declared.pages.Spot.{Spot}
 use Rattle.planner_rules.specs.declared.pages.Found.TheVariants.{At}
-use Rattle.planner_rules.proofs.AreaPages.{plans-count}
-use Rattle.planner_rules.proofs.PagesCode.{spot-zero, spot-past, spot-found, spot-missing}
+use Rattle.planner_rules.proofs.AreaPages.{plans_count}
+use Rattle.planner_rules.proofs.PagesCode.{spot_zero, spot_past, spot_found, spot_missing}
 use Rattle.planner_pages.proofs.page_spot.Goals as goal
 
 pub returns-then-number-eq0 : goal.returns-then-number-eq0
-returns-then-number-eq0 c = spot-zero c.args.plan c.args.number c.if-number-eq0.true
+returns-then-number-eq0 c = spot_zero c.args.plan c.args.number c.if-number-eq0.true
 
 pub returns-then-before-plan : goal.returns-then-before-plan
-returns-then-before-plan c = spot-past c.args.plan c.args.number (omega arith)
+returns-then-before-plan c = spot_past c.args.plan c.args.number (omega arith)
 
 pub returns-then-spot-at_most_eight : goal.returns-then-spot-at_most_eight
 returns-then-spot-at_most_eight c =
     let a = c.args in
     ap At c.walk-spot.ensures
-    ∙ spot-found a.plan a.number (omega arith) (omega arith)
-    (omega (arith, ap (λ (s : Spot). s.area) c.walk-spot.ensures, plans-count a.plan.areas))
+    ∙ spot_found a.plan a.number (omega arith) (omega arith)
+    (omega (arith, ap (λ (s : Spot). s.area) c.walk-spot.ensures, plans_count a.plan.areas))
 
 pub returns-else-spot-at_most_eight : goal.returns-else-spot-at_most_eight
 returns-else-spot-at_most_eight c =
     let a = c.args in
-    spot-missing a.plan a.number (omega arith) (omega arith)
-    (omega (arith, ap (λ (s : Spot). s.area) c.walk-spot.ensures, plans-count a.plan.areas))
+    spot_missing a.plan a.number (omega arith) (omega arith)
+    (omega (arith, ap (λ (s : Spot). s.area) c.walk-spot.ensures, plans_count a.plan.areas))

@@ -1,10 +1,10 @@
 -- Each question in turn.
 use Rattle.std.proofs.Common.{◌∙◌}
-use Rattle.planner_rules.specs.Partition.{firstNo}
+use Rattle.planner_rules.specs.Partition.{first_no}
 use Rattle.planner_questions.proofs.partition_refusal.Goals as goal
 
 pub returns : goal.returns
-unfolding firstNo
+unfolding first_no
 returns c =
     c.no_or-4.ensures
     ∙ rw (

@@ -2,64 +2,64 @@
 use Rattle.std.proofs.Common.{◌≡◌, ℕ, ◌<◌, Bool, ◌&&◌, refl, sym, ◌∙◌, arith}
 use Rattle.planner_rules.specs.declared.titles.Axis.TheVariants.{Rows, Columns}
 use Rattle.planner_rules.specs.declared.planning.Areas.{Areas}
-use Rattle.planner_rules.specs.Questions.{noOr, equallyLong, allOrdered, allWithin}
-use Rattle.planner_rules.specs.Titles.{limitOf}
-use Rattle.planner_rules.specs.Areas.{areasIn, oneToEight, everyArea, upright, insideGrid}
-use Rattle.planner_rules.specs.Union.{cellsHold}
-use Rattle.planner_rules.specs.Plan.{Sheet, sheetOf, formed, inGrid, rises, small, firstNo}
-use Rattle.planner_rules.proofs.QuestionLaws.{no-stays, yes-then}
+use Rattle.planner_rules.specs.Questions.{no_or, equally_long, all_ordered, all_within}
+use Rattle.planner_rules.specs.Titles.{limit_of}
+use Rattle.planner_rules.specs.Areas.{areas_in, one_to_eight, every_area, upright, inside_grid}
+use Rattle.planner_rules.specs.Union.{cells_hold}
+use Rattle.planner_rules.specs.Plan.{Sheet, sheet_of, formed, in_grid, rises, small, first_no}
+use Rattle.planner_rules.proofs.QuestionLaws.{no_stays, yes_then}
 use Rattle.planner_questions.proofs.plan_refusal.Goals as goal
 
 -- ---- the questions in two parts
 
 module _ (s : Sheet) (areas : Areas) where
   abbrev seven : ℕ → ℕ
-  seven rest = noOr 7 (inGrid s (areasIn areas)) rest
+  seven rest = no_or 7 (in_grid s (areas_in areas)) rest
 
   abbrev six : ℕ → ℕ
-  six rest = noOr 6 (formed s (areasIn areas)) (seven rest)
+  six rest = no_or 6 (formed s (areas_in areas)) (seven rest)
 
   abbrev early : ℕ → ℕ
-  early rest = noOr 4 (oneToEight areas.count) (six rest)
+  early rest = no_or 4 (one_to_eight areas.count) (six rest)
 
   abbrev late : ℕ
-  late = noOr 15 (cellsHold s.settings.cell_limit (areasIn areas)) (noOr 8 (rises s) (noOr 9 (small s) 0))
+  late = no_or 15 (cells_hold s.settings.cell_limit (areas_in areas)) (no_or 8 (rises s) (no_or 9 (small s) 0))
 
   -- of what was found of the lists and of the areas
-  early-by : (rows columns up rows-in columns-in inside : Bool)
-      → rows ≡ (equallyLong s.row-indexes s.row-sizes && equallyLong s.merge-first-rows s.merge-last-rows
-      && allOrdered s.merge-first-rows s.merge-last-rows)
-      → columns ≡ (equallyLong s.column-indexes s.column-sizes && equallyLong s.merge-first-columns s.merge-last-columns
-      && allOrdered s.merge-first-columns s.merge-last-columns)
-      → up ≡ everyArea upright (areasIn areas) → rows-in ≡ allWithin (limitOf Rows) s.merge-last-rows
-      → columns-in ≡ allWithin (limitOf Columns) s.merge-last-columns → inside ≡ everyArea insideGrid (areasIn areas)
-      → noOr 4 (oneToEight areas.count) (noOr 6 (rows && columns && equallyLong s.merge-first-rows s.merge-first-columns && up)
-      (noOr 7 (rows-in && columns-in && inside) 0))
+  early-by : (rows columns up rows_in columns_in inside : Bool)
+      → rows ≡ (equally_long s.row_indexes s.row_sizes && equally_long s.merge_first_rows s.merge_last_rows
+      && all_ordered s.merge_first_rows s.merge_last_rows)
+      → columns ≡ (equally_long s.column_indexes s.column_sizes && equally_long s.merge_first_columns s.merge_last_columns
+      && all_ordered s.merge_first_columns s.merge_last_columns)
+      → up ≡ every_area upright (areas_in areas) → rows_in ≡ all_within (limit_of Rows) s.merge_last_rows
+      → columns_in ≡ all_within (limit_of Columns) s.merge_last_columns → inside ≡ every_area inside_grid (areas_in areas)
+      → no_or 4 (one_to_eight areas.count) (no_or 6 (rows && columns && equally_long s.merge_first_rows s.merge_first_columns && up)
+      (no_or 7 (rows_in && columns_in && inside) 0))
       ≡ early 0
-  unfolding formed inGrid
-  early-by rows columns up rows-in columns-in inside e f g h i j = rw (e, f, g, h, i, j)
+  unfolding formed in_grid
+  early-by rows columns up rows_in columns_in inside e f g h i j = rw (e, f, g, h, i, j)
 
-  early-no : 0 < early 0 → early 0 ≡ firstNo s areas
-  unfolding firstNo
+  early-no : 0 < early 0 → early 0 ≡ first_no s areas
+  unfolding first_no
   early-no =
-      no-stays 4 (oneToEight areas.count) (six 0) (six late)
-      (no-stays 6 (formed s (areasIn areas)) (seven 0) (seven late)
-      (no-stays 7 (inGrid s (areasIn areas)) 0 late (λ h. absurd (omega arith))))
+      no_stays 4 (one_to_eight areas.count) (six 0) (six late)
+      (no_stays 6 (formed s (areas_in areas)) (seven 0) (seven late)
+      (no_stays 7 (in_grid s (areas_in areas)) 0 late (λ h. absurd (omega arith))))
 
-  late-no : early 0 ≡ 0 → late ≡ firstNo s areas
-  unfolding firstNo
+  late-no : early 0 ≡ 0 → late ≡ first_no s areas
+  unfolding first_no
   late-no =
-      yes-then 4 (oneToEight areas.count) (six 0) (six late) late (omega arith)
-      (yes-then 6 (formed s (areasIn areas)) (seven 0) (seven late) late (omega arith)
-      (yes-then 7 (inGrid s (areasIn areas)) 0 late late (omega arith) (λ e. refl)))
+      yes_then 4 (one_to_eight areas.count) (six 0) (six late) late (omega arith)
+      (yes_then 6 (formed s (areas_in areas)) (seven 0) (seven late) late (omega arith)
+      (yes_then 7 (in_grid s (areas_in areas)) 0 late late (omega arith) (λ e. refl)))
 
 -- ---- the goals
 
 pub returns-then-early-gt0 : goal.returns-then-early-gt0
-unfolding limitOf
+unfolding limit_of
 returns-then-early-gt0 c rt ct rb cb =
     let a = c.args in
-    let s : Sheet = sheetOf a.settings rt ct a.row_indexes.now a.row_sizes.now a.column_indexes.now a.column_sizes.now a.merge_first_rows.now
+    let s : Sheet = sheet_of a.settings rt ct a.row_indexes.now a.row_sizes.now a.column_indexes.now a.column_sizes.now a.merge_first_rows.now
     a.merge_first_columns.now a.merge_last_rows.now a.merge_last_columns.now rb cb in
     let is : c.no_or-early.result ≡ early s a.areas 0 =
     c.no_or-early.ensures
@@ -71,10 +71,10 @@ returns-then-early-gt0 c rt ct rb cb =
     is ∙ early-no s a.areas (rw is at c.if-early-gt0.true)
 
 pub returns : goal.returns
-unfolding limitOf
+unfolding limit_of
 returns c rt ct rb cb =
     let a = c.args in
-    let s : Sheet = sheetOf a.settings rt ct a.row_indexes.now a.row_sizes.now a.column_indexes.now a.column_sizes.now a.merge_first_rows.now
+    let s : Sheet = sheet_of a.settings rt ct a.row_indexes.now a.row_sizes.now a.column_indexes.now a.column_sizes.now a.merge_first_rows.now
     a.merge_first_columns.now a.merge_last_rows.now a.merge_last_columns.now rb cb in
     let is : c.no_or-early.result ≡ early s a.areas 0 =
     c.no_or-early.ensures

@@ -4,35 +4,35 @@ use lib.Ieee.{Float, fin, binary64, mul, lt, fits, neg, of_bits, of_int, to_unsi
 use lib.Ieee.Fits.{mul-fits}
 use mir.ValLaws.{to_z_pos}
 use Rattle.units.specs.Outcome.{given}
-use Rattle.units.specs.Units.{inchesToFixed, nearestUnits}
-use Rattle.units.proofs.Constants.{ninety-six, thousand}
-use Rattle.units.proofs.Nearest.{minus-half, top, two, fromHalves, halved, given-top, refused-high, refused-low}
+use Rattle.units.specs.Units.{inches_to_fixed, nearest_units}
+use Rattle.units.proofs.Constants.{ninety_six, thousand}
+use Rattle.units.proofs.Nearest.{minus_half, top, two, from_halves, halved, given_top, refused_high, refused_low}
 use Rattle.units.proofs.inches_to_fixed.Goals as goal
 
 -- the product, as the code has it
 raw : Float → Float
 raw x = mul binary64 (mul binary64 x (of_bits binary64 4636455816377925632)) (of_bits binary64 4652218415073722368)
 
-raw-fits : (x : Float) → T (fits binary64 (raw x))
+raw_fits : (x : Float) → T (fits binary64 (raw x))
 unfolding raw
-raw-fits x = mul-fits binary64 (mul binary64 x (of_bits binary64 4636455816377925632)) (of_bits binary64 4652218415073722368)
+raw_fits x = mul-fits binary64 (mul binary64 x (of_bits binary64 4636455816377925632)) (of_bits binary64 4652218415073722368)
 
-raw-is : (x : Float) → nearestUnits (raw x) ≡ inchesToFixed x
-unfolding raw inchesToFixed
-raw-is x =
-    ap (λ (c : Float). nearestUnits (mul binary64 (mul binary64 x c) (of_bits binary64 4652218415073722368))) ninety-six
-    ∙ ap (λ (d : Float). nearestUnits (mul binary64 (mul binary64 x (of_int binary64 (pos 96))) d)) thousand
+raw_is : (x : Float) → nearest_units (raw x) ≡ inches_to_fixed x
+unfolding raw inches_to_fixed
+raw_is x =
+    ap (λ (c : Float). nearest_units (mul binary64 (mul binary64 x c) (of_bits binary64 4652218415073722368))) ninety_six
+    ∙ ap (λ (d : Float). nearest_units (mul binary64 (mul binary64 x (of_int binary64 (pos 96))) d)) thousand
 
 -- where the two tests hold: the double is within u64, and its whole part gives the units
-within : (x : Float) → lt minus-half (raw x) ≡ true → lt (raw x) top ≡ true → T (lt (fin true 1 (pos 0)) (mul binary64 (raw x) two)) × T
-    (lt (mul binary64 (raw x) two) (fin false 1 (pos 64))) × (fromHalves (to_unsigned 64 (mul binary64 (raw x) two)) ≡ inchesToFixed x)
+within : (x : Float) → lt minus_half (raw x) ≡ true → lt (raw x) top ≡ true → T (lt (fin true 1 (pos 0)) (mul binary64 (raw x) two)) × T
+    (lt (mul binary64 (raw x) two) (fin false 1 (pos 64))) × (from_halves (to_unsigned 64 (mul binary64 (raw x) two)) ≡ inches_to_fixed x)
 within x t r =
-    let k = halved (raw x) (raw-fits x) t r in
-    (k.0, k.1, k.2 ∙ raw-is x)
+    let k = halved (raw x) (raw_fits x) t r in
+    (k.0, k.1, k.2 ∙ raw_is x)
 
-units-of : (x : Float) (u : ℕ) → lt minus-half (raw x) ≡ true → lt (raw x) top ≡ true → u ≡ to_unsigned 64 (mul binary64 (raw x) two)
-    → fromHalves u ≡ inchesToFixed x
-units-of x u t r e = ap fromHalves e ∙ (within x t r).2
+units_of : (x : Float) (u : ℕ) → lt minus_half (raw x) ≡ true → lt (raw x) top ≡ true → u ≡ to_unsigned 64 (mul binary64 (raw x) two)
+    → from_halves u ≡ inches_to_fixed x
+units_of x u t r e = ap from_halves e ∙ (within x t r).2
 
 pub truncating_f64_to_u64-halves-requires-clause-lower_bound :
     goal.truncating_f64_to_u64-halves-requires-clause-lower_bound
@@ -52,7 +52,7 @@ returns-then-n-lt9223372036854775808 c =
     let h : n < 2 ^ 63 = c.if-n-lt9223372036854775808.true in
     let e : n ≡ min n (2 ^ 63 - 1) = omega arith in
     ap given (to_z_pos w64 n h ∙ ap pos e)
-    ∙ units-of c.args.inches u c.if-raw.true c.if-raw-2.true c.truncating_f64_to_u64-halves.ensures
+    ∙ units_of c.args.inches u c.if-raw.true c.if-raw-2.true c.truncating_f64_to_u64-halves.ensures
 
 pub returns-then-raw-2 : goal.returns-then-raw-2
 unfolding raw of_bits neg
@@ -62,22 +62,22 @@ returns-then-raw-2 c =
     let h : 2 ^ 63 ≤ n = c.if-n-lt9223372036854775808.false in
     let e : 2 ^ 63 - 1 ≡ min n (2 ^ 63 - 1) = omega arith in
     ap (λ (k : ℕ). given (pos k)) e
-    ∙ units-of c.args.inches u c.if-raw.true c.if-raw-2.true c.truncating_f64_to_u64-halves.ensures
+    ∙ units_of c.args.inches u c.if-raw.true c.if-raw-2.true c.truncating_f64_to_u64-halves.ensures
 
 pub returns-then-raw-3 : goal.returns-then-raw-3
 unfolding raw of_bits neg
 returns-then-raw-3 c =
     let x = c.args.inches in
-    sym (given-top (raw x) c.if-raw.true c.if-raw-3.true) ∙ raw-is x
+    sym (given_top (raw x) c.if-raw.true c.if-raw-3.true) ∙ raw_is x
 
 pub returns-else-raw-3 : goal.returns-else-raw-3
 unfolding raw of_bits
 returns-else-raw-3 c =
     let x = c.args.inches in
-    sym (refused-high (raw x) (raw-fits x) c.if-raw-2.false c.if-raw-3.false) ∙ raw-is x
+    sym (refused_high (raw x) (raw_fits x) c.if-raw-2.false c.if-raw-3.false) ∙ raw_is x
 
 pub returns-else-raw : goal.returns-else-raw
 unfolding raw of_bits neg
 returns-else-raw c =
     let x = c.args.inches in
-    sym (refused-low (raw x) c.if-raw.false) ∙ raw-is x
+    sym (refused_low (raw x) c.if-raw.false) ∙ raw_is x

@@ -1,4 +1,4 @@
--- `positive` returns n where n is below 2^63, as `inI64` does.
+-- `positive` returns n where n is below 2^63, as `in_i64` does.
 use Rattle.std.proofs.Common.{pos, sym, ap, ◌∙◌, w64}
 use mir.ValLaws.{to_z_pos}
 use Rattle.units.specs.Outcome.{given}

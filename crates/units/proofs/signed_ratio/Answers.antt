@@ -2,24 +2,24 @@
 use Rattle.std.proofs.Common.{◌≡◌, ℕ, ◌+◌, ◌*◌, ◌/◌, ◌^◌, min, ℤ, nat_abs, ap, ◌∙◌, w64, SFits, to_z, of_z}
 use mir.ValLaws.{to_z-of_z}
 use Rattle.units.proofs.Signs.{tested}
-use Rattle.units.proofs.Scaling.{ratio-pos, ratio-neg}
+use Rattle.units.proofs.Scaling.{ratio_pos, ratio-neg}
 use Rattle.units.proofs.signed_ratio.Goals as goal
 
 -- what the call of `ratio` gives, of z itself
-given-z : (z : ℤ) (k h d m n : ℕ) → SFits w64 z → m ≡ nat_abs (to_z w64 (of_z w64 z)) → n ≡ min ((m * k + h) / d) (2 ^ 63 + 1)
+given_z : (z : ℤ) (k h d m n : ℕ) → SFits w64 z → m ≡ nat_abs (to_z w64 (of_z w64 z)) → n ≡ min ((m * k + h) / d) (2 ^ 63 + 1)
     → n ≡ min ((nat_abs z * k + h) / d) (2 ^ 63 + 1)
-given-z z k h d m n s e q = q ∙ ap (λ (x : ℕ). min ((x * k + h) / d) (2 ^ 63 + 1)) (e ∙ ap nat_abs (to_z-of_z w64 z s))
+given_z z k h d m n s e q = q ∙ ap (λ (x : ℕ). min ((x * k + h) / d) (2 ^ 63 + 1)) (e ∙ ap nat_abs (to_z-of_z w64 z s))
 
 pub returns-then-z-ge0 : goal.returns-then-z-ge0
 returns-then-z-ge0 c =
     let a = c.args in
     let s = c.ranges.z in
-    c.positive.ensures ∙ ratio-pos a.z a.k a.h a.d c.ratio-n.result (tested a.z s c.if-z-ge0.true)
-    (given-z a.z a.k a.h a.d c.magnitude.result c.ratio-n.result s c.magnitude.ensures c.ratio-n.ensures)
+    c.positive.ensures ∙ ratio_pos a.z a.k a.h a.d c.ratio-n.result (tested a.z s c.if-z-ge0.true)
+    (given_z a.z a.k a.h a.d c.magnitude.result c.ratio-n.result s c.magnitude.ensures c.ratio-n.ensures)
 
 pub returns-else-z-ge0 : goal.returns-else-z-ge0
 returns-else-z-ge0 c =
     let a = c.args in
     let s = c.ranges.z in
     c.negative.ensures ∙ ratio-neg a.z a.k a.h a.d c.ratio-n.result (tested a.z s c.if-z-ge0.false)
-    (given-z a.z a.k a.h a.d c.magnitude.result c.ratio-n.result s c.magnitude.ensures c.ratio-n.ensures)
+    (given_z a.z a.k a.h a.d c.magnitude.result c.ratio-n.result s c.magnitude.ensures c.ratio-n.ensures)

@@ -1,11 +1,11 @@
 -- `yuzhbani_answers::put_areas` meets its contract: one area more, up to eight.
 use Rattle.std.proofs.Common.{◌≡◌, refl, ◌∙◌, below_more, arith}
-use Rattle.yuzhbani_answers.specs.Numbers.{areasPut}
-use Rattle.yuzhbani_answers.proofs.NumberLaws.{more-put}
+use Rattle.yuzhbani_answers.specs.Numbers.{areas_put}
+use Rattle.yuzhbani_answers.proofs.NumberLaws.{more_put}
 use Rattle.yuzhbani_answers.proofs.put_areas.Goals as goal
 
 pub loop-k-init : goal.loop-k-init
-unfolding areasPut
+unfolding areas_put
 loop-k-init c = record { few = omega arith; put = refl; back = λ k h. absurd (omega arith) }
 
 pub loop-k-preserved : goal.loop-k-preserved
@@ -13,7 +13,7 @@ loop-k-preserved c =
     let l = c.loop-k in
     let e = c.plan_at.ensures in record {
       few = omega arith;
-      put = c.put_area.ensures.numbers_after ∙ rw (e, l.invariant.put) (more-put c.args.areas l.k c.args.numbers.now);
+      put = c.put_area.ensures.numbers_after ∙ rw (e, l.invariant.put) (more_put c.args.areas l.k c.args.numbers.now);
       back = below_more _ _ l.invariant.back (rw e at c.put_area.ensures.area_back);
     }
 

@@ -1,9 +1,9 @@
 -- `content_between` returns what the six margins, each in units, leave.
-use Rattle.geometry.specs.Paper.{contentBetween}
+use Rattle.geometry.specs.Paper.{content_between}
 use Rattle.geometry.proofs.paper.content_between.Goals as goal
 
 pub returns : goal.returns
-unfolding contentBetween
+unfolding content_between
 returns c = rw (
   c.content_from.ensures,
   c.inches_to_fixed.ensures,

@@ -1,7 +1,7 @@
 -- `paper_geometry` returns what its three helpers give, one after the other, as the definition has it.
-use Rattle.geometry.specs.Paper.{paperGeometry}
+use Rattle.geometry.specs.Paper.{paper_geometry}
 use Rattle.geometry.proofs.paper.paper_geometry.Goals as goal
 
 pub returns : goal.returns
-unfolding paperGeometry
+unfolding paper_geometry
 returns c = rw (c.turned.ensures, ← c.requested.ensures, ← c.resolved.ensures)

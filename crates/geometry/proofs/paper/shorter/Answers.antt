@@ -2,7 +2,7 @@
 use Rattle.std.proofs.Common.{◌≡◌, ap, ◌∙◌, w64, SFits, rules}
 use lib.Ieee.{of_int, binary64}
 use mir.ValLaws.{to_z-of_z}
-use Rattle.units.proofs.Constants.{ninety-six, thousand}
+use Rattle.units.proofs.Constants.{ninety_six, thousand}
 use Rattle.geometry.proofs.paper.shorter.Goals as goal
 
 pub returns : goal.returns
@@ -11,4 +11,4 @@ returns c =
     let s : SFits w64 raw = search rules in
     let e : c.nearest_i64_to_f64.result ≡ of_int binary64 c.args.side.0 = c.nearest_i64_to_f64.ensures ∙ ap (of_int binary64)
     (to_z-of_z w64 raw s ∙ c.raw.ensures) in
-    rw (e, ninety-six, thousand)
+    rw (e, ninety_six, thousand)

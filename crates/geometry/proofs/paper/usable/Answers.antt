@@ -5,13 +5,13 @@ use lib.Ieee.{Float, nan, inf, fin, le, lt, eq, div, of_bits}
 use Rattle.geometry.specs.Paper.{usable}
 use Rattle.geometry.proofs.paper.usable.Goals as goal
 
-is-usable : (x : Float) → le (fin false 0 (pos 0)) x && lt x (inf false) ≡ usable x
+is_usable : (x : Float) → le (fin false 0 (pos 0)) x && lt x (inf false) ≡ usable x
 unfolding le lt eq
-is-usable nan = refl
-is-usable (inf true) = refl
-is-usable (inf false) = refl
-is-usable (fin s m e) = and-true (le (fin false 0 (pos 0)) (fin s m e))
+is_usable nan = refl
+is_usable (inf true) = refl
+is_usable (inf false) = refl
+is_usable (fin s m e) = and-true (le (fin false 0 (pos 0)) (fin s m e))
 
 pub returns : goal.returns
 unfolding of_bits div
-returns c = is-usable c.args.inches
+returns c = is_usable c.args.inches

@@ -1,7 +1,7 @@
 -- `job::bytes::count_job` meets its contract.
-use Rattle.job.specs.PlanJob.{countJob}
+use Rattle.job.specs.PlanJob.{count_job}
 use Rattle.job.proofs.bytes.count_job.Goals as goal
 
 pub returns : goal.returns
-unfolding countJob
+unfolding count_job
 returns c = rw c.planning_in.ensures c.answer_job-answer.ensures

@@ -1,8 +1,8 @@
 -- `job_reader::settings::settings_of` meets its contract.
 use Rattle.std.proofs.Common.{ap, ◌∙◌}
 use Rattle.job_records.specs.Records.{UC, records}
-use Rattle.job_walk.specs.Areas.{cellLimitFrom}
-use Rattle.job_walk.proofs.WalkLaws.{in-place, all-areas}
+use Rattle.job_walk.specs.Areas.{cell_limit_from}
+use Rattle.job_walk.proofs.WalkLaws.{is_in_place, all_areas}
 use Rattle.job_reader.proofs.settings.settings_of.Goals as goal
 
 pub returns : goal.returns
@@ -19,8 +19,8 @@ returns c =
       c.flag_of-2.ensures,
       c.is_there-2.ensures,
       c.limit_of.ensures,
-      c.cell_limit_of.ensures ∙ ap cellLimitFrom (in-place 0 UC rs c.requires.sorted),
-      c.areas_of.ensures ∙ all-areas _ rs c.requires.sorted c.requires.areas_value,
+      c.cell_limit_of.ensures ∙ ap cell_limit_from (is_in_place 0 UC rs c.requires.sorted),
+      c.areas_of.ensures ∙ all_areas _ rs c.requires.sorted c.requires.areas_value,
       c.row_title_of.ensures,
       c.column_title_of.ensures,
     )

@@ -1,55 +1,55 @@
 -- The first page is there, so that its number is from 1 to the plan's count; a turn that goes on has room for a line, and a number up to that count.
 use Rattle.std.proofs.Common.{◌-◌, sym, ap, ◌∙◌, arith}
-use Rattle.planner_rules.specs.Pages.{pageOutcome}
+use Rattle.planner_rules.specs.Pages.{page_outcome}
 use Rattle.job_report.proofs.SpotLaws.{placed}
-use Rattle.job_report.proofs.BlockLaws.{holding-none, holding-more, holding-refused, holding-full, open-told, shut-told}
-use Rattle.job_report.proofs.BlockLaws.{part-last, part-asked, area-holds, held-on}
+use Rattle.job_report.proofs.BlockLaws.{holding_none, holding_more, holding_refused, holding_full, open_told, shut_told}
+use Rattle.job_report.proofs.BlockLaws.{part_last, part_asked, area_holds, held_on}
 use Rattle.job_report.proofs.blocks.lines_held.Goals as goal
 
 pub overflow_sub-most : goal.overflow_sub-most
-overflow_sub-most c = (placed _ _ _ c.requires.found).to-count
+overflow_sub-most c = (placed _ _ _ c.requires.found).to_count
 
 pub loop-bytes-init : goal.loop-bytes-init
-loop-bytes-init c = holding-none _ _ _
+loop-bytes-init c = holding_none _ _ _
 
 pub overflow_add-own : goal.overflow_add-own
 overflow_add-own c =
     let w = placed c.args.plan c.args.from c.args.spot c.requires.found in
-    let goes_on = open-told c.loop-bytes.bytes 65280 c.loop-bytes.pages (c.args.plan.pages - c.args.from) c.loop-bytes-test.true in
-    omega (arith, goes_on.1, w.from-one, w.to-count, w.within.not-later)
+    let goes_on = open_told c.loop-bytes.bytes 65280 c.loop-bytes.pages (c.args.plan.pages - c.args.from) c.loop-bytes-test.true in
+    omega (arith, goes_on.1, w.from_one, w.to_count, w.within.not_later)
 
 pub overflow_add-own-in-loop-bytes : goal.overflow_add-own-in-loop-bytes
 overflow_add-own-in-loop-bytes c =
     let w = placed c.args.plan c.args.from c.args.spot c.requires.found in
-    let goes_on = open-told c.loop-bytes.bytes 65280 c.loop-bytes.pages (c.args.plan.pages - c.args.from) c.loop-bytes-test.true in
-    omega (arith, goes_on.1, w.from-one, w.to-count, w.within.not-later)
+    let goes_on = open_told c.loop-bytes.bytes 65280 c.loop-bytes.pages (c.args.plan.pages - c.args.from) c.loop-bytes-test.true in
+    omega (arith, goes_on.1, w.from_one, w.to_count, w.within.not_later)
 
 pub returns-in_default : goal.returns-in_default
 returns-in_default c =
-    let goes_on = open-told _ _ _ _ c.loop-bytes-test.true in
-    let asked = part-asked _ _ _ _ _ _ (area-holds _ _ _ _ _ c.requires _ c.plan_at-area.ensures) _ goes_on.1 in
-    held-on _ _ _ _ _ c.requires _ c.plan_at-area.ensures _ _ _
-    (holding-refused _ _ _ _ _ _ c.loop-bytes.invariant _ (sym asked ∙ sym c.area_page-answer.ensures ∙ ap pageOutcome c.in_default.is))
+    let goes_on = open_told _ _ _ _ c.loop-bytes-test.true in
+    let asked = part_asked _ _ _ _ _ _ (area_holds _ _ _ _ _ c.requires _ c.plan_at-area.ensures) _ goes_on.1 in
+    held_on _ _ _ _ _ c.requires _ c.plan_at-area.ensures _ _ _
+    (holding_refused _ _ _ _ _ _ c.loop-bytes.invariant _ (sym asked ∙ sym c.area_page-answer.ensures ∙ ap page_outcome c.in_default.is))
 
 pub overflow_add-pages : goal.overflow_add-pages
 overflow_add-pages c =
     let w = placed c.args.plan c.args.from c.args.spot c.requires.found in
-    let goes_on = open-told c.loop-bytes.bytes 65280 c.loop-bytes.pages (c.args.plan.pages - c.args.from) c.loop-bytes-test.true in
-    omega (arith, goes_on.1, w.from-one, w.to-count)
+    let goes_on = open_told c.loop-bytes.bytes 65280 c.loop-bytes.pages (c.args.plan.pages - c.args.from) c.loop-bytes-test.true in
+    omega (arith, goes_on.1, w.from_one, w.to_count)
 
 pub loop-bytes-preserved : goal.loop-bytes-preserved
 loop-bytes-preserved c =
-    let goes_on = open-told c.loop-bytes.bytes 65280 c.loop-bytes.pages (c.args.plan.pages - c.args.from) c.loop-bytes-test.true in
-    let asked = part-asked _ _ _ _ _ _ (area-holds _ _ _ _ _ c.requires _ c.plan_at-area.ensures) _ goes_on.1 in
-    holding-more _ _ _ _ _ _ c.loop-bytes.invariant _ _ _ (sym asked ∙ sym c.area_page-answer.ensures ∙ ap pageOutcome c.in-Value.is)
+    let goes_on = open_told c.loop-bytes.bytes 65280 c.loop-bytes.pages (c.args.plan.pages - c.args.from) c.loop-bytes-test.true in
+    let asked = part_asked _ _ _ _ _ _ (area_holds _ _ _ _ _ c.requires _ c.plan_at-area.ensures) _ goes_on.1 in
+    holding_more _ _ _ _ _ _ c.loop-bytes.invariant _ _ _ (sym asked ∙ sym c.area_page-answer.ensures ∙ ap page_outcome c.in-Value.is)
     goes_on.0 (omega (arith, goes_on.0)) c.page_at-bytes.ensures.put_at c.page_at-bytes.auto.out
 
 pub returns : goal.returns
 returns c =
     let a = c.args in
-    held-on _ _ _ _ _ c.requires _ c.plan_at-area.ensures _ _ _
-    (shut-told _ _ _ _ c.loop-bytes-test.false
-    (λ full. holding-full _ _ _ _ _ _ c.loop-bytes.invariant full)
+    held_on _ _ _ _ _ c.requires _ c.plan_at-area.ensures _ _ _
+    (shut_told _ _ _ _ c.loop-bytes-test.false
+    (λ full. holding_full _ _ _ _ _ _ c.loop-bytes.invariant full)
     (λ last.
-    part-last a.plan.order c.plan_at-area.result a.row_runs.now a.column_runs.now a.spot.before (a.plan.pages - a.from) _ _ _ _ _
+    part_last a.plan.order c.plan_at-area.result a.row_runs.now a.column_runs.now a.spot.before (a.plan.pages - a.from) _ _ _ _ _
     c.loop-bytes.invariant last))

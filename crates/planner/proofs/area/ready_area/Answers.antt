@@ -1,7 +1,7 @@
 -- Both axes are ready, each as the settings make it.
 use Rattle.std.proofs.Common.{[], ap, ◌∙◌}
 use Rattle.planner_rules.specs.Plan.{AxisInput}
-use Rattle.planner_rules.specs.Steps.{readyFrom}
+use Rattle.planner_rules.specs.Steps.{ready_from}
 use Rattle.planner.proofs.area.ready_area.Goals as goal
 
 pub ready_axis-requires : goal.ready_axis-requires
@@ -15,7 +15,7 @@ returns c =
     let a = c.args in
     let x = a.shared in
     let rows = c.ready_axis.ensures
-    ∙ ap (readyFrom x.sides.height x.rows) (c.row_range-row_axis.ensures a.row_indexes.now [] [] [] []) in
+    ∙ ap (ready_from x.sides.height x.rows) (c.row_range-row_axis.ensures a.row_indexes.now [] [] [] []) in
     let columns = c.ready_axis-2.ensures
-    ∙ ap (readyFrom x.sides.width x.columns) (c.column_range-column_axis.ensures a.column_indexes.now [] [] [] []) in
+    ∙ ap (ready_from x.sides.width x.columns) (c.column_range-column_axis.ensures a.column_indexes.now [] [] [] []) in
     λ i. record { range = a.range; rows = rows i; columns = columns i }

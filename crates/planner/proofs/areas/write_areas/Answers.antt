@@ -6,98 +6,98 @@ use Rattle.planner_rules.specs.declared.pages.AreaPlans.{AreaPlans}
 use Rattle.planner_rules.specs.declared.planning.PrintRange.{PrintRange}
 use Rattle.planner_rules.specs.declared.planning.Areas.{Areas}
 use Rattle.planner_rules.specs.declared.planning.Shared.{Shared}
-use Rattle.planner_rules.specs.Areas.{eightRanges, areasIn, noRange, eightPlans, noPlan, heldPlans}
+use Rattle.planner_rules.specs.Areas.{eight_ranges, areas_in, no_range, eight_plans, no_plan, held_plans}
 use Rattle.planner_rules.specs.Runs.{Run}
 use Rattle.planner_rules.specs.Lent.{flat, Room, RoomAt}
 use Rattle.planner_rules.specs.Pages.{joined}
 use Rattle.planner_rules.specs.Scale.{Scale}
-use Rattle.planner_rules.specs.Plan.{Sheet, rowsIn, columnsIn, chosenScale, AreaLayout, planIn, areaLayout, layoutsOf, rowRunsOf, columnRunsOf}
-use Rattle.planner_rules.specs.Steps.{sidesIn, FineAreas, Writable, putAt, rowsAt, columnsAt}
-use Rattle.planner_rules.proofs.Lent.{flat-length, Writing, writing-more, writing-room, writing-done}
-use Rattle.planner_rules.proofs.AreaLaws.{as-long, writable, rows-put, columns-put}
-use Rattle.planner_rules.proofs.AreasLaws.{plan-is, left-is}
+use Rattle.planner_rules.specs.Plan.{Sheet, rows_in, columns_in, chosen_scale, AreaLayout, plan_in, area_layout, layouts_of, row_runs_of, column_runs_of}
+use Rattle.planner_rules.specs.Steps.{sides_in, FineAreas, Writable, put_at, rows_at, columns_at}
+use Rattle.planner_rules.proofs.Lent.{flat-length, Writing, writing_more, writing_room, writing_done}
+use Rattle.planner_rules.proofs.AreaLaws.{as_long, writable, rows_put, columns_put}
+use Rattle.planner_rules.proofs.AreasLaws.{plan_is, left_is}
 use Rattle.planner.proofs.areas.write_areas.Goals as goal
 
-long : (areas : Areas) → FineAreas areas → length (areasIn areas) ≡ areas.count
-long areas fine = length-take-le areas.count (eightRanges areas) fine.few
+long : (areas : Areas) → FineAreas areas → length (areas_in areas) ≡ areas.count
+long areas fine = length-take-le areas.count (eight_ranges areas) fine.few
 
 -- what areas come to, and those of them from the area i on
 abbrev all : Shared → Sheet → Areas → List AreaLayout
-all x s areas = layoutsOf (sidesIn x) s (areasIn areas)
+all x s areas = layouts_of (sides_in x) s (areas_in areas)
 
 abbrev from : Shared → Sheet → Areas → ℕ → List AreaLayout
-from x s areas i = layoutsOf (sidesIn x) s (drop i (areasIn areas))
+from x s areas i = layouts_of (sides_in x) s (drop i (areas_in areas))
 
 abbrev scale : Shared → Sheet → PrintRange → Scale
-scale x s g = chosenScale s.settings (sidesIn x) (rowsIn s g) (columnsIn s g)
+scale x s g = chosen_scale s.settings (sides_in x) (rows_in s g) (columns_in s g)
 
 -- the area i, and the plan that is held of it
 module _ (x : Shared) (s : Sheet) (areas : Areas) (fine : FineAreas areas) (i : ℕ) (h : i < areas.count) (g : PrintRange)
-    (eg : g ≡ get_or (eightRanges areas) i noRange) (plans : AreaPlans) (ep : plans ≡ heldPlans (map planIn (all x s areas))) (a : AreaPlan)
-    (ea : a ≡ get_or (eightPlans plans) i noPlan) where
-  range-is : g ≡ get_or (areasIn areas) i noRange
-  range-is = eg ∙ sym (get_or-take areas.count (eightRanges areas) i noRange h)
+    (eg : g ≡ get_or (eight_ranges areas) i no_range) (plans : AreaPlans) (ep : plans ≡ held_plans (map plan_in (all x s areas))) (a : AreaPlan)
+    (ea : a ≡ get_or (eight_plans plans) i no_plan) where
+  range_is : g ≡ get_or (areas_in areas) i no_range
+  range_is = eg ∙ sym (get_or-take areas.count (eight_ranges areas) i no_range h)
 
-  in-list : i < length (areasIn areas)
-  in-list = omega (arith, long areas fine)
+  in_list : i < length (areas_in areas)
+  in_list = omega (arith, long areas fine)
 
-  came-to : a ≡ planIn (areaLayout (sidesIn x) s g)
-  came-to = plan-is (sidesIn x) s (areasIn areas) i g in-list range-is (omega (arith, long areas fine, fine.few)) plans a ep ea
+  came_to : a ≡ plan_in (area_layout (sides_in x) s g)
+  came_to = plan_is (sides_in x) s (areas_in areas) i g in_list range_is (omega (arith, long areas fine, fine.few)) plans a ep ea
 
   -- what is left begins with its runs
-  left : (f : AreaLayout → List Run) → joined (map f (from x s areas i)) ≡ f (areaLayout (sidesIn x) s g) ++ joined (map f (from x s areas (i + 1)))
-  left f = left-is (sidesIn x) s (areasIn areas) i g in-list range-is f
+  left : (f : AreaLayout → List Run) → joined (map f (from x s areas i)) ≡ f (area_layout (sides_in x) s g) ++ joined (map f (from x s areas (i + 1)))
+  left f = left_is (sides_in x) s (areas_in areas) i g in_list range_is f
 
-  row-numbers : a.row_runs * 4 ≡ length (flat (areaLayout (sidesIn x) s g).rows)
-  unfolding areaLayout
+  row-numbers : a.row_runs * 4 ≡ length (flat (area_layout (sides_in x) s g).rows)
+  unfolding area_layout
   row-numbers =
-      let n = (as-long x s g (scale x s g) a came-to).0 in
-      omega (arith, n, flat-length (areaLayout (sidesIn x) s g).rows)
+      let n = (as_long x s g (scale x s g) a came_to).0 in
+      omega (arith, n, flat-length (area_layout (sides_in x) s g).rows)
 
-  column-numbers : a.column_runs * 4 ≡ length (flat (areaLayout (sidesIn x) s g).columns)
-  unfolding areaLayout
+  column-numbers : a.column_runs * 4 ≡ length (flat (area_layout (sides_in x) s g).columns)
+  unfolding area_layout
   column-numbers =
-      let n = (as-long x s g (scale x s g) a came-to).1 in
-      omega (arith, n, flat-length (areaLayout (sidesIn x) s g).columns)
+      let n = (as_long x s g (scale x s g) a came_to).1 in
+      omega (arith, n, flat-length (area_layout (sides_in x) s g).columns)
 
   -- of the rows
-  module _ (old : List ℕ) (at : ℕ) (new : List ℕ) (room : Room (rowRunsOf (all x s areas)) old)
-      (w : Writing (rowRunsOf (all x s areas)) old at (rowRunsOf (from x s areas i)) new) where
-    rows-left : Writing (rowRunsOf (all x s areas)) old at ((areaLayout (sidesIn x) s g).rows ++ rowRunsOf (from x s areas (i + 1))) new
-    rows-left = subst (λ (rs : List Run). Writing (rowRunsOf (all x s areas)) old at rs new) (left (λ (k : AreaLayout). k.rows)) w
+  module _ (old : List ℕ) (at : ℕ) (new : List ℕ) (room : Room (row_runs_of (all x s areas)) old)
+      (w : Writing (row_runs_of (all x s areas)) old at (row_runs_of (from x s areas i)) new) where
+    rows-left : Writing (row_runs_of (all x s areas)) old at ((area_layout (sides_in x) s g).rows ++ row_runs_of (from x s areas (i + 1))) new
+    rows-left = subst (λ (rs : List Run). Writing (row_runs_of (all x s areas)) old at rs new) (left (λ (k : AreaLayout). k.rows)) w
 
-    row-room : RoomAt (areaLayout (sidesIn x) s g).rows at new
-    row-room = writing-room _ _ at _ _ _ room rows-left
+    row_room : RoomAt (area_layout (sides_in x) s g).rows at new
+    row_room = writing_room _ _ at _ _ _ room rows-left
 
     row-fits : at + a.row_runs * 4 ≤ length new
-    row-fits = omega (arith, row-numbers, row-room)
+    row-fits = omega (arith, row-numbers, row_room)
 
-    rows-next : (new' : List ℕ) → new' ≡ putAt (rowsAt x s g a.permille) at new
-        → Writing (rowRunsOf (all x s areas)) old (at + a.row_runs * 4) (rowRunsOf (from x s areas (i + 1))) new'
-    unfolding areaLayout
-    rows-next new' e = writing-more _ _ at _ _ new _ new' row-room (rows-put x s g (scale x s g) a came-to at new new' e) rows-left
+    rows-next : (new' : List ℕ) → new' ≡ put_at (rows_at x s g a.permille) at new
+        → Writing (row_runs_of (all x s areas)) old (at + a.row_runs * 4) (row_runs_of (from x s areas (i + 1))) new'
+    unfolding area_layout
+    rows-next new' e = writing_more _ _ at _ _ new _ new' row_room (rows_put x s g (scale x s g) a came_to at new new' e) rows-left
 
   -- of the columns
-  module _ (old : List ℕ) (at : ℕ) (new : List ℕ) (room : Room (columnRunsOf (all x s areas)) old)
-      (w : Writing (columnRunsOf (all x s areas)) old at (columnRunsOf (from x s areas i)) new) where
-    columns-left : Writing (columnRunsOf (all x s areas)) old at ((areaLayout (sidesIn x) s g).columns ++ columnRunsOf (from x s areas (i + 1))) new
-    columns-left = subst (λ (rs : List Run). Writing (columnRunsOf (all x s areas)) old at rs new) (left (λ (k : AreaLayout). k.columns)) w
+  module _ (old : List ℕ) (at : ℕ) (new : List ℕ) (room : Room (column_runs_of (all x s areas)) old)
+      (w : Writing (column_runs_of (all x s areas)) old at (column_runs_of (from x s areas i)) new) where
+    columns-left : Writing (column_runs_of (all x s areas)) old at ((area_layout (sides_in x) s g).columns ++ column_runs_of (from x s areas (i + 1))) new
+    columns-left = subst (λ (rs : List Run). Writing (column_runs_of (all x s areas)) old at rs new) (left (λ (k : AreaLayout). k.columns)) w
 
-    column-room : RoomAt (areaLayout (sidesIn x) s g).columns at new
-    column-room = writing-room _ _ at _ _ _ room columns-left
+    column_room : RoomAt (area_layout (sides_in x) s g).columns at new
+    column_room = writing_room _ _ at _ _ _ room columns-left
 
     column-fits : at + a.column_runs * 4 ≤ length new
-    column-fits = omega (arith, column-numbers, column-room)
+    column-fits = omega (arith, column-numbers, column_room)
 
-    columns-next : (new' : List ℕ) → new' ≡ putAt (columnsAt x s g a.permille) at new
-        → Writing (columnRunsOf (all x s areas)) old (at + a.column_runs * 4) (columnRunsOf (from x s areas (i + 1))) new'
-    unfolding areaLayout
-    columns-next new' e = writing-more _ _ at _ _ new _ new' column-room (columns-put x s g (scale x s g) a came-to at new new' e) columns-left
+    columns-next : (new' : List ℕ) → new' ≡ put_at (columns_at x s g a.permille) at new
+        → Writing (column_runs_of (all x s areas)) old (at + a.column_runs * 4) (column_runs_of (from x s areas (i + 1))) new'
+    unfolding area_layout
+    columns-next new' e = writing_more _ _ at _ _ new _ new' column_room (columns_put x s g (scale x s g) a came_to at new new' e) columns-left
 
-  can-write : (rowAt columnAt : ℕ) (rows columns : List ℕ) → RoomAt (areaLayout (sidesIn x) s g).rows rowAt rows
-      → RoomAt (areaLayout (sidesIn x) s g).columns columnAt columns → Writable x s g a rowAt columnAt rows columns
-  unfolding areaLayout
-  can-write rowAt columnAt rows columns hr hc = writable x s g (scale x s g) a came-to rowAt columnAt rows columns hr hc
+  can-write : (row_at column_at : ℕ) (rows columns : List ℕ) → RoomAt (area_layout (sides_in x) s g).rows row_at rows
+      → RoomAt (area_layout (sides_in x) s g).columns column_at columns → Writable x s g a row_at column_at rows columns
+  unfolding area_layout
+  can-write row_at column_at rows columns hr hc = writable x s g (scale x s g) a came_to row_at column_at rows columns hr hc
 
 pub write_area_runs-requires-clause-settled : goal.write_area_runs-requires-clause-settled
 write_area_runs-requires-clause-settled c =
@@ -106,10 +106,10 @@ write_area_runs-requires-clause-settled c =
     let q = c.requires.settled in
     let g = c.area_at-range in
     let p = c.plan_at-area in
-    let rows = row-room a.shared _ a.areas c.requires.fine_areas l.i c.loop-i-test.true _ g.ensures _ q.1 _ p.ensures a.row_runs.now l.row_at
-    l.row_runs q.2.row-room l.invariant.rows in
-    let columns = column-room a.shared _ a.areas c.requires.fine_areas l.i c.loop-i-test.true _ g.ensures _ q.1 _ p.ensures a.column_runs.now
-    l.column_at l.column_runs q.2.column-room l.invariant.columns in (
+    let rows = row_room a.shared _ a.areas c.requires.fine_areas l.i c.loop-i-test.true _ g.ensures _ q.1 _ p.ensures a.row_runs.now l.row_at
+    l.row_runs q.2.row_room l.invariant.rows in
+    let columns = column_room a.shared _ a.areas c.requires.fine_areas l.i c.loop-i-test.true _ g.ensures _ q.1 _ p.ensures a.column_runs.now
+    l.column_at l.column_runs q.2.column_room l.invariant.columns in (
       q.0,
       can-write a.shared _ a.areas c.requires.fine_areas l.i c.loop-i-test.true _ g.ensures _ q.1 _ p.ensures l.row_at l.column_at l.row_runs
           l.column_runs rows columns,
@@ -124,7 +124,7 @@ overflow_mul-row_at c =
     let l = c.loop-i in
     let q = c.requires.settled in
     let fits = row-fits a.shared _ a.areas c.requires.fine_areas l.i c.loop-i-test.true _ c.area_at-range.ensures _ q.1 _
-    c.plan_at-area.ensures a.row_runs.now l.row_at l.row_runs q.2.row-room l.invariant.rows in
+    c.plan_at-area.ensures a.row_runs.now l.row_at l.row_runs q.2.row_room l.invariant.rows in
     omega (arith, fits)
 
 pub overflow_add-row_at : goal.overflow_add-row_at
@@ -133,7 +133,7 @@ overflow_add-row_at c =
     let l = c.loop-i in
     let q = c.requires.settled in
     let fits = row-fits a.shared _ a.areas c.requires.fine_areas l.i c.loop-i-test.true _ c.area_at-range.ensures _ q.1 _
-    c.plan_at-area.ensures a.row_runs.now l.row_at l.row_runs q.2.row-room l.invariant.rows in
+    c.plan_at-area.ensures a.row_runs.now l.row_at l.row_runs q.2.row_room l.invariant.rows in
     omega (arith, fits)
 
 pub overflow_mul-column_at : goal.overflow_mul-column_at
@@ -142,7 +142,7 @@ overflow_mul-column_at c =
     let l = c.loop-i in
     let q = c.requires.settled in
     let fits = column-fits a.shared _ a.areas c.requires.fine_areas l.i c.loop-i-test.true _ c.area_at-range.ensures _ q.1 _
-    c.plan_at-area.ensures a.column_runs.now l.column_at l.column_runs q.2.column-room l.invariant.columns in
+    c.plan_at-area.ensures a.column_runs.now l.column_at l.column_runs q.2.column_room l.invariant.columns in
     omega (arith, fits)
 
 pub overflow_add-column_at : goal.overflow_add-column_at
@@ -151,7 +151,7 @@ overflow_add-column_at c =
     let l = c.loop-i in
     let q = c.requires.settled in
     let fits = column-fits a.shared _ a.areas c.requires.fine_areas l.i c.loop-i-test.true _ c.area_at-range.ensures _ q.1 _
-    c.plan_at-area.ensures a.column_runs.now l.column_at l.column_runs q.2.column-room l.invariant.columns in
+    c.plan_at-area.ensures a.column_runs.now l.column_at l.column_runs q.2.column_room l.invariant.columns in
     omega (arith, fits)
 
 pub loop-i-preserved : goal.loop-i-preserved
@@ -163,10 +163,10 @@ loop-i-preserved c =
       within = omega (arith, c.loop-i-test.true);
       rows =
           rows-next a.shared _ a.areas c.requires.fine_areas l.i c.loop-i-test.true _ c.area_at-range.ensures _ q.1 _ c.plan_at-area.ensures
-          a.row_runs.now l.row_at l.row_runs q.2.row-room l.invariant.rows _ c.write_area_runs.ensures.0;
+          a.row_runs.now l.row_at l.row_runs q.2.row_room l.invariant.rows _ c.write_area_runs.ensures.0;
       columns =
           columns-next a.shared _ a.areas c.requires.fine_areas l.i c.loop-i-test.true _ c.area_at-range.ensures _ q.1 _ c.plan_at-area.ensures
-          a.column_runs.now l.column_at l.column_runs q.2.column-room l.invariant.columns _ c.write_area_runs.ensures.1;
+          a.column_runs.now l.column_at l.column_runs q.2.column_room l.invariant.columns _ c.write_area_runs.ensures.1;
     }
 
 pub returns : goal.returns
@@ -174,8 +174,8 @@ unfolding joined
 returns c =
     let a = c.args in
     let l = c.loop-i in
-    let none : drop l.i (areasIn a.areas) ≡ [] =
-    drop_of_length-le (areasIn a.areas) {i = l.i} (omega (arith, long a.areas c.requires.fine_areas, c.loop-i-test.false)) in (
-      (writing-done _ _ l.row_at _ (rw none at l.invariant.rows)).list-is,
-      (writing-done _ _ l.column_at _ (rw none at l.invariant.columns)).list-is,
+    let none : drop l.i (areas_in a.areas) ≡ [] =
+    drop_of_length-le (areas_in a.areas) {i = l.i} (omega (arith, long a.areas c.requires.fine_areas, c.loop-i-test.false)) in (
+      (writing_done _ _ l.row_at _ (rw none at l.invariant.rows)).list_is,
+      (writing_done _ _ l.column_at _ (rw none at l.invariant.columns)).list_is,
     )

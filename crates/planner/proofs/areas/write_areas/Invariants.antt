@@ -1,22 +1,22 @@
 -- The runs of so many areas are written.
 use Rattle.std.proofs.Common.{◌-◌, ◌≤◌, drop}
-use Rattle.planner_rules.specs.Areas.{areasIn}
-use Rattle.planner_rules.specs.Plan.{layoutsOf, rowRunsOf, columnRunsOf}
-use Rattle.planner_rules.specs.Steps.{sheetBy, sidesIn}
+use Rattle.planner_rules.specs.Areas.{areas_in}
+use Rattle.planner_rules.specs.Plan.{layouts_of, row_runs_of, column_runs_of}
+use Rattle.planner_rules.specs.Steps.{sheet_by, sides_in}
 use Rattle.planner_rules.proofs.Lent.{Writing}
 use Rattle.planner.proofs.areas.write_areas.Given as goal
 
 abbrev pub invariant-loop-i : goal.invariant-loop-i
 invariant-loop-i l =
     let sheet =
-    sheetBy l.shared l.row_indexes l.row_sizes l.column_indexes l.column_sizes l.merge_first_rows l.merge_first_columns l.merge_last_rows
+    sheet_by l.shared l.row_indexes l.row_sizes l.column_indexes l.column_sizes l.merge_first_rows l.merge_first_columns l.merge_last_rows
     l.merge_last_columns l.row_breaks l.column_breaks in
-    let all = layoutsOf (sidesIn l.shared) sheet (areasIn l.areas) in
-    let left = layoutsOf (sidesIn l.shared) sheet (drop l.i (areasIn l.areas)) in
+    let all = layouts_of (sides_in l.shared) sheet (areas_in l.areas) in
+    let left = layouts_of (sides_in l.shared) sheet (drop l.i (areas_in l.areas)) in
     record {
       within : l.i ≤ l.areas.count;
-      rows : Writing (rowRunsOf all) l.fn.row_runs l.row_at (rowRunsOf left) l.row_runs;
-      columns : Writing (columnRunsOf all) l.fn.column_runs l.column_at (columnRunsOf left) l.column_runs;
+      rows : Writing (row_runs_of all) l.fn.row_runs l.row_at (row_runs_of left) l.row_runs;
+      columns : Writing (column_runs_of all) l.fn.column_runs l.column_at (column_runs_of left) l.column_runs;
     }
 
 abbrev pub decreases-loop-i : goal.decreases-loop-i

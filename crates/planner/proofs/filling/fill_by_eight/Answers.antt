@@ -1,7 +1,7 @@
 -- Eight slots that stay within the capacity together are eight that the definition takes.
 use Rattle.std.proofs.Common.{arith}
 use Rattle.planner_rules.specs.Slots.{sum}
-use Rattle.planner_rules.proofs.Laws.{more-part, natural-start, sum-one, sum-many}
+use Rattle.planner_rules.proofs.Laws.{more_part, natural_start, sum_one, sum_many}
 use Rattle.planner.proofs.filling.fill_by_eight.Goals as goal
 
 pub loop-n-init : goal.loop-n-init
@@ -11,8 +11,8 @@ loop-n-init c =
       omega arith,
       omega arith,
       omega (arith, c.requires.small.each 0),
-      natural-start _ _ c.requires.sizes_nonzero,
-      omega (arith, sum-one 0 xs c.requires.sizes_nonzero),
+      natural_start _ _ c.requires.sizes_nonzero,
+      omega (arith, sum_one 0 xs c.requires.sizes_nonzero),
     )
 
 pub loop-n-preserved : goal.loop-n-preserved
@@ -23,6 +23,6 @@ loop-n-preserved c =
       omega arith,
       omega arith,
       omega (arith, e.upper_bound),
-      rw e.value (omega (arith, more-part c.args.capacity l.sum 8 l.n xs (omega arith) (omega (arith, e.value)))),
-      omega (arith, l.invariant.4, e.value, sum-many l.n 8 xs),
+      rw e.value (omega (arith, more_part c.args.capacity l.sum 8 l.n xs (omega arith) (omega (arith, e.value)))),
+      omega (arith, l.invariant.4, e.value, sum_many l.n 8 xs),
     )

@@ -1,6 +1,6 @@
 -- A size further down is one more of the sum.
 use Rattle.std.proofs.Common.{◌-◌, arith}
-use Rattle.planner_rules.proofs.Laws.{sum-back, sum-none}
+use Rattle.planner_rules.proofs.Laws.{sum_back, sum-none}
 use Rattle.planner.proofs.filling.total.Goals as goal
 
 pub loop-i-init : goal.loop-i-init
@@ -11,5 +11,5 @@ loop-i-preserved c =
     let l = c.loop-i in (
       omega arith,
       omega (arith, c.requires.each (l.i - 1)),
-      omega (arith, sum-back c.args.sizes.now l.i (omega arith) l.invariant.0),
+      omega (arith, sum_back c.args.sizes.now l.i (omega arith) l.invariant.0),
     )

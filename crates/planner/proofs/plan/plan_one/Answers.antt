@@ -7,17 +7,17 @@ use Rattle.planner_rules.specs.declared.planning.CountedAreas.{CountedAreas}
 use Rattle.planner_rules.specs.declared.planning.Shared.{Shared}
 use Rattle.planner_rules.specs.Runs.{Run}
 use Rattle.planner_rules.specs.Slots.{written}
-use Rattle.planner_rules.specs.Lent.{roomIn, flat}
+use Rattle.planner_rules.specs.Lent.{room_in, flat}
 use Rattle.planner_rules.specs.Pages.{joined}
 use Rattle.planner_rules.specs.Scale.{Scale}
-use Rattle.planner_rules.specs.Plan.{Sheet, AreaLayout, planIn, rowsIn, columnsIn, chosenScale, areaLayout, layout, layoutsOf, roomNo}
-use Rattle.planner_rules.specs.Plan.{rowRunsOf, columnRunsOf}
-use Rattle.planner_rules.specs.Steps.{sidesIn, framesOf, countedOf, Added, Writable, putAt, rowsAt, columnsAt}
-use Rattle.planner_rules.proofs.Lent.{room-runs}
-use Rattle.planner_rules.proofs.AreaLaws.{row-startable, column-startable, row-cuttable, column-cuttable, chosen-counted}
-use Rattle.planner_rules.proofs.AreaLaws.{range-is, writable, rows-put, columns-put}
-use Rattle.planner_rules.proofs.AreasLaws.{few-none, counted-next}
-use Rattle.planner_rules.proofs.PlanLaws.{refuses-plan, answers-plan, room-refused, room-given, runs-fit, plan-value}
+use Rattle.planner_rules.specs.Plan.{Sheet, AreaLayout, plan_in, rows_in, columns_in, chosen_scale, area_layout, layout, layouts_of, room_no}
+use Rattle.planner_rules.specs.Plan.{row_runs_of, column_runs_of}
+use Rattle.planner_rules.specs.Steps.{sides_in, frames_of, counted_of, Added, Writable, put_at, rows_at, columns_at}
+use Rattle.planner_rules.proofs.Lent.{room_runs}
+use Rattle.planner_rules.proofs.AreaLaws.{row_startable, column_startable, row_cuttable, column_cuttable, chosen_counted}
+use Rattle.planner_rules.proofs.AreaLaws.{range_is, writable, rows_put, columns_put}
+use Rattle.planner_rules.proofs.AreasLaws.{few_none, counted_next}
+use Rattle.planner_rules.proofs.PlanLaws.{refuses_plan, answers_plan, room_refused, room_given, runs_fit_lem, plan_value}
 use Rattle.planner.proofs.plan.plan_one.Goals as goal
 
 -- the runs of an area that stands alone are those of all areas
@@ -25,112 +25,112 @@ alone : (rs : List Run) → joined (rs ∷ []) ≡ rs
 unfolding joined
 alone rs = append-nil rs
 
-module _ (x : Shared) (s : Sheet) (g : PrintRange) (k : CountedArea) (e : k ≡ (areaLayout (sidesIn x) s g).counted) where
+module _ (x : Shared) (s : Sheet) (g : PrintRange) (k : CountedArea) (e : k ≡ (area_layout (sides_in x) s g).counted) where
   abbrev laid : AreaLayout
-  laid = areaLayout (sidesIn x) s g
+  laid = area_layout (sides_in x) s g
 
   abbrev scale : Scale
-  scale = chosenScale s.settings (sidesIn x) (rowsIn s g) (columnsIn s g)
+  scale = chosen_scale s.settings (sides_in x) (rows_in s g) (columns_in s g)
 
-  all-counted : (r : CountedAreas) → Added r (countedOf []) 0 k → r ≡ countedOf (layoutsOf (sidesIn x) s (g ∷ []))
-  all-counted r w = counted-next (sidesIn x) s (g ∷ []) 0 g (omega arith) refl (omega arith) (countedOf []) r k refl e w
+  all-counted : (r : CountedAreas) → Added r (counted_of []) 0 k → r ≡ counted_of (layouts_of (sides_in x) s (g ∷ []))
+  all-counted r w = counted_next (sides_in x) s (g ∷ []) 0 g (omega arith) refl (omega arith) (counted_of []) r k refl e w
 
-  came-to : k.area ≡ planIn laid
-  came-to = ap (λ (c : CountedArea). c.area) e
+  came_to : k.area ≡ plan_in laid
+  came_to = ap (λ (c : CountedArea). c.area) e
 
-  can-write : (h : PrintRange) → h ≡ g → (rows columns : List ℕ) → length (rowRunsOf (laid ∷ [])) ≤ roomIn rows
-      → length (columnRunsOf (laid ∷ [])) ≤ roomIn columns → Writable x s h k.area 0 0 rows columns
-  unfolding areaLayout
+  can-write : (h : PrintRange) → h ≡ g → (rows columns : List ℕ) → length (row_runs_of (laid ∷ [])) ≤ room_in rows
+      → length (column_runs_of (laid ∷ [])) ≤ room_in columns → Writable x s h k.area 0 0 rows columns
+  unfolding area_layout
   can-write h q rows columns hr hc =
-      rw q (writable x s g scale k.area came-to 0 0 rows columns
-      (omega (arith, room-runs laid.rows rows (rw (alone laid.rows) at hr)))
-      (omega (arith, room-runs laid.columns columns (rw (alone laid.columns) at hc))))
+      rw q (writable x s g scale k.area came_to 0 0 rows columns
+      (omega (arith, room_runs laid.rows rows (rw (alone laid.rows) at hr)))
+      (omega (arith, room_runs laid.columns columns (rw (alone laid.columns) at hc))))
 
-  rows-written : (old new : List ℕ) → new ≡ putAt (rowsAt x s g k.area.permille) 0 old → new ≡ written (flat (rowRunsOf (laid ∷ []))) old
-  unfolding areaLayout
+  rows-written : (old new : List ℕ) → new ≡ put_at (rows_at x s g k.area.permille) 0 old → new ≡ written (flat (row_runs_of (laid ∷ []))) old
+  unfolding area_layout
   rows-written old new h =
-      (rows-put x s g scale k.area came-to 0 old new h).list-is ∙ ap (λ (rs : List Run). written (flat rs) old) (sym (alone laid.rows))
+      (rows_put x s g scale k.area came_to 0 old new h).list_is ∙ ap (λ (rs : List Run). written (flat rs) old) (sym (alone laid.rows))
 
-  columns-written : (old new : List ℕ) → new ≡ putAt (columnsAt x s g k.area.permille) 0 old
-      → new ≡ written (flat (columnRunsOf (laid ∷ []))) old
-  unfolding areaLayout
+  columns-written : (old new : List ℕ) → new ≡ put_at (columns_at x s g k.area.permille) 0 old
+      → new ≡ written (flat (column_runs_of (laid ∷ []))) old
+  unfolding area_layout
   columns-written old new h =
-      (columns-put x s g scale k.area came-to 0 old new h).list-is ∙ ap (λ (rs : List Run). written (flat rs) old) (sym (alone laid.columns))
+      (columns_put x s g scale k.area came_to 0 old new h).list_is ∙ ap (λ (rs : List Run). written (flat rs) old) (sym (alone laid.columns))
 
 pub ready_area-ready-requires-clause-startable_rows : goal.ready_area-ready-requires-clause-startable_rows
 ready_area-ready-requires-clause-startable_rows c =
     let a = c.args in
-    row-startable a.shared _ c.requires.settled a.range c.requires.fine_area
+    row_startable a.shared _ c.requires.settled a.range c.requires.fine_area
 
 pub ready_area-ready-requires-clause-startable_columns : goal.ready_area-ready-requires-clause-startable_columns
 ready_area-ready-requires-clause-startable_columns c =
     let a = c.args in
-    column-startable a.shared _ c.requires.settled a.range c.requires.fine_area
+    column_startable a.shared _ c.requires.settled a.range c.requires.fine_area
 
 pub choose_scale-scale-requires-clause-cuttable_rows : goal.choose_scale-scale-requires-clause-cuttable_rows
 choose_scale-scale-requires-clause-cuttable_rows c =
     let a = c.args in
-    row-cuttable a.shared _ c.requires.settled a.range _ c.ready_area-ready.ensures
+    row_cuttable a.shared _ c.requires.settled a.range _ c.ready_area-ready.ensures
 
 pub choose_scale-scale-requires-clause-cuttable_columns : goal.choose_scale-scale-requires-clause-cuttable_columns
 choose_scale-scale-requires-clause-cuttable_columns c =
     let a = c.args in
-    column-cuttable a.shared _ c.requires.settled a.range _ c.ready_area-ready.ensures
+    column_cuttable a.shared _ c.requires.settled a.range _ c.ready_area-ready.ensures
 
 pub frames_at-frames-requires-clause-low_rows : goal.frames_at-frames-requires-clause-low_rows
 frames_at-frames-requires-clause-low_rows c =
     let a = c.args in
-    (row-cuttable a.shared _ c.requires.settled a.range _ c.ready_area-ready.ensures).low
+    (row_cuttable a.shared _ c.requires.settled a.range _ c.ready_area-ready.ensures).low
 
 pub frames_at-frames-requires-clause-low_columns : goal.frames_at-frames-requires-clause-low_columns
 frames_at-frames-requires-clause-low_columns c =
     let a = c.args in
-    (column-cuttable a.shared _ c.requires.settled a.range _ c.ready_area-ready.ensures).low
+    (column_cuttable a.shared _ c.requires.settled a.range _ c.ready_area-ready.ensures).low
 
 pub count_at-one-requires-clause-cuttable_rows : goal.count_at-one-requires-clause-cuttable_rows
 count_at-one-requires-clause-cuttable_rows c =
     let a = c.args in
-    row-cuttable a.shared _ c.requires.settled a.range _ c.ready_area-ready.ensures
+    row_cuttable a.shared _ c.requires.settled a.range _ c.ready_area-ready.ensures
 
 pub count_at-one-requires-clause-cuttable_columns : goal.count_at-one-requires-clause-cuttable_columns
 count_at-one-requires-clause-cuttable_columns c =
     let a = c.args in
-    column-cuttable a.shared _ c.requires.settled a.range _ c.ready_area-ready.ensures
+    column_cuttable a.shared _ c.requires.settled a.range _ c.ready_area-ready.ensures
 
 pub add_area-counted-requires-clause-few_all : goal.add_area-counted-requires-clause-few_all
 add_area-counted-requires-clause-few_all c =
     let a = c.args in
     let e = c.count_at-one.ensures in
-    let few = (chosen-counted a.shared _ c.requires.settled a.range _ c.ready_area-ready.ensures _ c.choose_scale-scale.ensures _ e.counted e.few_cut).1 in
-    (rw c.no_areas-none.ensures few-none, few)
+    let few = (chosen_counted a.shared _ c.requires.settled a.range _ c.ready_area-ready.ensures _ c.choose_scale-scale.ensures _ e.counted e.few_cut).1 in
+    (rw c.no_areas-none.ensures few_none, few)
 
 pub returns-then-refusal-gt0 : goal.returns-then-refusal-gt0
 returns-then-refusal-gt0 c =
     let a = c.args in
     let e = c.count_at-one.ensures in
-    let one = (chosen-counted a.shared _ c.requires.settled a.range _ c.ready_area-ready.ensures _ c.choose_scale-scale.ensures _ e.counted
+    let one = (chosen_counted a.shared _ c.requires.settled a.range _ c.ready_area-ready.ensures _ c.choose_scale-scale.ensures _ e.counted
     e.few_cut).0 in
     let added = rw c.no_areas-none.ensures at c.add_area-counted.ensures.added in
     let all = all-counted a.shared _ a.range _ one _ added in
-    let asked : c.room_refusal-refusal.result ≡ roomNo c.add_area-counted.result.rows c.add_area-counted.result.columns
-    c.add_area-counted.result.pages (roomIn a.row_runs.now) (roomIn a.column_runs.now) a.shared.settings.page_limit =
+    let asked : c.room_refusal-refusal.result ≡ room_no c.add_area-counted.result.rows c.add_area-counted.result.columns
+    c.add_area-counted.result.pages (room_in a.row_runs.now) (room_in a.column_runs.now) a.shared.settings.page_limit =
     rw (c.room_in.ensures, c.room_in-2.ensures) at c.room_refusal-refusal.ensures in
-    refuses-plan _ _ a.row_runs.now a.column_runs.now
-    (room-refused (sidesIn a.shared) _ (a.range ∷ []) _ all (roomIn a.row_runs.now) (roomIn a.column_runs.now) _ asked c.if-refusal-gt0.true)
+    refuses_plan _ _ a.row_runs.now a.column_runs.now
+    (room_refused (sides_in a.shared) _ (a.range ∷ []) _ all (room_in a.row_runs.now) (room_in a.column_runs.now) _ asked c.if-refusal-gt0.true)
 
 pub write_ready-requires-clause-settled : goal.write_ready-requires-clause-settled
 write_ready-requires-clause-settled c =
     let a = c.args in
-    let same = range-is a.shared a.range a.row_indexes.now a.column_indexes.now _ c.ready_area-ready.ensures in
+    let same = range_is a.shared a.range a.row_indexes.now a.column_indexes.now _ c.ready_area-ready.ensures in
     let e = c.count_at-one.ensures in
-    let one = (chosen-counted a.shared _ c.requires.settled a.range _ c.ready_area-ready.ensures _ c.choose_scale-scale.ensures _ e.counted
+    let one = (chosen_counted a.shared _ c.requires.settled a.range _ c.ready_area-ready.ensures _ c.choose_scale-scale.ensures _ e.counted
     e.few_cut).0 in
     let added = rw c.no_areas-none.ensures at c.add_area-counted.ensures.added in
     let all = all-counted a.shared _ a.range _ one _ added in
-    let asked : c.room_refusal-refusal.result ≡ roomNo c.add_area-counted.result.rows c.add_area-counted.result.columns
-    c.add_area-counted.result.pages (roomIn a.row_runs.now) (roomIn a.column_runs.now) a.shared.settings.page_limit =
+    let asked : c.room_refusal-refusal.result ≡ room_no c.add_area-counted.result.rows c.add_area-counted.result.columns
+    c.add_area-counted.result.pages (room_in a.row_runs.now) (room_in a.column_runs.now) a.shared.settings.page_limit =
     rw (c.room_in.ensures, c.room_in-2.ensures) at c.room_refusal-refusal.ensures in
-    let fit = runs-fit (sidesIn a.shared) _ (a.range ∷ []) _ all (roomIn a.row_runs.now) (roomIn a.column_runs.now) _ asked
+    let fit = runs_fit_lem (sides_in a.shared) _ (a.range ∷ []) _ all (room_in a.row_runs.now) (room_in a.column_runs.now) _ asked
     (omega (arith, c.if-refusal-gt0.false)) in (
       c.requires.settled,
       can-write a.shared _ a.range _ one c.ready_area-ready.result.range same a.row_runs.now a.column_runs.now fit.0 fit.1,
@@ -139,25 +139,25 @@ write_ready-requires-clause-settled c =
 pub write_ready-requires-clause-frames_are : goal.write_ready-requires-clause-frames_are
 write_ready-requires-clause-frames_are c =
     let same = ap (λ (k : CountedArea). k.area.permille) c.count_at-one.ensures.counted in
-    c.frames_at-frames.ensures ∙ ap (framesOf c.ready_area-ready.result) (sym same)
+    c.frames_at-frames.ensures ∙ ap (frames_of c.ready_area-ready.result) (sym same)
 
 pub returns : goal.returns
 unfolding layout
 returns c =
     let a = c.args in
-    let same = range-is a.shared a.range a.row_indexes.now a.column_indexes.now _ c.ready_area-ready.ensures in
+    let same = range_is a.shared a.range a.row_indexes.now a.column_indexes.now _ c.ready_area-ready.ensures in
     let e = c.count_at-one.ensures in
-    let one = (chosen-counted a.shared _ c.requires.settled a.range _ c.ready_area-ready.ensures _ c.choose_scale-scale.ensures _ e.counted
+    let one = (chosen_counted a.shared _ c.requires.settled a.range _ c.ready_area-ready.ensures _ c.choose_scale-scale.ensures _ e.counted
     e.few_cut).0 in
     let added = rw c.no_areas-none.ensures at c.add_area-counted.ensures.added in
     let all = all-counted a.shared _ a.range _ one _ added in
-    let asked : c.room_refusal-refusal.result ≡ roomNo c.add_area-counted.result.rows c.add_area-counted.result.columns
-    c.add_area-counted.result.pages (roomIn a.row_runs.now) (roomIn a.column_runs.now) a.shared.settings.page_limit =
+    let asked : c.room_refusal-refusal.result ≡ room_no c.add_area-counted.result.rows c.add_area-counted.result.columns
+    c.add_area-counted.result.pages (room_in a.row_runs.now) (room_in a.column_runs.now) a.shared.settings.page_limit =
     rw (c.room_in.ensures, c.room_in-2.ensures) at c.room_refusal-refusal.ensures in
-    let room = room-given (sidesIn a.shared) _ (a.range ∷ []) _ all (roomIn a.row_runs.now) (roomIn a.column_runs.now) _ asked
+    let room = room_given (sides_in a.shared) _ (a.range ∷ []) _ all (room_in a.row_runs.now) (room_in a.column_runs.now) _ asked
     (omega (arith, c.if-refusal-gt0.false)) in
     let put = rw same at c.write_ready.ensures in
-    answers-plan _ (layout (sidesIn a.shared) _ (a.range ∷ [])) _ room
-    (c.plan_of.ensures ∙ plan-value a.shared _ c.requires.settled (a.range ∷ []) _ all) a.row_runs.now a.column_runs.now _ _
+    answers_plan _ (layout (sides_in a.shared) _ (a.range ∷ [])) _ room
+    (c.plan_of.ensures ∙ plan_value a.shared _ c.requires.settled (a.range ∷ []) _ all) a.row_runs.now a.column_runs.now _ _
     (rows-written a.shared _ a.range _ one a.row_runs.now _ put.0)
     (columns-written a.shared _ a.range _ one a.column_runs.now _ put.1)

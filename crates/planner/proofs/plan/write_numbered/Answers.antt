@@ -1,27 +1,27 @@
 -- 10 and 14 refuse, and else the area with the number is written.
 use Rattle.std.proofs.Common.{◌≡◌, suc, ◌-◌, sym, arith}
-use Rattle.planner_rules.specs.Steps.{sidesIn}
-use Rattle.planner_rules.proofs.PlanLaws.{refuses-area, relay-area, no-permille, number-zero, number-past, number-is}
+use Rattle.planner_rules.specs.Steps.{sides_in}
+use Rattle.planner_rules.proofs.PlanLaws.{refuses_area, relay_area, no_permille, number_zero, number_past, number_is}
 use Rattle.planner.proofs.plan.write_numbered.Goals as goal
 
 pub returns-then-permille-eq0 : goal.returns-then-permille-eq0
 returns-then-permille-eq0 c =
     let a = c.args in
-    refuses-area _ 10 a.row_runs.now a.column_runs.now
-    (no-permille (sidesIn a.shared) _ a.areas a.number a.permille a.row_runs.now a.column_runs.now c.if-permille-eq0.true)
+    refuses_area _ 10 a.row_runs.now a.column_runs.now
+    (no_permille (sides_in a.shared) _ a.areas a.number a.permille a.row_runs.now a.column_runs.now c.if-permille-eq0.true)
 
 pub returns-then-number-eq0 : goal.returns-then-number-eq0
 returns-then-number-eq0 c =
     let a = c.args in
-    refuses-area _ 14 a.row_runs.now a.column_runs.now
-    (number-zero (sidesIn a.shared) _ a.areas a.number a.permille a.row_runs.now a.column_runs.now (omega (arith, c.if-permille-eq0.false))
+    refuses_area _ 14 a.row_runs.now a.column_runs.now
+    (number_zero (sides_in a.shared) _ a.areas a.number a.permille a.row_runs.now a.column_runs.now (omega (arith, c.if-permille-eq0.false))
     c.if-number-eq0.true)
 
 pub returns-then-number-areas : goal.returns-then-number-areas
 returns-then-number-areas c =
     let a = c.args in
-    refuses-area _ 14 a.row_runs.now a.column_runs.now
-    (number-past (sidesIn a.shared) _ a.areas a.number a.permille a.row_runs.now a.column_runs.now (omega (arith, c.if-permille-eq0.false))
+    refuses_area _ 14 a.row_runs.now a.column_runs.now
+    (number_past (sides_in a.shared) _ a.areas a.number a.permille a.row_runs.now a.column_runs.now (omega (arith, c.if-permille-eq0.false))
     c.requires.fine_areas.few c.if-number-areas.true)
 
 pub write_range-requires-clause-fine_area : goal.write_range-requires-clause-fine_area
@@ -33,7 +33,7 @@ pub returns : goal.returns
 returns c =
     let a = c.args in
     let n : a.number ≡ suc (a.number - 1) = omega (arith, c.if-number-eq0.false) in
-    let e = number-is (sidesIn a.shared) _ a.areas a.number a.permille a.row_runs.now a.column_runs.now
+    let e = number_is (sides_in a.shared) _ a.areas a.number a.permille a.row_runs.now a.column_runs.now
     (omega (arith, c.if-permille-eq0.false)) c.requires.fine_areas.few (a.number - 1) _ n
     (omega (arith, c.if-number-eq0.false, c.if-number-areas.false)) c.area_at-range.ensures in
-    relay-area _ _ _ _ _ _ _ (sym e) c.write_range.ensures
+    relay_area _ _ _ _ _ _ _ (sym e) c.write_range.ensures

@@ -1,9 +1,9 @@
 -- An index below the break, beside one that is not, tells how many are below it.
 use Rattle.std.proofs.Common.{arith}
-use Rattle.planner_rules.proofs.Places.{below-at}
+use Rattle.planner_rules.proofs.Places.{below_at}
 use Rattle.planner.proofs.runs.break_place.Goals as goal
 
 pub returns-then-b-indexes : goal.returns-then-b-indexes
 returns-then-b-indexes c =
     let a = c.args in
-    below-at a.b a.indexes.now c.requires.rising a.prev (omega arith) (omega arith) (omega arith)
+    below_at a.b a.indexes.now c.requires.rising a.prev (omega arith) (omega arith) (omega arith)

@@ -3,17 +3,17 @@ use Rattle.std.proofs.Common.{◌≡◌, false, ℕ, ◌+◌, List, length, drop
 use Rattle.planner_rules.specs.declared.scale.PageSide.{PageSide}
 use Rattle.planner_rules.specs.declared.runs.Frame.{Frame}
 use Rattle.planner_rules.specs.Slots.{mid}
-use Rattle.planner_rules.specs.Runs.{Run, axisRuns, shifts, stretch, axisTally, tallies, runs, expansions}
-use Rattle.planner_rules.specs.Scale.{spaceOf}
+use Rattle.planner_rules.specs.Runs.{Run, axis_runs, shifts, stretch, axis_tally, tallies, runs, expansions}
+use Rattle.planner_rules.specs.Scale.{space_of}
 use Rattle.planner_rules.specs.Pages.{overflowing}
-use Rattle.planner_rules.proofs.AxisLaws.{stretch-length, stretch-expansions, axis-more, axis-end, shifts-more, shifts-end, expansions-append}
-use Rattle.planner_rules.proofs.OverflowLaws.{stretch-overflowing, overflowing-append}
-use Rattle.planner_rules.proofs.Laws.{length-mid, slots-mid}
+use Rattle.planner_rules.proofs.AxisLaws.{stretch_length, stretch_expansions, axis_more, axis_end, shifts_more, shifts_end, expansions-append}
+use Rattle.planner_rules.proofs.OverflowLaws.{stretch_overflowing, overflowing_append}
+use Rattle.planner_rules.proofs.Laws.{length-mid, slots_mid}
 use Rattle.planner.proofs.runs.count_axis.Goals as goal
 
 -- how many of some runs exceed their page
 abbrev exceeding : PageSide → ℕ → Frame → List Run → ℕ
-exceeding page permille k rs = overflowing (spaceOf page) k.title permille false rs
+exceeding page permille k rs = overflowing (space_of page) k.title permille false rs
 
 -- what was counted of the runs between two cuts is of the stretch
 between : (page : PageSide) (permille : ℕ) (k : Frame) (fs ls is ss : List ℕ) (b e n g o : ℕ) →
@@ -22,14 +22,14 @@ between : (page : PageSide) (permille : ℕ) (k : Frame) (fs ls is ss : List ℕ
     (n ≡ length rs) × (g ≡ expansions rs) × (o ≡ exceeding page permille k rs)
     → (n ≡ length here) × (g ≡ expansions here) × (o ≡ exceeding page permille k here)
 between page permille k fs ls is ss b e n g o h = (
-  h.0 ∙ sym (stretch-length k fs ls is ss b e),
-  h.1 ∙ sym (stretch-expansions k fs ls is ss b e),
-  h.2 ∙ sym (stretch-overflowing (spaceOf page) k.title permille k fs ls is ss b e false),
+  h.0 ∙ sym (stretch_length k fs ls is ss b e),
+  h.1 ∙ sym (stretch_expansions k fs ls is ss b e),
+  h.2 ∙ sym (stretch_overflowing (space_of page) k.title permille k fs ls is ss b e false),
 )
 
 pub count_runs-t-requires-clause-slots : goal.count_runs-t-requires-clause-slots
 count_runs-t-requires-clause-slots c =
-    slots-mid c.loop-j.prev _ _ _ (omega (arith, c.next_cut-cut.ensures.prev_le_place.1, c.requires.slots.even)) c.requires.slots
+    slots_mid c.loop-j.prev _ _ _ (omega (arith, c.next_cut-cut.ensures.prev_le_place.1, c.requires.slots.even)) c.requires.slots
 
 pub loop-j-preserved : goal.loop-j-preserved
 loop-j-preserved c =
@@ -42,10 +42,10 @@ loop-j-preserved c =
     let inside = cut.ensures.prev_le_place in
     let counts = between a.page a.permille a.k a.mfirsts.now a.mlasts.now a.indexes.now a.sizes.now l.prev p _ _ _ t.ensures.counts in
     let here = stretch a.k a.mfirsts.now a.mlasts.now a.indexes.now a.sizes.now l.prev p in
-    let there = axisRuns a.k a.mfirsts.now a.mlasts.now a.indexes.now a.sizes.now p (drop (l.j + 1) bs) in
+    let there = axis_runs a.k a.mfirsts.now a.mlasts.now a.indexes.now a.sizes.now p (drop (l.j + 1) bs) in
     let len = length-mid l.prev p a.sizes.now (omega (arith, inside.1, c.requires.slots.even)) in
-    let more = axis-more a.k a.mfirsts.now a.mlasts.now a.indexes.now a.sizes.now l.prev l.j bs cut.result c.loop-j-test.true cut.ensures.value in
-    let shifted = shifts-more a.k a.mfirsts.now a.mlasts.now a.indexes.now a.sizes.now l.prev l.j bs cut.result c.loop-j-test.true cut.ensures.value in (
+    let more = axis_more a.k a.mfirsts.now a.mlasts.now a.indexes.now a.sizes.now l.prev l.j bs cut.result c.loop-j-test.true cut.ensures.value in
+    let shifted = shifts_more a.k a.mfirsts.now a.mlasts.now a.indexes.now a.sizes.now l.prev l.j bs cut.result c.loop-j-test.true cut.ensures.value in (
       omega arith,
       omega (arith, inside.1, c.requires.slots.even),
       omega (arith, t.ensures.bounds.0, len, inside.0, l.invariant.2),
@@ -57,7 +57,7 @@ loop-j-preserved c =
       omega (
         arith,
         ap (exceeding a.page a.permille a.k) more,
-        overflowing-append (spaceOf a.page) a.k.title a.permille false here there,
+        overflowing_append (space_of a.page) a.k.title a.permille false here there,
         counts.2,
         l.invariant.8,
       ),
@@ -65,19 +65,19 @@ loop-j-preserved c =
     )
 
 pub count_runs-t-requires-2-clause-slots : goal.count_runs-t-requires-2-clause-slots
-count_runs-t-requires-2-clause-slots c = slots-mid c.loop-j.prev (length c.args.sizes.now) _ _ (omega arith) c.requires.slots
+count_runs-t-requires-2-clause-slots c = slots_mid c.loop-j.prev (length c.args.sizes.now) _ _ (omega arith) c.requires.slots
 
 pub returns-clause-counts : goal.returns-clause-counts
-unfolding axisTally
+unfolding axis_tally
 returns-clause-counts c =
     let a = c.args in
     let l = c.loop-j in
     let t = c.count_runs-t-2 in
     let bs = a.breaks.now in
     let counts = between a.page a.permille a.k a.mfirsts.now a.mlasts.now a.indexes.now a.sizes.now l.prev (length a.sizes.now) _ _ _ t.ensures.counts in
-    let all = axisRuns a.k a.mfirsts.now a.mlasts.now a.indexes.now a.sizes.now 0 bs in
-    let last = axis-end a.k a.mfirsts.now a.mlasts.now a.indexes.now a.sizes.now l.prev l.j bs c.loop-j-test.false in
-    let still = shifts-end a.k a.mfirsts.now a.mlasts.now a.indexes.now a.sizes.now l.prev l.j bs c.loop-j-test.false in
+    let all = axis_runs a.k a.mfirsts.now a.mlasts.now a.indexes.now a.sizes.now 0 bs in
+    let last = axis_end a.k a.mfirsts.now a.mlasts.now a.indexes.now a.sizes.now l.prev l.j bs c.loop-j-test.false in
+    let still = shifts_end a.k a.mfirsts.now a.mlasts.now a.indexes.now a.sizes.now l.prev l.j bs c.loop-j-test.false in
     let n : l.count + t.result.runs ≡ length all = omega (arith, ap length last, counts.0, l.invariant.6) in
     let g : l.grown + t.result.grown ≡ expansions all = omega (arith, ap expansions last, counts.1, l.invariant.7) in
     let o : l.overflows + t.result.overflows ≡ exceeding a.page a.permille a.k all =

@@ -2,20 +2,20 @@
 use Rattle.std.proofs.Common.{sym, ap, ◌∙◌, arith}
 use Rattle.planner_rules.specs.declared.runs.Held.{Held}
 use Rattle.planner_rules.specs.Runs.{moved}
-use Rattle.planner_rules.proofs.AxisLaws.{placed-zero, placed-past, placed-title, placed-moved}
+use Rattle.planner_rules.proofs.AxisLaws.{placed_zero, placed_past, placed_title, placed_moved}
 use Rattle.planner.proofs.runs.placed_cut.Goals as goal
 
 pub returns-then-p-eq0 : goal.returns-then-p-eq0
-returns-then-p-eq0 c = placed-zero _ _ _ _ _ _ (omega arith)
+returns-then-p-eq0 c = placed_zero _ _ _ _ _ _ (omega arith)
 
 pub returns-then-p-indexes : goal.returns-then-p-indexes
-returns-then-p-indexes c = placed-past _ _ _ _ _ _ (omega arith) (omega arith)
+returns-then-p-indexes c = placed_past _ _ _ _ _ _ (omega arith) (omega arith)
 
 pub returns-then-title_holds : goal.returns-then-title_holds
-returns-then-title_holds c = placed-title _ _ _ _ _ _ (omega arith) (omega arith) (sym c.title_holds.ensures ∙ c.if-title_holds.true)
+returns-then-title_holds c = placed_title _ _ _ _ _ _ (omega arith) (omega arith) (sym c.title_holds.ensures ∙ c.if-title_holds.true)
 
 pub returns : goal.returns
 returns c =
     let a = c.args in
     c.moved_cut.ensures ∙ ap (λ (h : Held). moved h a.prev a.p a.indexes.now) c.holding_merge-held.ensures
-    ∙ placed-moved _ _ _ _ _ _ (omega arith) (omega arith) (sym c.title_holds.ensures ∙ c.if-title_holds.false)
+    ∙ placed_moved _ _ _ _ _ _ (omega arith) (omega arith) (sym c.title_holds.ensures ∙ c.if-title_holds.false)

@@ -1,8 +1,8 @@
 -- Four numbers that are stored one after another stand there.
-use Rattle.planner_rules.proofs.Lent.{four-stored}
+use Rattle.planner_rules.proofs.Lent.{four_stored}
 use Rattle.planner.proofs.runs.put_run.Goals as goal
 
 pub returns-clause-list_after : goal.returns-clause-list_after
 returns-clause-list_after c =
     let a = c.args in
-    rw (c.wide.ensures, c.wide-2.ensures) (four-stored a.list.now a.at a.first a.last a.size a.mark c.requires)
+    rw (c.wide.ensures, c.wide-2.ensures) (four_stored a.list.now a.at a.first a.last a.size a.mark c.requires)

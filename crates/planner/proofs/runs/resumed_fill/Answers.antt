@@ -1,6 +1,6 @@
 -- A slot that goes onto the sum, or restarts it, is one that the definition takes, and one that does neither ends the run.
 use Rattle.std.proofs.Common.{arith}
-use Rattle.planner_rules.proofs.EndLaws.{again-fits, again-title, again-stops, again-end, resumed-start}
+use Rattle.planner_rules.proofs.EndLaws.{again_fits, again_title, again_stops, again_end, resumed_start}
 use Rattle.planner.proofs.runs.resumed_fill.Goals as goal
 
 pub loop-n-init : goal.loop-n-init
@@ -8,7 +8,7 @@ loop-n-init c = (
   omega arith,
   omega arith,
   omega (arith, c.requires.slots.small.each 0),
-  resumed-start c.args.capacity c.args.last c.args.indexes.now c.args.sizes.now (omega (arith, c.requires.slots.even)) (omega arith),
+  resumed_start c.args.capacity c.args.last c.args.indexes.now c.args.sizes.now (omega (arith, c.requires.slots.even)) (omega arith),
 )
 
 pub loop-n-preserved-then-next-capacity : goal.loop-n-preserved-then-next-capacity
@@ -20,7 +20,7 @@ loop-n-preserved-then-next-capacity c =
       omega (arith, c.requires.slots.small.each l.n),
       omega (
         arith,
-        again-fits a.capacity a.last l.sum l.n a.indexes.now a.sizes.now (omega (arith, c.requires.slots.even)) (omega arith) (omega arith),
+        again_fits a.capacity a.last l.sum l.n a.indexes.now a.sizes.now (omega (arith, c.requires.slots.even)) (omega arith) (omega arith),
       ),
     )
 
@@ -30,7 +30,7 @@ returns-then-indexes-n-clause-value c =
     let a = c.args in
     omega (
       arith,
-      again-stops a.capacity a.last l.sum l.n a.indexes.now a.sizes.now (omega (arith, c.requires.slots.even)) (omega arith) (omega arith)
+      again_stops a.capacity a.last l.sum l.n a.indexes.now a.sizes.now (omega (arith, c.requires.slots.even)) (omega arith) (omega arith)
           (omega arith),
     )
 
@@ -43,7 +43,7 @@ loop-n-preserved c =
       omega (arith, c.requires.slots.small.each l.n),
       omega (
         arith,
-        again-title a.capacity a.last l.sum l.n a.indexes.now a.sizes.now (omega (arith, c.requires.slots.even)) (omega arith) (omega arith)
+        again_title a.capacity a.last l.sum l.n a.indexes.now a.sizes.now (omega (arith, c.requires.slots.even)) (omega arith) (omega arith)
             (omega arith),
       ),
     )
@@ -52,4 +52,4 @@ pub returns-clause-value : goal.returns-clause-value
 returns-clause-value c =
     let l = c.loop-n in
     let a = c.args in
-    omega (arith, again-end a.capacity a.last l.sum l.n a.indexes.now a.sizes.now (omega (arith, c.requires.slots.even)))
+    omega (arith, again_end a.capacity a.last l.sum l.n a.indexes.now a.sizes.now (omega (arith, c.requires.slots.even)))

@@ -2,12 +2,12 @@
 use Rattle.std.proofs.Common.{◌≡◌, ℕ, ◌≤◌, List, length, sym, ap, subst, ◌∙◌, arith}
 use Rattle.planner_rules.specs.declared.runs.Frame.{Frame}
 use Rattle.planner_rules.specs.declared.runs.RunEnd.{RunEnd}
-use Rattle.planner_rules.specs.Runs.{natural, filled, merged, runEnd}
-use Rattle.planner_rules.proofs.EndLaws.{Within, merged-within}
+use Rattle.planner_rules.specs.Runs.{natural, filled, merged, run_end}
+use Rattle.planner_rules.proofs.EndLaws.{Within, merged_within}
 use Rattle.planner.proofs.runs.run_end.Goals as goal
 
 within : (k : Frame) (fs ls : List ℕ) (n : ℕ) (is : List ℕ) (r : RunEnd) → r ≡ merged k.lo k.hi fs ls n is → 1 ≤ n → n ≤ length is → Within is r
-within k fs ls n is r e h q = subst (Within is) (sym e) (merged-within k.lo k.hi fs ls n is h q)
+within k fs ls n is r e h q = subst (Within is) (sym e) (merged_within k.lo k.hi fs ls n is h q)
 
 pub taken_slots-n-requires-clause-n_value : goal.taken_slots-n-requires-clause-n_value
 unfolding filled
@@ -22,7 +22,7 @@ size_of-requires-clause-n_in_bounds c =
     (omega (arith, w.1, c.requires.slots.even), c.natural_fill-filling.ensures.sum_value)
 
 pub returns-clause-grown_value : goal.returns-clause-grown_value
-unfolding runEnd
+unfolding run_end
 returns-clause-grown_value c =
     let a = c.args in (
       c.merged_end-end.ensures

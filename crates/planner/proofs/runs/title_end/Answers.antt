@@ -1,8 +1,8 @@
 -- Taking goes on where the title holds the next index, and else ends.
 use Rattle.std.proofs.Common.{ℕ, ◌+◌, ap, ◌∙◌}
 use Rattle.planner_rules.specs.Runs.{resumption}
-use Rattle.planner_rules.proofs.EndLaws.{title-holds, title-before, title-after}
-use Rattle.planner_rules.proofs.Laws.{slots-part}
+use Rattle.planner_rules.proofs.EndLaws.{title_holds, title_before, title_after}
+use Rattle.planner_rules.proofs.Laws.{slots_part}
 use Rattle.planner.proofs.runs.title_end.Goals as goal
 
 pub returns-in_default-clause-value : goal.returns-in_default-clause-value
@@ -10,15 +10,15 @@ unfolding resumption
 returns-in_default-clause-value c = rw c.in_default.is
 
 pub resumed_fill-requires-clause-slots : goal.resumed_fill-requires-clause-slots
-resumed_fill-requires-clause-slots c = slots-part c.args.n c.args.indexes.now c.args.sizes.now c.requires.slots
+resumed_fill-requires-clause-slots c = slots_part c.args.n c.args.indexes.now c.args.sizes.now c.requires.slots
 
 pub returns-then-b-last-clause-value : goal.returns-then-b-last-clause-value
 returns-then-b-last-clause-value c =
     ap (λ (k : ℕ). c.args.n + k) c.resumed_fill.ensures.value
-    ∙ title-holds _ _ _ _ _ _ _ c.in-Pair.is c.if-first-b.true c.if-b-last.true
+    ∙ title_holds _ _ _ _ _ _ _ c.in-Pair.is c.if-first-b.true c.if-b-last.true
 
 pub returns-else-b-last-clause-value : goal.returns-else-b-last-clause-value
-returns-else-b-last-clause-value c = title-after _ _ _ _ _ _ _ c.in-Pair.is c.if-first-b.true c.if-b-last.false
+returns-else-b-last-clause-value c = title_after _ _ _ _ _ _ _ c.in-Pair.is c.if-first-b.true c.if-b-last.false
 
 pub returns-else-first-b-clause-value : goal.returns-else-first-b-clause-value
-returns-else-first-b-clause-value c = title-before _ _ _ _ _ _ _ c.in-Pair.is c.if-first-b.false
+returns-else-first-b-clause-value c = title_before _ _ _ _ _ _ _ c.in-Pair.is c.if-first-b.false

@@ -2,21 +2,21 @@
 use Rattle.std.proofs.Common.{◌≡◌, ℕ, ◌+◌, ◌≤◌, ◌<◌, List, [], ◌++◌, length, get_or, drop, sym, subst, ◌∙◌, arith, append-nil}
 use Rattle.planner_rules.specs.declared.runs.Frame.{Frame}
 use Rattle.planner_rules.specs.declared.runs.Cut.{Cut}
-use Rattle.planner_rules.specs.Runs.{Run, nextCut, stretch, axisRuns}
-use Rattle.planner_rules.proofs.Lent.{Writing, writing-more, writing-room, writing-done}
-use Rattle.planner_rules.proofs.AxisLaws.{axis-more, axis-end}
+use Rattle.planner_rules.specs.Runs.{Run, next_cut, stretch, axis_runs}
+use Rattle.planner_rules.proofs.Lent.{Writing, writing_more, writing_room, writing_done}
+use Rattle.planner_rules.proofs.AxisLaws.{axis_more, axis_end}
 use Rattle.planner.proofs.runs.write_axis.Goals as goal
 
 module _ (k : Frame) (fs ls is ss : List ℕ) (prev j : ℕ) (bs : List ℕ) (whole : List Run) (old : List ℕ) (at : ℕ) (list : List ℕ)
-    (w : Writing whole old at (axisRuns k fs ls is ss prev (drop j bs)) list) where
-  turning : (c : Cut) → j < length bs → c ≡ nextCut k fs ls is prev (get_or bs j 0)
-      → Writing whole old at (stretch k fs ls is ss prev c.place ++ axisRuns k fs ls is ss c.place (drop (j + 1) bs)) list
-  turning c h e = subst (λ (left : List Run). Writing whole old at left list) (axis-more k fs ls is ss prev j bs c h e) w
+    (w : Writing whole old at (axis_runs k fs ls is ss prev (drop j bs)) list) where
+  turning : (c : Cut) → j < length bs → c ≡ next_cut k fs ls is prev (get_or bs j 0)
+      → Writing whole old at (stretch k fs ls is ss prev c.place ++ axis_runs k fs ls is ss c.place (drop (j + 1) bs)) list
+  turning c h e = subst (λ (left : List Run). Writing whole old at left list) (axis_more k fs ls is ss prev j bs c h e) w
 
   ending : length bs ≤ j → Writing whole old at (stretch k fs ls is ss prev (length ss) ++ []) list
   ending h =
       subst (λ (left : List Run). Writing whole old at left list)
-      (axis-end k fs ls is ss prev j bs h ∙ sym (append-nil (stretch k fs ls is ss prev (length ss)))) w
+      (axis_end k fs ls is ss prev j bs h ∙ sym (append-nil (stretch k fs ls is ss prev (length ss)))) w
 
 pub write_stretch-at-requires-clause-room_at : goal.write_stretch-at-requires-clause-room_at
 write_stretch-at-requires-clause-room_at c =
@@ -24,7 +24,7 @@ write_stretch-at-requires-clause-room_at c =
     let a = c.args in
     let w = turning a.k a.mfirsts.now a.mlasts.now a.indexes.now a.sizes.now l.prev l.j a.breaks.now _ _ _ _ l.invariant.2
     c.next_cut-kept.result c.loop-j-test.true c.next_cut-kept.ensures.value in
-    writing-room _ _ l.at _ _ _ c.requires.room w
+    writing_room _ _ l.at _ _ _ c.requires.room w
 
 pub loop-j-preserved : goal.loop-j-preserved
 loop-j-preserved c =
@@ -34,7 +34,7 @@ loop-j-preserved c =
     c.next_cut-kept.result c.loop-j-test.true c.next_cut-kept.ensures.value in (
       omega arith,
       omega (arith, c.next_cut-kept.ensures.prev_le_place.1, c.requires.slots.even),
-      writing-more _ _ l.at _ _ l.list c.write_stretch-at.result _ (writing-room _ _ l.at _ _ _ c.requires.room w) c.write_stretch-at.ensures w,
+      writing_more _ _ l.at _ _ l.list c.write_stretch-at.result _ (writing_room _ _ l.at _ _ _ c.requires.room w) c.write_stretch-at.ensures w,
     )
 
 pub write_stretch-requires-clause-room_at : goal.write_stretch-requires-clause-room_at
@@ -42,7 +42,7 @@ write_stretch-requires-clause-room_at c =
     let l = c.loop-j in
     let a = c.args in
     let w = ending a.k a.mfirsts.now a.mlasts.now a.indexes.now a.sizes.now l.prev l.j a.breaks.now _ _ _ _ l.invariant.2 c.loop-j-test.false in
-    writing-room _ _ l.at _ _ _ c.requires.room w
+    writing_room _ _ l.at _ _ _ c.requires.room w
 
 pub returns : goal.returns
 returns c =
@@ -50,5 +50,5 @@ returns c =
     let a = c.args in
     let w = ending a.k a.mfirsts.now a.mlasts.now a.indexes.now a.sizes.now l.prev l.j a.breaks.now _ _ _ _ l.invariant.2 c.loop-j-test.false in
     let n = c.write_stretch.result in
-    writing-done _ _ (l.at + n) _
-    (writing-more _ _ l.at _ _ l.list n _ (writing-room _ _ l.at _ _ _ c.requires.room w) c.write_stretch.ensures w)
+    writing_done _ _ (l.at + n) _
+    (writing_more _ _ l.at _ _ l.list n _ (writing_room _ _ l.at _ _ _ c.requires.room w) c.write_stretch.ensures w)

@@ -1,7 +1,7 @@
 -- A turn asks the middle, which lies above low and not above high.
 use Rattle.std.proofs.Common.{ℕ, Bool, ◌&&◌, sym, arith}
-use Rattle.planner_rules.specs.Scale.{fitPasses, middle, halve}
-use Rattle.planner_rules.proofs.Halving.{halving-stop, up-at, down-at}
+use Rattle.planner_rules.specs.Scale.{fit_passes, middle, halve}
+use Rattle.planner_rules.proofs.Halving.{halving_stop, up_at, down_at}
 use Rattle.planner.proofs.scale.halved_permille.Goals as goal
 
 pub loop-low-smaller-then-both_pass : goal.loop-low-smaller-then-both_pass
@@ -14,14 +14,14 @@ loop-low-preserved-then-both_pass c =
     let a = c.args in
     let l = c.loop-low in
     let passes : ℕ → Bool = λ p.
-    fitPasses a.rows a.rfirsts.now a.rlasts.now a.rindexes.now a.rsizes.now p
-    && fitPasses a.columns a.cfirsts.now a.clasts.now a.cindexes.now a.csizes.now p in
+    fit_passes a.rows a.rfirsts.now a.rlasts.now a.rindexes.now a.rsizes.now p
+    && fit_passes a.columns a.cfirsts.now a.clasts.now a.cindexes.now a.csizes.now p in
     record {
       from = omega (arith, c.middle_of-middle.ensures, l.invariant.from);
       to = l.invariant.to;
       between = omega (arith, c.middle_of-middle.ensures, c.loop-low-test.true);
       halving =
-          up-at passes (halve passes 10 100 1000) l.low l.high _ c.loop-low-test.true c.middle_of-middle.ensures l.invariant.halving
+          up_at passes (halve passes 10 100 1000) l.low l.high _ c.loop-low-test.true c.middle_of-middle.ensures l.invariant.halving
           (sym c.if-both_pass.ensures);
     }
 
@@ -39,14 +39,14 @@ loop-low-preserved c =
     let a = c.args in
     let l = c.loop-low in
     let passes : ℕ → Bool = λ p.
-    fitPasses a.rows a.rfirsts.now a.rlasts.now a.rindexes.now a.rsizes.now p
-    && fitPasses a.columns a.cfirsts.now a.clasts.now a.cindexes.now a.csizes.now p in
+    fit_passes a.rows a.rfirsts.now a.rlasts.now a.rindexes.now a.rsizes.now p
+    && fit_passes a.columns a.cfirsts.now a.clasts.now a.cindexes.now a.csizes.now p in
     record {
       from = l.invariant.from;
       to = omega (arith, c.middle_of-middle.ensures, c.loop-low-test.true, l.invariant.to);
       between = omega (arith, c.middle_of-middle.ensures, c.loop-low-test.true);
       halving =
-          down-at passes (halve passes 10 100 1000) l.low l.high _ c.loop-low-test.true c.middle_of-middle.ensures l.invariant.halving
+          down_at passes (halve passes 10 100 1000) l.low l.high _ c.loop-low-test.true c.middle_of-middle.ensures l.invariant.halving
           (sym c.if-both_pass.ensures);
     }
 
@@ -55,6 +55,6 @@ returns c =
     let a = c.args in
     let l = c.loop-low in
     let passes : ℕ → Bool = λ p.
-    fitPasses a.rows a.rfirsts.now a.rlasts.now a.rindexes.now a.rsizes.now p
-    && fitPasses a.columns a.cfirsts.now a.clasts.now a.cindexes.now a.csizes.now p in
-    halving-stop passes (halve passes 10 100 1000) l.low l.high c.loop-low-test.false l.invariant.halving
+    fit_passes a.rows a.rfirsts.now a.rlasts.now a.rindexes.now a.rsizes.now p
+    && fit_passes a.columns a.cfirsts.now a.clasts.now a.cindexes.now a.csizes.now p in
+    halving_stop passes (halve passes 10 100 1000) l.low l.high c.loop-low-test.false l.invariant.halving

@@ -1,13 +1,13 @@
 -- Halving from here on gives what halving from 100 to 1,000 does.
 use Rattle.std.proofs.Common.{◌&&◌, ◌≤◌, ◌-◌, ℕ, Bool}
-use Rattle.planner_rules.specs.Scale.{fitPasses, halve}
+use Rattle.planner_rules.specs.Scale.{fit_passes, halve}
 use Rattle.planner_rules.proofs.Halving.{Halving}
 use Rattle.planner.proofs.scale.halved_permille.Given as goal
 
 abbrev pub invariant-loop-low : goal.invariant-loop-low
 invariant-loop-low l =
     let passes : ℕ → Bool = λ p.
-    fitPasses l.rows l.rfirsts l.rlasts l.rindexes l.rsizes p && fitPasses l.columns l.cfirsts l.clasts l.cindexes l.csizes p in
+    fit_passes l.rows l.rfirsts l.rlasts l.rindexes l.rsizes p && fit_passes l.columns l.cfirsts l.clasts l.cindexes l.csizes p in
     record {
       from : 100 ≤ l.low;
       to : l.high ≤ 1000;

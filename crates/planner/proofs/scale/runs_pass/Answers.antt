@@ -4,37 +4,38 @@ use Rattle.planner_rules.specs.declared.titles.Title.{Title}
 use Rattle.planner_rules.specs.declared.runs.RunEnd.{RunEnd}
 use Rattle.planner_rules.specs.declared.runs.Frame.{Frame}
 use Rattle.planner_rules.specs.Slots.{Slots, sum}
-use Rattle.planner_rules.specs.Runs.{ends, runEnd, run, runs}
-use Rattle.planner_rules.specs.Scale.{Space, fitsSide, printed, rendered, spaceOf, titled}
-use Rattle.planner_rules.proofs.Laws.{part, length-part, slots-part, small-take, turn, none, some}
+use Rattle.planner_rules.specs.Runs.{ends, run_end, run, runs}
+use Rattle.planner_rules.specs.Scale.{Space, fits_side, printed, rendered, space_of, titled}
+use Rattle.planner_rules.proofs.Laws.{part, length_part, slots_part, small-take, turn, none, some}
 use Rattle.planner_rules.proofs.TitleLaws.{small-sum}
-use Rattle.planner_rules.proofs.ScaleLaws.{passFrom, too-many, one-out, one-in, all-in}
+use Rattle.planner_rules.proofs.ScaleLaws.{pass_from, too_many, one_out, one_in, all_in}
 use Rattle.planner.proofs.scale.runs_pass.Goals as goal
 
 -- a run of n slots at the head, and what is asked of it and of the runs after it
-module _ (k : Frame) (fs ls is ss : List ℕ) (y : Slots is ss) (h : 0 < length ss) (n g : ℕ) (e : ends n g ≡ runEnd k fs ls is ss) (q : 1 ≤ n) where
+module _ (k : Frame) (fs ls is ss : List ℕ) (y : Slots is ss) (h : 0 < length ss) (n g : ℕ) (e : ends n g ≡ run_end k fs ls is ss) (q : 1 ≤ n) where
   whole : runs k fs ls is ss ≡ run k fs ls is ss ∷ runs k fs ls (part n is) (part n ss)
   unfolding runs run
   whole = turn (run k fs ls) n is ss y h (ap (λ (r : RunEnd). r.slots) e) q
 
   module _ (s : Space) (title : Title) (target p count size : ℕ) (z : size ≡ sum (take n ss)) where
-    asked : fitsSide s p (printed s title false (get_or is 0 0) size) ≡ fitsSide s p (rendered s (titled title) (run k fs ls is ss))
+    asked : fits_side s p (printed s title false (get_or is 0 0) size) ≡ fits_side s p (rendered s (titled title) (run k fs ls is ss))
     unfolding run
-    asked = ap (λ (m : ℕ). fitsSide s p (printed s title false (get_or is 0 0) m)) (z ∙ ap (λ (r : RunEnd). sum (take r.slots ss)) e)
+    asked = ap (λ (m : ℕ). fits_side s p (printed s title false (get_or is 0 0) m)) (z ∙ ap (λ (r : RunEnd). sum (take r.slots ss)) e)
 
-    out : false ≡ fitsSide s p (printed s title false (get_or is 0 0) size) → false ≡ passFrom s (titled title) target p count (runs k fs ls is ss)
-    out f = rw whole (one-out s (titled title) target p count _ _ (sym (f ∙ asked)))
+    out : false ≡ fits_side s p (printed s title false (get_or is 0 0) size) → false ≡ pass_from s (titled title) target p count (runs k fs ls is ss)
+    out f = rw whole (one_out s (titled title) target p count _ _ (sym (f ∙ asked)))
 
-    within : true ≡ fitsSide s p (printed s title false (get_or is 0 0) size)
-        → passFrom s (titled title) target p (count + 1) (runs k fs ls (part n is) (part n ss)) ≡ passFrom s (titled title) target p count (runs k fs ls is ss)
-    within f = rw whole (one-in s (titled title) target p count _ _ (sym (f ∙ asked)))
+    within : true ≡ fits_side s p (printed s title false (get_or is 0 0) size)
+        → pass_from s (titled title) target p (count + 1) (runs k fs ls (part n is) (part n ss))
+        ≡ pass_from s (titled title) target p count (runs k fs ls is ss)
+    within f = rw whole (one_in s (titled title) target p count _ _ (sym (f ∙ asked)))
 
 pub returns-then-not-meets_target : goal.returns-then-not-meets_target
 unfolding runs
 returns-then-not-meets_target c =
     let a = c.args in
     let l = c.loop-ss in
-    too-many (spaceOf a.page) (titled a.frame.title) a.target a.permille l.count (runs a.frame a.mfirsts.now a.mlasts.now l.is.now l.ss.now)
+    too_many (space_of a.page) (titled a.frame.title) a.target a.permille l.count (runs a.frame a.mfirsts.now a.mlasts.now l.is.now l.ss.now)
     (some (run a.frame a.mfirsts.now a.mlasts.now) l.is.now l.ss.now c.loop-ss-test.true l.invariant.slots.even)
     (sym c.if-not-meets_target.ensures) ∙ l.invariant.left
 
@@ -54,7 +55,7 @@ returns-then-not-run_fits c =
     let l = c.loop-ss in
     let r = c.run_end-end in
     let out = out a.frame a.mfirsts.now a.mlasts.now l.is.now l.ss.now l.invariant.slots c.loop-ss-test.true r.result.slots r.result.grown
-    r.ensures.grown_value.0 r.ensures.le_slots.0 (spaceOf a.page) a.frame.title a.target a.permille l.count r.result.size r.ensures.grown_value.1
+    r.ensures.grown_value.0 r.ensures.le_slots.0 (space_of a.page) a.frame.title a.target a.permille l.count r.result.size r.ensures.grown_value.1
     c.if-not-run_fits.ensures in
     out ∙ l.invariant.left
 
@@ -65,13 +66,13 @@ loop-ss-preserved c =
     let r = c.run_end-end in
     let n = r.result.slots in
     let next = within a.frame a.mfirsts.now a.mlasts.now l.is.now l.ss.now l.invariant.slots c.loop-ss-test.true n r.result.grown
-    r.ensures.grown_value.0 r.ensures.le_slots.0 (spaceOf a.page) a.frame.title a.target a.permille l.count r.result.size r.ensures.grown_value.1
+    r.ensures.grown_value.0 r.ensures.le_slots.0 (space_of a.page) a.frame.title a.target a.permille l.count r.result.size r.ensures.grown_value.1
     c.if-not-run_fits.ensures in
     record {
-      slots = slots-part n l.is.now l.ss.now l.invariant.slots;
+      slots = slots_part n l.is.now l.ss.now l.invariant.slots;
       left = next ∙ l.invariant.left;
       met = sym c.if-not-meets_target.ensures;
-      few = omega (arith, length-part n l.ss.now, r.ensures.le_slots, l.invariant.few);
+      few = omega (arith, length_part n l.ss.now, r.ensures.le_slots, l.invariant.few);
     }
 
 pub returns : goal.returns
@@ -79,8 +80,8 @@ unfolding runs
 returns c =
     let a = c.args in
     let l = c.loop-ss in
-    let s = spaceOf a.page in
-    all-in s (titled a.frame.title) a.target a.permille l.count l.invariant.met
-    ∙ ap (passFrom s (titled a.frame.title) a.target a.permille l.count)
+    let s = space_of a.page in
+    all_in s (titled a.frame.title) a.target a.permille l.count l.invariant.met
+    ∙ ap (pass_from s (titled a.frame.title) a.target a.permille l.count)
     (sym (none (run a.frame a.mfirsts.now a.mlasts.now) l.is.now l.ss.now c.loop-ss-test.false))
     ∙ l.invariant.left

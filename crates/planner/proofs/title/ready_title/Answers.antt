@@ -1,9 +1,9 @@
 -- A title that is widened and summed up is ready.
-use Rattle.planner_rules.proofs.AreaLaws.{title-ready}
+use Rattle.planner_rules.proofs.AreaLaws.{title_ready}
 use Rattle.planner.proofs.title.ready_title.Goals as goal
 
 pub returns-clause-title_ready : goal.returns-clause-title_ready
 returns-clause-title_ready c =
     let a = c.args in
-    title-ready a.limit a.title a.indexes.now a.sizes.now a.merge_firsts.now a.merge_lasts.now c.requires.slots c.requires.merge_lasts_value
+    title_ready a.limit a.title a.indexes.now a.sizes.now a.merge_firsts.now a.merge_lasts.now c.requires.slots c.requires.merge_lasts_value
     c.widened_title-widened.result c.widened_title-widened.ensures c.title_total.result c.title_total.ensures

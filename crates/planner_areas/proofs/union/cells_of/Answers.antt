@@ -1,12 +1,12 @@
 -- Up to the next edge every row has as many cells.
 use Rattle.std.proofs.Common.{◌≡◌, ◌-◌, sym, arith}
 use Rattle.std.proofs.Math.Nat.{mul-le-mul_left}
-use Rattle.planner_rules.specs.Union.{cellsIn, unionCells}
-use Rattle.planner_areas.proofs.Totals.{above-none, band}
+use Rattle.planner_rules.specs.Union.{cells_in, union_cells}
+use Rattle.planner_areas.proofs.Totals.{above_none, band}
 use Rattle.planner_areas.proofs.union.cells_of.Goals as goal
 
 pub loop-row-init : goal.loop-row-init
-loop-row-init c = (omega arith, omega arith, sym (above-none c.args.ranges.now))
+loop-row-init c = (omega arith, omega arith, sym (above_none c.args.ranges.now))
 
 pub overflow_mul-cells : goal.overflow_mul-cells
 overflow_mul-cells c =
@@ -29,7 +29,7 @@ loop-row-preserved c =
     (omega (arith, e.ensures.upto), omega (arith, few, e.ensures.past, l.invariant.1), omega (arith, more, l.invariant.2))
 
 pub returns : goal.returns
-unfolding cellsIn unionCells
+unfolding cells_in union_cells
 returns c =
     let e : c.loop-row.row ≡ 1048576 = omega arith in
     rw e at c.loop-row.invariant.2

@@ -1,6 +1,6 @@
 -- Past the last merge nothing is found, and one merge more is compared with what was found behind it.
 use Rattle.std.proofs.Common.{sym, arith}
-use Rattle.planner_rules.proofs.MergeLaws.{onto-end, onto-back}
+use Rattle.planner_rules.proofs.MergeLaws.{onto_end, onto_back}
 use Rattle.planner_cuts.proofs.merges.earliest_of.Goals as goal
 
 pub loop-i-init : goal.loop-i-init
@@ -8,12 +8,12 @@ loop-i-init c =
     let a = c.args in (
       omega (arith, c.shorter-i.ensures),
       omega (arith, c.shorter-i.ensures),
-      sym (onto-end a.lo a.hi a.b a.found c.shorter-i.result a.firsts.now a.lasts.now (omega (arith, c.shorter-i.ensures))),
+      sym (onto_end a.lo a.hi a.b a.found c.shorter-i.result a.firsts.now a.lasts.now (omega (arith, c.shorter-i.ensures))),
     )
 
 pub loop-i-preserved : goal.loop-i-preserved
 loop-i-preserved c =
     let a = c.args in
     let l = c.loop-i in
-    let back = onto-back a.lo a.hi a.b a.found l.i a.firsts.now a.lasts.now (omega arith) (omega arith) (omega arith) in
+    let back = onto_back a.lo a.hi a.b a.found l.i a.firsts.now a.lasts.now (omega arith) (omega arith) (omega arith) in
     (omega arith, omega arith, cc)

@@ -2,21 +2,21 @@
 use Rattle.std.proofs.Common.{◌≡◌, ℕ, ◌+◌, ◌≤◌, ◌<◌, length, get_or, take, sym, ◌∙◌, arith, rules}
 use Rattle.planner_rules.specs.declared.pages.AreaPlan.{AreaPlan}
 use Rattle.planner_rules.specs.declared.pages.AreaPlans.{AreaPlans}
-use Rattle.planner_rules.specs.Areas.{eightPlans, plansIn, noPlan, overAreas}
-use Rattle.planner_rules.proofs.AreaPages.{over-next, over-within, plans-at}
+use Rattle.planner_rules.specs.Areas.{eight_plans, plans_in, no_plan, over_areas}
+use Rattle.planner_rules.proofs.AreaPages.{over_next, over_within, plans_at}
 use Rattle.planner_pages.proofs.areas.runs_before.Goals as goal
 
-more : (f : AreaPlan → ℕ) (areas : AreaPlans) (i : ℕ) (a : AreaPlan) → i < length (plansIn areas) → a ≡ get_or (eightPlans areas) i noPlan
-    → let all = plansIn areas in
-    let runs = overAreas f (take i all) + f a in
-    (runs ≤ overAreas f all) × (runs ≡ overAreas f (take (i + 1) all))
+more : (f : AreaPlan → ℕ) (areas : AreaPlans) (i : ℕ) (a : AreaPlan) → i < length (plans_in areas) → a ≡ get_or (eight_plans areas) i no_plan
+    → let all = plans_in areas in
+    let runs = over_areas f (take i all) + f a in
+    (runs ≤ over_areas f all) × (runs ≡ over_areas f (take (i + 1) all))
 more f areas i a h e =
-    let all = plansIn areas in
-    let same : get_or all i noPlan ≡ a = plans-at areas i h ∙ sym e in
-    (rw same at (over-within f all i h), sym (rw same at (over-next f all i h)))
+    let all = plans_in areas in
+    let same : get_or all i no_plan ≡ a = plans_at areas i h ∙ sym e in
+    (rw same at (over_within f all i h), sym (rw same at (over_next f all i h)))
 
 pub loop-i-init : goal.loop-i-init
-unfolding overAreas
+unfolding over_areas
 loop-i-init c = search rules
 
 pub overflow_add-rows : goal.overflow_add-rows
