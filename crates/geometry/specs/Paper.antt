@@ -1,20 +1,17 @@
 -- Document 01, section "Paper and content". Assumes nothing.
-use Prim.Native.Nat.{ℕ}
-use mathlib.Core.Bool.{Bool, true, false, cond, _&&_}
-use mathlib.Core.List.{List, [], _∷_}
-use lib.Dec.{eqb}
-use lib.IntN.{ℤ, pos}
-use lib.Ieee.{Float, nan, inf, fin, add, div, lt, le, ofInt, round, binary64}
-use Rattle·geometry·specs.specs.declared.paper.Setting.{Setting}
-use Rattle·geometry·specs.specs.declared.paper.Setting.the-variants as code
-use Rattle·geometry·specs.specs.declared.paper.Paper.{Paper}
-use Rattle·geometry·specs.specs.declared.paper.Margins.{Margins}
-use Rattle·geometry·specs.specs.declared.paper.MarginSetting.{MarginSetting}
-use Rattle·geometry·specs.specs.declared.paper.MarginSetting.the-variants as margin
-use Rattle·geometry·specs.specs.declared.paper.Content.{Content}
-use Rattle·geometry·specs.specs.declared.paper.Content.the-variants.{Value, CoordinateOverflow}
-use Rattle·units.specs.Outcome.{Outcome, given, refused, andThen}
-use Rattle·units.specs.Units.{inPixels, inchesToFixed, lessOf}
+use Rattle.std.specs.Prelude.{ℕ, Bool, true, false, cond, ◌&&◌, List, [], ◌∷◌, ℤ, pos, ◌==◌, Float}
+use Rattle.std.specs.Float.{nan, inf, fin, binary64}
+use Rattle.std.specs.Float.Ieee.{add, div, lt, le, of_int, round}
+use Rattle.geometry.specs.declared.paper.Setting.{Setting}
+use Rattle.geometry.specs.declared.paper.Setting.TheVariants as code
+use Rattle.geometry.specs.declared.paper.Paper.{Paper}
+use Rattle.geometry.specs.declared.paper.Margins.{Margins}
+use Rattle.geometry.specs.declared.paper.MarginSetting.{MarginSetting}
+use Rattle.geometry.specs.declared.paper.MarginSetting.TheVariants as margin
+use Rattle.geometry.specs.declared.paper.Content.{Content}
+use Rattle.geometry.specs.declared.paper.Content.TheVariants.{Value, CoordinateOverflow}
+use Rattle.units.specs.Outcome.{Outcome, given, refused, and_then}
+use Rattle.units.specs.Units.{in_pixels, inches_to_fixed, less_of}
 
 -- ---- the list of papers: "Sizes per code are the Rust's list"; of five codes document 02, T-01: "ECMA-376's list decides the geometry"
 
@@ -33,13 +30,13 @@ abbrev pub inches : ℕ → ℕ → ℕ → Sheet
 inches n w h = record { code = n; width = decimal w 1000; height = decimal h 1000 }
 
 -- a sheet by inches with ten decimals
-abbrev pub tenDecimals : ℕ → ℕ → ℕ → Sheet
-tenDecimals n w h = record { code = n; width = decimal w 10000000000; height = decimal h 10000000000 }
+abbrev pub ten_decimals : ℕ → ℕ → ℕ → Sheet
+ten_decimals n w h = record { code = n; width = decimal w 10000000000; height = decimal h 10000000000 }
 
 -- a sheet by millimetres: each divided by 25.4 as f64
 abbrev pub millimetres : ℕ → ℕ → ℕ → Sheet
 millimetres n w h =
-    record { code = n; width = div binary64 (ofInt binary64 (pos w)) (decimal 254 10); height = div binary64 (ofInt binary64 (pos h)) (decimal 254 10) }
+    record { code = n; width = div binary64 (of_int binary64 (pos w)) (decimal 254 10); height = div binary64 (of_int binary64 (pos h)) (decimal 254 10) }
 
 -- "absent means 1": Letter, 8.5 by 11 inches
 unfoldable pub letter : Sheet
@@ -56,10 +53,10 @@ sheets =
     inches 5 8500 14000 ∷
     inches 6 5500 8500 ∷
     inches 7 7250 10500 ∷
-    tenDecimals 8 116929133858 165354330709 ∷
-    tenDecimals 9 82677165354 116929133858 ∷
-    tenDecimals 10 82677165354 116929133858 ∷
-    tenDecimals 11 58267716535 82677165354 ∷
+    ten_decimals 8 116929133858 165354330709 ∷
+    ten_decimals 9 82677165354 116929133858 ∷
+    ten_decimals 10 82677165354 116929133858 ∷
+    ten_decimals 11 58267716535 82677165354 ∷
     millimetres 12 250 353 ∷
     millimetres 13 176 250 ∷
     inches 14 8500 13000 ∷
@@ -94,7 +91,7 @@ requested (code.Given n) = n
 -- the sheet of a code and the number of notes: "An unlisted code resolves to 1 with a note."
 unfoldable pub resolved : ℕ → List Sheet → Sheet × ℕ
 resolved n [] = (letter, 1)
-resolved n (s ∷ rest) = cond (eqb n (s .code)) (s, 0) (resolved n rest)
+resolved n (s ∷ rest) = cond (n == s.code) (s, 0) (resolved n rest)
 
 -- a paper as it lies on the page, its sides in units, and how many codes were not known
 pub record PaperFound : Type 0 where
@@ -106,24 +103,24 @@ pub record PaperFound : Type 0 where
 -- a sheet's sides in units
 abbrev pub upright : Sheet × ℕ → Outcome PaperFound
 upright r =
-    andThen (inchesToFixed (r .0 .width))
-    (λ (w : ℤ). andThen (inchesToFixed (r .0 .height))
-    (λ (h : ℤ). given (record { code = r .0 .code; width = w; height = h; unknown = r .1 })))
+    and_then (inches_to_fixed r.0.width)
+    (λ (w : ℤ). and_then (inches_to_fixed r.0.height)
+    (λ (h : ℤ). given (record { code = r.0.code; width = w; height = h; unknown = r.1 })))
 
 -- "Landscape swaps."
 abbrev pub turned : Bool → PaperFound → PaperFound
-turned true p = record { code = p .code; width = p .height; height = p .width; unknown = p .unknown }
+turned true p = record { code = p.code; width = p.height; height = p.width; unknown = p.unknown }
 turned false p = p
 
 -- the paper of a code, turned where it is landscape: "An unlisted code resolves to 1 with a note. Landscape swaps."
-unfoldable pub paperGeometry : Setting → Bool → Outcome PaperFound
+unfoldable pub paper_geometry : Setting → Bool → Outcome PaperFound
 unfolding resolved sheets
-paperGeometry asked landscape =
-    andThen (upright (resolved (requested asked) sheets)) (λ (p : PaperFound). given (turned landscape p))
+paper_geometry asked landscape =
+    and_then (upright (resolved (requested asked) sheets)) (λ (p : PaperFound). given (turned landscape p))
 
 -- the values of an answer of `paper_geometry`
-abbrev pub paperFound : Paper → PaperFound
-paperFound p = record { code = p .geometry .«paper_code»; width = p .geometry .width .0; height = p .geometry .height .0; unknown = p .«unknown_paper» }
+abbrev pub paper_found : Paper → PaperFound
+paper_found p = record { code = p.geometry.paper_code; width = p.geometry.width.0; height = p.geometry.height.0; unknown = p.unknown_paper }
 
 -- ---- margins: "Six margins travel together"
 
@@ -134,27 +131,27 @@ usable (inf s) = false
 usable (fin s m e) = le (fin false 0 (pos 0)) (fin s m e)
 
 -- a paper side in pixels
-abbrev pub sideInPixels : ℤ → Float
-sideInPixels z = div binary64 (ofInt binary64 z) (ofInt binary64 (pos 1024))
+abbrev pub side_in_pixels : ℤ → Float
+side_in_pixels z = div binary64 (of_int binary64 z) (of_int binary64 (pos 1024))
 
 -- "times 96, is less than the paper width in pixels"
 abbrev pub shorter : Float → ℤ → Bool
-shorter x side = lt (inPixels x) (sideInPixels side)
+shorter x side = lt (in_pixels x) (side_in_pixels side)
 
 -- all six are finite and not negative
-abbrev pub allUsable : Margins → Bool
-allUsable m = usable (m .left) && usable (m .right) && usable (m .top) && usable (m .bottom) && usable (m .header) && usable (m .footer)
+abbrev pub all_usable : Margins → Bool
+all_usable m = usable m.left && usable m.right && usable m.top && usable m.bottom && usable m.header && usable m.footer
 
 -- "They hold when all are finite and at least 0, left plus right, times 96, is less than the paper width in pixels, top plus bottom likewise
 -- against the height, and header and footer each times 96 less than the height."
-unfoldable pub marginsHold : ℤ → ℤ → Margins → Bool
-marginsHold width height m =
-    allUsable m && shorter (add binary64 (m .left) (m .right)) width && shorter (add binary64 (m .top) (m .bottom)) height
-    && shorter (m .header) height && shorter (m .footer) height
+unfoldable pub margins_hold : ℤ → ℤ → Margins → Bool
+margins_hold width height m =
+    all_usable m && shorter (add binary64 m.left m.right) width && shorter (add binary64 m.top m.bottom) height
+    && shorter m.header height && shorter m.footer height
 
 -- "the defaults 0.7, 0.7, 0.75, 0.75, 0.3, 0.3"
-unfoldable pub defaultMargins : Margins
-defaultMargins =
+unfoldable pub default_margins : Margins
+default_margins =
     record { left = decimal 7 10; right = decimal 7 10; top = decimal 75 100; bottom = decimal 75 100; header = decimal 3 10; footer = decimal 3 10 }
 
 -- ---- content
@@ -172,42 +169,42 @@ pub record Placed : Type 0 where
 -- the six lengths together, or the first refusal among them
 abbrev pub placed : Outcome ℤ → Outcome ℤ → Outcome ℤ → Outcome ℤ → Outcome ℤ → Outcome ℤ → ℕ → Outcome Placed
 placed x y width height header footer invalid =
-    andThen x (λ (a : ℤ). andThen y (λ (b : ℤ). andThen width (λ (c : ℤ). andThen height (λ (d : ℤ).
-    andThen header (λ (e : ℤ). andThen footer (λ (f : ℤ).
+    and_then x (λ (a : ℤ). and_then y (λ (b : ℤ). and_then width (λ (c : ℤ). and_then height (λ (d : ℤ).
+    and_then header (λ (e : ℤ). and_then footer (λ (f : ℤ).
     given (record { x = a; y = b; width = c; height = d; header = e; footer = f; invalid = invalid })))))))
 
 -- a side less the margins at its two ends
 abbrev pub between : ℤ → Float → Float → Outcome ℤ
-between side near far = lessOf (lessOf (given side) (inchesToFixed near)) (inchesToFixed far)
+between side near far = less_of (less_of (given side) (inches_to_fixed near)) (inches_to_fixed far)
 
 -- "The footer stands at height - footer - 16,384 and may be negative"
-abbrev pub footerAt : ℤ → Float → Outcome ℤ
-footerAt height footer = lessOf (lessOf (given height) (inchesToFixed footer)) (given (pos 16384))
+abbrev pub footer_at : ℤ → Float → Outcome ℤ
+footer_at height footer = less_of (less_of (given height) (inches_to_fixed footer)) (given (pos 16384))
 
 -- what six margins leave of a paper
-unfoldable pub contentBetween : ℤ → ℤ → Margins → ℕ → Outcome Placed
-contentBetween width height m invalid =
-    placed (inchesToFixed (m .left)) (inchesToFixed (m .top)) (between width (m .left) (m .right)) (between height (m .top) (m .bottom))
-    (inchesToFixed (m .header)) (footerAt height (m .footer)) invalid
+unfoldable pub content_between : ℤ → ℤ → Margins → ℕ → Outcome Placed
+content_between width height m invalid =
+    placed (inches_to_fixed m.left) (inches_to_fixed m.top) (between width m.left m.right) (between height m.top m.bottom)
+    (inches_to_fixed m.header) (footer_at height m.footer) invalid
 
 -- "Otherwise the defaults .. and a note."
-unfoldable pub contentGeometry : ℤ → ℤ → MarginSetting → Outcome Placed
-unfolding marginsHold defaultMargins contentBetween
-contentGeometry width height margin.Absent = contentBetween width height defaultMargins 0
-contentGeometry width height (margin.Given m) =
-    cond (marginsHold width height m) (contentBetween width height m 0) (contentBetween width height defaultMargins 1)
+unfoldable pub content_geometry : ℤ → ℤ → MarginSetting → Outcome Placed
+unfolding margins_hold default_margins content_between
+content_geometry width height margin.Absent = content_between width height default_margins 0
+content_geometry width height (margin.Given m) =
+    cond (margins_hold width height m) (content_between width height m 0) (content_between width height default_margins 1)
 
 -- the values or the number that each case of `Content` stands for
-abbrev pub contentOutcome : Content → Outcome Placed
-contentOutcome (Value g) =
+abbrev pub content_outcome : Content → Outcome Placed
+content_outcome (Value g) =
     given (record {
-      x = g .content .x .0;
-      y = g .content .y .0;
-      width = g .content .width .0;
-      height = g .content .height .0;
-      header = g .«header_y» .0;
+      x = g.content.x.0;
+      y = g.content.y.0;
+      width = g.content.width.0;
+      height = g.content.height.0;
+      header = g.header_y.0;
       footer =
-          g .«footer_y» .0;
-      invalid = g .«invalid_margins»;
+          g.footer_y.0;
+      invalid = g.invalid_margins;
     })
-contentOutcome CoordinateOverflow = refused 10
+content_outcome CoordinateOverflow = refused 10

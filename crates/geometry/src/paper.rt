@@ -1,22 +1,20 @@
 // Paper sizes, and what margins leave of a page: document 01, section "Paper and content".
-use units::Fixed;
-use units::Length;
-use units::Rect;
-use units::inches_to_fixed;
-use units::less;
-ghost use mathlib.Core.Path.{_≡_};
-ghost use lib.IntN.{pos};
-ghost use Rattle·units.specs.Outcome.{given};
-ghost use Rattle·units.specs.Units.{lengthOutcome};
-ghost use Rattle·geometry·specs.specs.Paper as Section;
+ghost use Rattle.std.specs.Prelude.{◌≡◌, pos};
+ghost use Rattle.units.specs.Outcome.{given};
+ghost use Rattle.units.specs.Units.{length_outcome};
+ghost use Rattle.geometry.specs.Paper as Section;
+
+use units::{Fixed, Length, Rect, inches_to_fixed, less};
 
 // A setting that may be absent.
+#[derive(Drop)]
 pub enum Setting {
     Absent,
     Given(u16),
 }
 
 // A paper's code and its sides as they lie on the page.
+#[derive(Drop)]
 pub struct PaperGeometry {
     pub paper_code: u16,
     pub width: Fixed,
@@ -24,12 +22,14 @@ pub struct PaperGeometry {
 }
 
 // What `paper_geometry` answers: the paper, and how many codes were not known (0 or 1).
+#[derive(Drop)]
 pub struct Paper {
     pub geometry: PaperGeometry,
     pub unknown_paper: u64,
 }
 
 // Six margins in inches.
+#[derive(Drop)]
 pub struct Margins {
     pub left: f64,
     pub right: f64,
@@ -39,12 +39,14 @@ pub struct Margins {
     pub footer: f64,
 }
 
+#[derive(Drop)]
 pub enum MarginSetting {
     Absent,
     Given(Margins),
 }
 
 // Where the content, the header and the footer stand, and how many margins did not hold (0 or 1).
+#[derive(Drop)]
 pub struct ContentGeometry {
     pub content: Rect,
     pub header_y: Fixed,
@@ -53,6 +55,7 @@ pub struct ContentGeometry {
 }
 
 // What `content_geometry` answers: the geometry, or the refusal 10.
+#[derive(Drop)]
 pub enum Content {
     Value(ContentGeometry),
     CoordinateOverflow,
@@ -60,8 +63,7 @@ pub enum Content {
 
 // The width of each paper code in units, with its code behind it; 0 where the list lacks the code.
 const WIDTHS: [u32; 71] = [
-    0,
-    835584, // 1
+    0, 835584, // 1
     835584, // 2
     1081344, // 3
     1671168, // 4
@@ -92,51 +94,15 @@ const WIDTHS: [u32; 71] = [
     1253957, // 29
     886284, // 30
     441207, // 31
-    0,
-    0,
-    0,
-    0,
-    0,
-    0,
-    0,
-    0,
-    0,
-    0,
-    967559, // 42
+    0, 0, 0, 0, 0, 0, 0, 0, 0, 0, 967559, // 42
     387024, // 43
-    0,
-    0,
-    0,
-    0,
-    0,
-    0,
-    0,
-    0,
-    0,
-    0,
-    0,
-    0,
-    0,
-    0,
-    0,
-    0,
-    0,
-    0,
-    0,
-    0,
-    0,
-    0,
-    1625499, // 66
-    0,
-    0,
-    0,
-    406375, // 70
+    0, 0, 0, 0, 0, 0, 0, 0, 0, 0, 0, 0, 0, 0, 0, 0, 0, 0, 0, 0, 0, 0, 1625499, // 66
+    0, 0, 0, 406375, // 70
 ];
 
 // The height of each paper code in units, likewise.
 const HEIGHTS: [u32; 71] = [
-    0,
-    1081344, // 1
+    0, 1081344, // 1
     1081344, // 2
     1671168, // 3
     1081344, // 4
@@ -167,50 +133,15 @@ const HEIGHTS: [u32; 71] = [
     1772568, // 29
     1253957, // 30
     626978, // 31
-    0,
-    0,
-    0,
-    0,
-    0,
-    0,
-    0,
-    0,
-    0,
-    0,
-    1366193, // 42
+    0, 0, 0, 0, 0, 0, 0, 0, 0, 0, 1366193, // 42
     572795, // 43
-    0,
-    0,
-    0,
-    0,
-    0,
-    0,
-    0,
-    0,
-    0,
-    0,
-    0,
-    0,
-    0,
-    0,
-    0,
-    0,
-    0,
-    0,
-    0,
-    0,
-    0,
-    0,
-    2298920, // 66
-    0,
-    0,
-    0,
-    572795, // 70
+    0, 0, 0, 0, 0, 0, 0, 0, 0, 0, 0, 0, 0, 0, 0, 0, 0, 0, 0, 0, 0, 0, 2298920, // 66
+    0, 0, 0, 572795, // 70
 ];
 
 // The code that is asked for: absent means 1.
 fn requested(code: Setting) -> u16
-    ensures { λ r. ⌜ r ≡ Section.requested code ⌝ }
+    ensures { result ≡ Section.requested code }
 {
     match code {
         Setting::Absent => 1,
@@ -220,7 +151,7 @@ fn requested(code: Setting) -> u16
 
 // The upright paper of a code that the list has; any other resolves to 1, with a note.
 fn resolved(code: u16) -> Paper
-    ensures { λ r. ⌜ given (Section.paperFound r) ≡ Section.upright (Section.resolved code Section.sheets) ⌝ }
+    ensures { given (Section.paper_found result) ≡ Section.upright (Section.resolved code Section.sheets) }
 {
     let at = code as usize;
     if at < 71 {
@@ -233,7 +164,7 @@ fn resolved(code: u16) -> Paper
 }
 
 fn upright(code: u16, width: u32, height: u32, unknown_paper: u64) -> Paper
-    ensures { λ r. ⌜ Section.paperFound r ≡ record { code = code; width = pos width; height = pos height; unknown = «unknown_paper» } ⌝ }
+    ensures { Section.paper_found result ≡ record { code = code; width = pos width; height = pos height; unknown = unknown_paper } }
 {
     Paper {
         geometry: PaperGeometry {
@@ -247,7 +178,7 @@ fn upright(code: u16, width: u32, height: u32, unknown_paper: u64) -> Paper
 
 // The paper as it lies on the page: landscape swaps its sides.
 fn turned(paper: Paper, landscape: bool) -> Paper
-    ensures { λ r. ⌜ Section.paperFound r ≡ Section.turned landscape (Section.paperFound paper) ⌝ }
+    ensures { Section.paper_found result ≡ Section.turned landscape (Section.paper_found paper) }
 {
     if landscape {
         let upright = paper.geometry;
@@ -267,20 +198,20 @@ fn turned(paper: Paper, landscape: bool) -> Paper
 
 // The paper of a code, Letter where it is absent or unlisted, turned where it is landscape.
 pub fn paper_geometry(code: Setting, landscape: bool) -> Paper
-    ensures { λ r. ⌜ given (Section.paperFound r) ≡ Section.paperGeometry code landscape ⌝ }
+    ensures { given (Section.paper_found result) ≡ Section.paper_geometry code landscape }
 {
     turned(resolved(requested(code)), landscape)
 }
 
 // Finite and at least 0.
 fn usable(inches: f64) -> bool
-    ensures { λ r. ⌜ r ≡ Section.usable inches ⌝ }
+    ensures { result ≡ Section.usable inches }
 {
     (inches >= 0.0) & (inches < 1.0 / 0.0)
 }
 
 fn all_usable(m: Margins) -> bool
-    ensures { λ r. ⌜ r ≡ Section.allUsable m ⌝ }
+    ensures { result ≡ Section.all_usable m }
 {
     usable(m.left)
         & usable(m.right)
@@ -292,13 +223,13 @@ fn all_usable(m: Margins) -> bool
 
 // Whether inches, times 96, is less than a paper side in pixels: each operation rounded as f64.
 fn shorter(inches: f64, side: Fixed) -> bool
-    ensures { λ r. ⌜ r ≡ Section.shorter inches (side .0) ⌝ }
+    ensures { result ≡ Section.shorter inches side.0 }
 {
     inches * 96.0 < std::num::nearest_i64_to_f64(side.raw()) / 1024.0
 }
 
 fn margins_hold(width: Fixed, height: Fixed, m: Margins) -> bool
-    ensures { λ r. ⌜ r ≡ Section.marginsHold (width .0) (height .0) m ⌝ }
+    ensures { result ≡ Section.margins_hold width.0 height.0 m }
 {
     all_usable(m)
         & shorter(m.left + m.right, width)
@@ -318,7 +249,7 @@ const DEFAULT_MARGINS: Margins = Margins {
 
 // What is left of a side after two margins.
 fn between(side: Fixed, near: f64, far: f64) -> Length
-    ensures { λ r. ⌜ lengthOutcome r ≡ Section.between (side .0) near far ⌝ }
+    ensures { length_outcome result ≡ Section.between side.0 near far }
 {
     less(
         less(Length::Value(side), inches_to_fixed(near)),
@@ -328,7 +259,7 @@ fn between(side: Fixed, near: f64, far: f64) -> Length
 
 // Where the footer stands: one line of 16 pixels above its margin.
 fn footer_at(height: Fixed, footer: f64) -> Length
-    ensures { λ r. ⌜ lengthOutcome r ≡ Section.footerAt (height .0) footer ⌝ }
+    ensures { length_outcome result ≡ Section.footer_at height.0 footer }
 {
     less(
         less(Length::Value(height), inches_to_fixed(footer)),
@@ -346,10 +277,8 @@ fn placed(
     footer_y: Length,
     invalid_margins: u64,
 ) -> Content
-    ensures { λ r. ⌜
-        Section.contentOutcome r ≡ Section.placed (lengthOutcome x) (lengthOutcome y) (lengthOutcome width) (lengthOutcome height)
-        (lengthOutcome «header_y») (lengthOutcome «footer_y») «invalid_margins»
-        ⌝ }
+    ensures { Section.content_outcome result ≡ Section.placed (length_outcome x) (length_outcome y) (length_outcome width) (length_outcome height)
+        (length_outcome header_y) (length_outcome footer_y) invalid_margins }
 {
     let Length::Value(x) = x else {
         return Content::CoordinateOverflow;
@@ -384,7 +313,7 @@ fn placed(
 
 // The content between six margins.
 fn content_between(width: Fixed, height: Fixed, m: Margins, invalid_margins: u64) -> Content
-    ensures { λ r. ⌜ Section.contentOutcome r ≡ Section.contentBetween (width .0) (height .0) m «invalid_margins» ⌝ }
+    ensures { Section.content_outcome result ≡ Section.content_between width.0 height.0 m invalid_margins }
 {
     placed(
         inches_to_fixed(m.left),
@@ -399,7 +328,7 @@ fn content_between(width: Fixed, height: Fixed, m: Margins, invalid_margins: u64
 
 // What the margins leave of a paper; margins that do not hold are replaced, all six.
 pub fn content_geometry(paper: PaperGeometry, margins: MarginSetting) -> Content
-    ensures { λ r. ⌜ Section.contentOutcome r ≡ Section.contentGeometry (paper .width .0) (paper .height .0) margins ⌝ }
+    ensures { Section.content_outcome result ≡ Section.content_geometry paper.width.0 paper.height.0 margins }
 {
     let MarginSetting::Given(m) = margins else {
         return content_between(paper.width, paper.height, DEFAULT_MARGINS, 0);

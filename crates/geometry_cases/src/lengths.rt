@@ -1,9 +1,6 @@
 // The worked figures of document 01, section "Units".
-use crate::figures::infinity;
-use crate::figures::nan;
-use crate::figures::say;
-use units::Fixed;
-use units::Length;
+use crate::figures::{infinity, nan, say};
+use units::{Fixed, Length};
 
 fn gives(answer: Length, raw: i64) -> bool {
     match answer {

@@ -1,13 +1,6 @@
 // The worked figures of document 01, section "Paper and content".
-use crate::figures::infinity;
-use crate::figures::nan;
-use crate::figures::say;
-use geometry::Content;
-use geometry::MarginSetting;
-use geometry::Margins;
-use geometry::Paper;
-use geometry::PaperGeometry;
-use geometry::Setting;
+use crate::figures::{infinity, nan, say};
+use geometry::{Content, MarginSetting, Margins, Paper, PaperGeometry, Setting};
 use job_records::float;
 
 fn upright(code: u16) -> Paper {

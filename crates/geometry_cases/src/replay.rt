@@ -7,22 +7,14 @@
 //     p  paper_geometry     0 absent or 1 given, code, landscape 0 or 1
 //     m  content_geometry   width, height, left, right, top, bottom, header, footer
 //     a  content_geometry   width, height; margins absent
-use crate::text::count;
-use crate::text::number;
-use crate::text::word;
-use geometry::Content;
-use geometry::MarginSetting;
-use geometry::Margins;
-use geometry::PaperGeometry;
-use geometry::Setting;
-use hexadecimal::bits;
-use hexadecimal::digit;
-use job_records::float;
-use job_records::signed;
+ghost use Rattle.std.specs.Prelude.{◌<◌};
+
+use crate::text::{count, number, word};
+use geometry::{Content, MarginSetting, Margins, PaperGeometry, Setting};
+use hexadecimal::{bits, digit};
+use job_records::{float, signed};
 use libc::STDIN_FILENO;
-use units::Fixed;
-use units::Length;
-ghost use Prim.Native.Nat.{_<_};
+use units::{Fixed, Length};
 
 // The bytes of a line with its line end.
 const LINE: usize = 138;
@@ -51,7 +43,7 @@ fn well_formed(line: &[u8; LINE]) -> bool {
 
 // The bits of the field with the number k.
 fn field(line: &[u8; LINE], k: usize) -> u64
-    requires { ⌜ k < 8 ⌝ }
+    requires { k < 8 }
 {
     let text = &line[..];
     let start = 2 + 17 * k;
@@ -60,20 +52,20 @@ fn field(line: &[u8; LINE], k: usize) -> u64
 }
 
 fn fixed(line: &[u8; LINE], k: usize) -> Fixed
-    requires { ⌜ k < 8 ⌝ }
+    requires { k < 8 }
 {
     Fixed::from_raw(signed(field(line, k)))
 }
 
 fn inches(line: &[u8; LINE], k: usize) -> f64
-    requires { ⌜ k < 8 ⌝ }
+    requires { k < 8 }
 {
     float(field(line, k))
 }
 
 // A field's last 16 bits.
 fn small(line: &[u8; LINE], k: usize) -> u16
-    requires { ⌜ k < 8 ⌝ }
+    requires { k < 8 }
 {
     (field(line, k) % 65536) as u16
 }

@@ -1,16 +1,16 @@
 // Numbers that stand in text as hexadecimal digits, for programs that replay lines of input.
-ghost use mathlib.Core.Path.{_≡_};
-ghost use Rattle·hexadecimal·specs.specs.Hex.{digitOf, number};
+ghost use Rattle.std.specs.Prelude.{◌≡◌};
+ghost use Rattle.hexadecimal.specs.Hex.{digit_of, number};
 
 fn wide(byte: u8) -> u64
-    ensures { λ r. ⌜ r ≡ byte ⌝ }
+    ensures { result ≡ byte }
 {
     byte as u64
 }
 
 // What a hexadecimal digit stands for, and 16 for any other byte.
 pub fn digit(byte: u8) -> u64
-    ensures { λ r. ⌜ r ≡ digitOf byte ⌝ }
+    ensures { result ≡ digit_of byte }
 {
     if byte < b'0' {
         return 16;
@@ -29,7 +29,7 @@ pub fn digit(byte: u8) -> u64
 
 // The last 64 bits of the number that the digits stand for.
 pub fn bits(digits: &[u8]) -> u64
-    ensures { λ r. ⌜ r ≡ number 0 (now (digits .entry)) ⌝ }
+    ensures { result ≡ number 0 digits.now }
 {
     let mut value = 0;
     let mut i = 0;

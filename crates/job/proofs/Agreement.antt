@@ -1,74 +1,74 @@
 -- "The reader and the plan agree": the plan of a job's bytes is the planner's plan of what was read. Assumes nothing.
-use mathlib.Core.Path.{_≡_, refl, sym}
+use mathlib.Core.Path.{◌≡◌, refl, sym}
 use mathlib.Core.Bool.{true}
 use mathlib.Core.List.{List, []}
 use Prim.Native.Nat.{ℕ}
-use Rattle·units.specs.Outcome.{Outcome, given, andThen}
-use Rattle·planner_rules.specs.declared.planning.Areas.{Areas}
-use Rattle·planner_rules.specs.Plan.{Sheet, planned, counted, areaWritten}
-use Rattle·planner_rules.proofs.QuestionLaws.{both}
-use Rattle·job_questions.specs.declared.Items.{Items}
-use Rattle·job_reader.specs.declared.lists.Job.{Job}
-use Rattle·job_reader.specs.declared.lists.Reading.the-variants.{Value}
-use Rattle·job_records.specs.Records.{records}
-use Rattle·job_questions.specs.Verdict.{questions, question6, inOrder, itemsOf, verdictLent}
-use Rattle·job_reader.specs.Reading.{Lists, evenLists as itemsEven, roomIn, asked, jobOf, readJob, JobRead}
-use Rattle·job_questions.proofs.PassLaws.{All}
-use Rattle·job_reader.proofs.ReadingLaws.{in-order-given, all-given, all-past}
-use Rattle·job_settings.specs.Meaning.{areasFor}
-use Rattle·job·specs.specs.PlanJob.{sheetRead, fronts, jobSheet, jobAreas, planJob, countJob, writeJobArea}
-use Rattle·job·proofs.proofs.ReadLaws.{read-to, sheet-is, areas-are}
+use Rattle.units.specs.Outcome.{Outcome, given, and_then}
+use Rattle.planner_rules.specs.declared.planning.Areas.{Areas}
+use Rattle.planner_rules.specs.Plan.{Sheet, planned, counted, area_written}
+use Rattle.planner_rules.proofs.QuestionLaws.{both}
+use Rattle.job_questions.specs.declared.Items.{Items}
+use Rattle.job_reader.specs.declared.lists.Job.{Job}
+use Rattle.job_reader.specs.declared.lists.Reading.TheVariants.{Value}
+use Rattle.job_records.specs.Records.{records}
+use Rattle.job_questions.specs.Verdict.{questions, question6, in_order, items_of, verdict_lent}
+use Rattle.job_reader.specs.Reading.{Lists, even_lists as items_even, room_in, asked, job_of, read_job, JobRead}
+use Rattle.job_questions.proofs.PassLaws.{All}
+use Rattle.job_reader.proofs.ReadingLaws.{in_order_given, all_given, all_past}
+use Rattle.job_settings.specs.Meaning.{areas_for}
+use Rattle.job.specs.PlanJob.{sheet_read, fronts, job_sheet, job_areas, plan_job, count_job, write_job_area}
+use Rattle.job.proofs.ReadLaws.{read_to, sheet_is, areas_are}
 
 -- what `read_job` read, planned, is what `plan_job` plans; the same of the other two calls
 module _ (s : List ℕ) (before after : Lists) (j : Job) (w : JobRead s (Value j) before after) where
-  given-is : given j ≡ inOrder (asked (itemsEven before) (roomIn before) s) (jobOf (records s))
-  unfolding readJob
-  given-is = w .answer
+  given_is : given j ≡ in_order (asked (items_even before) (room_in before) s) (job_of (records s))
+  unfolding read_job
+  given_is = w.answer
 
-  job-is : j ≡ jobOf (records s)
-  job-is = in-order-given (jobOf (records s)) (jobOf (records s)) (asked (itemsEven before) (roomIn before) s) j given-is .0
+  job_is : j ≡ job_of (records s)
+  job_is = (in_order_given (job_of (records s)) (job_of (records s)) (asked (items_even before) (room_in before) s) j given_is).0
 
   answered : All (questions true s)
   answered =
-      let a = all-given (jobOf (records s)) (asked (itemsEven before) (roomIn before) s) j given-is in
-      let five = a .1 .1 .1 .1 .1 in
-      let six = both (itemsEven before) (question6 true s) (five .0) .1 in
-      let rest = five .1 in (
-        a .0,
+      let a = all_given (job_of (records s)) (asked (items_even before) (room_in before) s) j given_is in
+      let five = a.1.1.1.1.1 in
+      let six = (both (items_even before) (question6 true s) five.0).1 in
+      let rest = five.1 in (
+        a.0,
         (
-          a .1 .0,
+          a.1.0,
           (
-            a .1 .1 .0,
-            (a .1 .1 .1 .0, (a .1 .1 .1 .1 .0, (six, (rest .0, (rest .1 .0, (rest .1 .1 .0, (rest .1 .1 .1 .0, tt))))))),
+            a.1.1.0,
+            (a.1.1.1.0, (a.1.1.1.1.0, (six, (rest.0, (rest.1.0, (rest.1.1.0, (rest.1.1.1.0, tt))))))),
           ),
         ),
       )
 
-  verdict-is : verdictLent true s ≡ given (itemsOf (records s))
-  unfolding verdictLent
-  verdict-is = sym (all-past (itemsOf (records s)) [] (questions true s) answered)
+  verdict_is : verdict_lent true s ≡ given (items_of (records s))
+  unfolding verdict_lent
+  verdict_is = sym (all_past (items_of (records s)) [] (questions true s) answered)
 
   -- the sheet and the areas of what was read
   abbrev sheet : Sheet
-  sheet = sheetRead (j .settings) (fronts (j .items) after)
+  sheet = sheet_read j.settings (fronts j.items after)
 
   abbrev areas : Areas
-  areas = areasFor (j .settings .areas)
+  areas = areas_for j.settings.areas
 
-  same-sheet : sheet ≡ jobSheet s
-  same-sheet = sheet-is s j after job-is (read-to s before after (Value j) w j refl job-is)
+  same_sheet : sheet ≡ job_sheet s
+  same_sheet = sheet_is s j after job_is (read_to s before after (Value j) w j refl job_is)
 
-  same-areas : areas ≡ jobAreas s
-  same-areas = areas-are s j job-is
+  same_areas : areas ≡ job_areas s
+  same_areas = areas_are s j job_is
 
-  pub plan-agrees : (rows columns : List ℕ) → planJob s rows columns ≡ planned sheet areas rows columns
-  unfolding planJob
-  plan-agrees rows columns = rw (verdict-is, same-sheet, same-areas)
+  pub plan_agrees : (rows columns : List ℕ) → plan_job s rows columns ≡ planned sheet areas rows columns
+  unfolding plan_job
+  plan_agrees rows columns = rw (verdict_is, same_sheet, same_areas)
 
-  pub count-agrees : countJob s ≡ counted sheet areas
-  unfolding countJob
-  count-agrees = rw (verdict-is, same-sheet, same-areas)
+  pub count_agrees : count_job s ≡ counted sheet areas
+  unfolding count_job
+  count_agrees = rw (verdict_is, same_sheet, same_areas)
 
-  pub area-agrees : (n p : ℕ) (rows columns : List ℕ) → writeJobArea s n p rows columns ≡ areaWritten sheet areas n p rows columns
-  unfolding writeJobArea
-  area-agrees n p rows columns = rw (verdict-is, same-sheet, same-areas)
+  pub area_agrees : (n p : ℕ) (rows columns : List ℕ) → write_job_area s n p rows columns ≡ area_written sheet areas n p rows columns
+  unfolding write_job_area
+  area_agrees n p rows columns = rw (verdict_is, same_sheet, same_areas)

@@ -1,84 +1,84 @@
 -- What the clauses of a job's answer follow from: the clauses of what was read. Assumes nothing.
-use mathlib.Core.Path.{_≡_, refl}
+use mathlib.Core.Path.{◌≡◌, refl}
 use mathlib.Core.List.{List}
 use Prim.Native.Nat.{ℕ}
 use native.Mathlib.Omega.{arith}
-use Rattle·units.specs.Outcome.{Outcome, given, refused}
-use Rattle·planner_rules.specs.declared.pages.Plan.{Plan}
-use Rattle·planner_rules.specs.declared.planning.Areas.{Areas}
-use Rattle·planner_rules.specs.declared.planning.Settings.{Settings}
-use Rattle·planner_rules.specs.declared.planning.Planning.the-variants.{Refused}
-use Rattle·planner_rules.specs.Plan.{Sheet, Layout, sheetOf}
-use Rattle·planner_rules.proofs.PlanLaws.{refuses-plan}
-use Rattle·job_questions.specs.declared.Items.{Items}
-use Rattle·job_settings.specs.declared.JobSettings.{JobSettings}
-use Rattle·job_reader.specs.declared.lists.Job.{Job}
-use Rattle·job_reader.specs.declared.lists.Reading.{Reading}
-use Rattle·job_reader.specs.declared.lists.Reading.the-variants as reading
-use Rattle·job_reader.specs.Reading.{Lists}
-use Rattle·job_settings.specs.Meaning.{settingsFor, areasFor}
-use Rattle·job·specs.specs.declared.bytes.Wanted.{Wanted}
-use Rattle·job·specs.specs.declared.bytes.Wanted.the-variants.{Plan as ItsPlan, Count, Area}
-use Rattle·job·specs.specs.declared.bytes.Answer.{Answer}
-use Rattle·job·specs.specs.PlanJob.{refusedTo, PlanTold, Told, ListsTold, fronts, ReadTold}
+use Rattle.units.specs.Outcome.{Outcome, given, refused}
+use Rattle.planner_rules.specs.declared.pages.Plan.{Plan}
+use Rattle.planner_rules.specs.declared.planning.Areas.{Areas}
+use Rattle.planner_rules.specs.declared.planning.Settings.{Settings}
+use Rattle.planner_rules.specs.declared.planning.Planning.TheVariants.{Refused}
+use Rattle.planner_rules.specs.Plan.{Sheet, Layout, sheet_of}
+use Rattle.planner_rules.proofs.PlanLaws.{refuses_plan}
+use Rattle.job_questions.specs.declared.Items.{Items}
+use Rattle.job_settings.specs.declared.JobSettings.{JobSettings}
+use Rattle.job_reader.specs.declared.lists.Job.{Job}
+use Rattle.job_reader.specs.declared.lists.Reading.{Reading}
+use Rattle.job_reader.specs.declared.lists.Reading.TheVariants as reading
+use Rattle.job_reader.specs.Reading.{Lists}
+use Rattle.job_settings.specs.Meaning.{settings_for, areas_for}
+use Rattle.job.specs.declared.bytes.Wanted.{Wanted}
+use Rattle.job.specs.declared.bytes.Wanted.TheVariants.{Plan as ItsPlan, Count, Area}
+use Rattle.job.specs.declared.bytes.Answer.{Answer}
+use Rattle.job.specs.PlanJob.{refused_to, PlanTold, Told, ListsTold, fronts, ReadTold}
 
 -- ---- clauses
 
-no-plan : {X : Type 0} (n : ℕ) (plan : Plan) → refused n ≡ given plan → X
-no-plan n plan e = let z : _≡_ {A = ℕ} 0 1 = cc in absurd (omega arith)
+no_plan : {X : Type 0} (n : ℕ) (plan : Plan) → refused n ≡ given plan → X
+no_plan n plan e = let z : ◌≡◌ {A = ℕ} 0 1 = cc in absurd (omega arith)
 
 -- a refusal: nothing is found in it, and nothing was written
-pub refused-plan : (o : Outcome Layout) (s : Sheet) (areas : Areas) (n : ℕ) (rows columns : List ℕ) → o ≡ refused n
+pub refused_plan : (o : Outcome Layout) (s : Sheet) (areas : Areas) (n : ℕ) (rows columns : List ℕ) → o ≡ refused n
     → PlanTold o s areas (Refused n) rows columns rows columns
-refused-plan o s areas n rows columns e = (
-  refuses-plan o n rows columns e,
+refused_plan o s areas n rows columns e = (
+  refuses_plan o n rows columns e,
   (
-    record { covered = λ plan f. no-plan n plan f },
+    record { covered = λ plan f. no_plan n plan f },
     (
-      record { on-rows = λ plan f. no-plan n plan f; on-columns = λ plan f. no-plan n plan f },
-      record { largest = λ plan f. no-plan n plan f; noted = λ plan f. no-plan n plan f },
+      record { on_rows = λ plan f. no_plan n plan f; on_columns = λ plan f. no_plan n plan f },
+      record { largest = λ plan f. no_plan n plan f; noted = λ plan f. no_plan n plan f },
     ),
   ),
 )
 
-pub refused-told : (w : Wanted) {v : Outcome Items} (n : ℕ) → v ≡ refused n → (s : Sheet) (areas : Areas) (rows columns : List ℕ)
-    → Told w v s areas (refusedTo w n) rows columns rows columns
-refused-told ItsPlan n e s areas rows columns = rw e (refused-plan (refused n) s areas n rows columns refl)
-refused-told Count n e s areas rows columns = rw e
-refused-told (Area k p) n e s areas rows columns = rw e (record { answer = refl; rows-are = refl; columns-are = refl })
+pub refused_told : (w : Wanted) {v : Outcome Items} (n : ℕ) → v ≡ refused n → (s : Sheet) (areas : Areas) (rows columns : List ℕ)
+    → Told w v s areas (refused_to w n) rows columns rows columns
+refused_told ItsPlan n e s areas rows columns = rw e (refused_plan (refused n) s areas n rows columns refl)
+refused_told Count n e s areas rows columns = rw e
+refused_told (Area k p) n e s areas rows columns = rw e (record { answer = refl; rows_are = refl; columns_are = refl })
 
 -- of the same job
-pub same-told : (w : Wanted) {v u : Outcome Items} {s t : Sheet} {a b : Areas} → v ≡ u → s ≡ t → a ≡ b → (r : Answer) (rows₀ columns₀ rows columns : List ℕ)
+pub same_told : (w : Wanted) {v u : Outcome Items} {s t : Sheet} {a b : Areas} → v ≡ u → s ≡ t → a ≡ b → (r : Answer) (rows₀ columns₀ rows columns : List ℕ)
     → Told w v s a r rows₀ columns₀ rows columns → Told w u t b r rows₀ columns₀ rows columns
-same-told w e f g r rows₀ columns₀ rows columns t = rw (← e, ← f, ← g) t
+same_told w e f g r rows₀ columns₀ rows columns t = rw (← e, ← f, ← g) t
 
 -- ---- settings and lists
 
 -- the sheet of settings as the planner has them
-abbrev pub sheetBy : Settings → JobSettings → Lists → Sheet
-sheetBy set j l =
-    sheetOf set (j .«row_title») (j .«column_title») (l .row-indexes) (l .row-sizes) (l .column-indexes) (l .column-sizes)
-    (l .merge-first-rows) (l .merge-first-columns) (l .merge-last-rows) (l .merge-last-columns) (l .row-breaks) (l .column-breaks)
+abbrev pub sheet_by : Settings → JobSettings → Lists → Sheet
+sheet_by set j l =
+    sheet_of set j.row_title j.column_title l.row_indexes l.row_sizes l.column_indexes l.column_sizes
+    l.merge_first_rows l.merge_first_columns l.merge_last_rows l.merge_last_columns l.row_breaks l.column_breaks
 
 -- the planner's answer for settings and areas that were made of the job's
-pub lists-told : {w x : Wanted} → w ≡ x → (j : JobSettings) (l : Lists) {set : Settings} {areas : Areas} → set ≡ settingsFor j → areas ≡ areasFor (j .areas)
+pub lists_told : {w x : Wanted} → w ≡ x → (j : JobSettings) (l : Lists) {set : Settings} {areas : Areas} → set ≡ settings_for j → areas ≡ areas_for j.areas
     → (r : Answer) (rows₀ columns₀ rows columns : List ℕ)
-    → ((items : Items) → Told x (given items) (sheetBy set j l) areas r rows₀ columns₀ rows columns) → ListsTold w j l r rows₀ columns₀ rows columns
-lists-told k j l e f r rows₀ columns₀ rows columns t items = rw (k, ← e, ← f) (t items)
+    → ((items : Items) → Told x (given items) (sheet_by set j l) areas r rows₀ columns₀ rows columns) → ListsTold w j l r rows₀ columns₀ rows columns
+lists_told k j l e f r rows₀ columns₀ rows columns t items = rw (k, ← e, ← f) (t items)
 
 -- ---- what was read
 
 -- a reading that is refused, and one that is answered
-pub read-no : (w : Wanted) {got : Reading} {n : ℕ} → got ≡ reading.Refused n → (l : Lists) {r : Answer} → r ≡ refusedTo w n → (rows columns : List ℕ)
+pub read_no : (w : Wanted) {got : Reading} {n : ℕ} → got ≡ reading.Refused n → (l : Lists) {r : Answer} → r ≡ refused_to w n → (rows columns : List ℕ)
     → ReadTold w got l r rows columns rows columns
-read-no w {n = n} k l e rows columns = record {
+read_no w {n = n} k l e rows columns = record {
   no = λ m i. let same : n ≡ m = cc in (rw (← same) e, (refl, refl));
-  yes = λ j i. let z : _≡_ {A = ℕ} 0 1 = cc in absurd (omega arith);
+  yes = λ j i. let z : ◌≡◌ {A = ℕ} 0 1 = cc in absurd (omega arith);
 }
 
-pub read-yes : (w : Wanted) {got : Reading} {j : Job} → got ≡ reading.Value j → (l : Lists) (r : Answer) (rows₀ columns₀ rows columns : List ℕ)
-    → ListsTold w (j .settings) (fronts (j .items) l) r rows₀ columns₀ rows columns → ReadTold w got l r rows₀ columns₀ rows columns
-read-yes w {j = j} k l r rows₀ columns₀ rows columns t = record {
-  no = λ m i. let z : _≡_ {A = ℕ} 0 1 = cc in absurd (omega arith);
+pub read_yes : (w : Wanted) {got : Reading} {j : Job} → got ≡ reading.Value j → (l : Lists) (r : Answer) (rows₀ columns₀ rows columns : List ℕ)
+    → ListsTold w j.settings (fronts j.items l) r rows₀ columns₀ rows columns → ReadTold w got l r rows₀ columns₀ rows columns
+read_yes w {j = j} k l r rows₀ columns₀ rows columns t = record {
+  no = λ m i. let z : ◌≡◌ {A = ℕ} 0 1 = cc in absurd (omega arith);
   yes = λ i h. let same : j ≡ i = cc in rw (← same) t;
 }

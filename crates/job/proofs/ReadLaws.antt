@@ -1,40 +1,40 @@
 -- A job that is read to lists that hold it is the job of its bytes. Assumes nothing.
-use mathlib.Core.Path.{_≡_, refl, sym, ap, ap₂, _∙_}
+use mathlib.Core.Path.{◌≡◌, refl, sym, ap, ap₂, ◌∙◌}
 use mathlib.Core.Bool.{Bool, true}
 use mathlib.Core.List.{List}
-use Prim.Native.Nat.{ℕ, _≤_}
+use Prim.Native.Nat.{ℕ, ◌≤◌}
 use native.Mathlib.Omega.{arith}
 use lib.ListN.{length, take, drop, length-map, length-append}
-use lib.Seq.{length-take-le, take-at}
+use lib.Seq.{length-take-le, take_at}
 use borrow.Author.Tests.{eq-eqb}
-use Rattle·units.specs.Outcome.{Outcome, given, refused, andThen}
-use Rattle·planner_rules.specs.Slots.{written}
-use Rattle·planner_rules.specs.Partition.{lent}
-use Rattle·job_questions.specs.declared.Items.{Items}
-use Rattle·job_questions.specs.declared.Checked.the-variants as checked
-use Rattle·job_reader.specs.declared.lists.Job.{Job}
-use Rattle·job_reader.specs.declared.lists.Reading.{Reading}
-use Rattle·job_reader.specs.declared.lists.Reading.the-variants as reading
-use Rattle·job_records.specs.Records.{RW, CL, MR, BR, BC, records, marked, values, field}
-use Rattle·job_questions.specs.Verdict.{verdictLent, question1, itemsOf}
-use Rattle·job_reader.specs.Reading.{Lists, lists, evenLists as itemsEven, roomIn, readJob, jobOf, readingOutcome, JobRead}
-use Rattle·job_reader.proofs.ReadingLaws.{admit-no, job-refused as not-read}
-use Rattle·job_reader.proofs.ItemRoom.{Brings, items-fit, all-answered, read-whole}
-use Rattle·job_settings.specs.Meaning.{areasFor}
-use Rattle·job·specs.specs.declared.bytes.Wanted.{Wanted}
-use Rattle·job·specs.specs.declared.bytes.Answer.{Answer}
-use Rattle·job·specs.specs.PlanJob.{sheetRead, jobLists, jobSheet, jobAreas, fronts, Filled, ReadTold, Holds, JobTold}
-use Rattle·job·proofs.proofs.JobLaws.{refused-told, same-told}
+use Rattle.units.specs.Outcome.{Outcome, given, refused, and_then}
+use Rattle.planner_rules.specs.Slots.{written}
+use Rattle.planner_rules.specs.Partition.{lent}
+use Rattle.job_questions.specs.declared.Items.{Items}
+use Rattle.job_questions.specs.declared.Checked.TheVariants as checked
+use Rattle.job_reader.specs.declared.lists.Job.{Job}
+use Rattle.job_reader.specs.declared.lists.Reading.{Reading}
+use Rattle.job_reader.specs.declared.lists.Reading.TheVariants as reading
+use Rattle.job_records.specs.Records.{RW, CL, MR, BR, BC, records, marked, values, field}
+use Rattle.job_questions.specs.Verdict.{verdict_lent, question1, items_of}
+use Rattle.job_reader.specs.Reading.{Lists, lists, even_lists as items_even, room_in, read_job, job_of, reading_outcome, JobRead}
+use Rattle.job_reader.proofs.ReadingLaws.{admit_no, job_refused as not_read}
+use Rattle.job_reader.proofs.ItemRoom.{Brings, items_fit, all_answered, read_whole}
+use Rattle.job_settings.specs.Meaning.{areas_for}
+use Rattle.job.specs.declared.bytes.Wanted.{Wanted}
+use Rattle.job.specs.declared.bytes.Answer.{Answer}
+use Rattle.job.specs.PlanJob.{sheet_read, job_lists, job_sheet, job_areas, fronts, Filled, ReadTold, Holds, JobTold}
+use Rattle.job.proofs.JobLaws.{refused_told, same_told}
 
 -- ---- lists that hold what a job brings
 
 -- lists with room for all that n bytes can bring hold the items of every job that has no more bytes, and is read
-pub holds-of : (n : ℕ) (room : Items) → Brings n room → {s ri rs ci cs fr fc lr lc rb cb : List ℕ} → (question1 s ≡ true → length s ≤ n)
-    → room .rows ≡ length ri → room .rows ≡ length rs → room .columns ≡ length ci → room .columns ≡ length cs
-    → room .merges ≡ length fr → room .merges ≡ length fc → room .merges ≡ length lr → room .merges ≡ length lc
-    → room .«row_breaks» ≡ length rb → room .«column_breaks» ≡ length cb
+pub holds_of : (n : ℕ) (room : Items) → Brings n room → {s ri rs ci cs fr fc lr lc rb cb : List ℕ} → (question1 s ≡ true → length s ≤ n)
+    → room.rows ≡ length ri → room.rows ≡ length rs → room.columns ≡ length ci → room.columns ≡ length cs
+    → room.merges ≡ length fr → room.merges ≡ length fc → room.merges ≡ length lr → room.merges ≡ length lc
+    → room.row_breaks ≡ length rb → room.column_breaks ≡ length cb
     → Holds s (lists ri rs ci cs fr fc lr lc rb cb)
-holds-of n room w {s} {ri} {rs} {ci} {cs} {fr} {fc} {lr} {lc} few a b c d e f g h i j = record {
+holds_of n room w {s} {ri} {rs} {ci} {cs} {fr} {fc} {lr} {lc} few a b c d e f g h i j = record {
   even = rw (
     eq-eqb (length ri) (length rs) (sym a ∙ b),
     eq-eqb (length ci) (length cs) (sym c ∙ d),
@@ -42,27 +42,27 @@ holds-of n room w {s} {ri} {rs} {ci} {cs} {fr} {fc} {lr} {lc} few a b c d e f g 
     eq-eqb (length fr) (length lr) (sym e ∙ g),
     eq-eqb (length fr) (length lc) (sym e ∙ h),
   );
-  room = λ q. rw (← a, ← c, ← e, ← i, ← j) (items-fit n room w s (few q));
+  room = λ q. rw (← a, ← c, ← e, ← i, ← j) (items_fit n room w s (few q));
 }
 
 -- the two sizes of `answer_job`
 abbrev pub small : Items
-small = record { areas = 8; rows = 150; columns = 175; merges = 150; «row_breaks» = 350; «column_breaks» = 525 }
+small = record { areas = 8; rows = 150; columns = 175; merges = 150; row_breaks = 350; column_breaks = 525 }
 
-pub small-brings : Brings 2100 small
-small-brings =
-    record { rows-held = omega arith; columns-held = omega arith; merges-held = omega arith; row-breaks-held = omega arith; column-breaks-held = omega arith }
+pub small_brings : Brings 2100 small
+small_brings =
+    record { rows_held = omega arith; columns_held = omega arith; merges_held = omega arith; row_breaks_held = omega arith; column_breaks_held = omega arith }
 
 abbrev pub large : Items
-large = record { areas = 8; rows = 4285; columns = 5000; merges = 4285; «row_breaks» = 10000; «column_breaks» = 15000 }
+large = record { areas = 8; rows = 4285; columns = 5000; merges = 4285; row_breaks = 10000; column_breaks = 15000 }
 
-pub large-brings : Brings 60000 large
-large-brings =
-    record { rows-held = omega arith; columns-held = omega arith; merges-held = omega arith; row-breaks-held = omega arith; column-breaks-held = omega arith }
+pub large_brings : Brings 60000 large
+large_brings =
+    record { rows_held = omega arith; columns_held = omega arith; merges_held = omega arith; row_breaks_held = omega arith; column_breaks_held = omega arith }
 
 -- a part of a list, by its length
-pub part-long : (n : ℕ) (xs : List ℕ) → n ≤ length xs → n ≡ length (take n xs)
-part-long n xs h = sym (length-take-le n xs h)
+pub part_long : (n : ℕ) (xs : List ℕ) → n ≤ length xs → n ≡ length (take n xs)
+part_long n xs h = sym (length-take-le n xs h)
 
 -- ---- the lists after a job was read
 
@@ -73,135 +73,135 @@ pub record Front (k f : ℕ) (s : List ℕ) (n : ℕ) (new : List ℕ) : Type 0 
 
 -- ten lists, by the items that were read to them
 pub record ReadTo (s : List ℕ) (n : Items) (after : Lists) : Type 0 where
-  pub row-indexes : Front RW 0 s (n .rows) (after .row-indexes)
-  pub row-sizes : Front RW 1 s (n .rows) (after .row-sizes)
-  pub column-indexes : Front CL 0 s (n .columns) (after .column-indexes)
-  pub column-sizes : Front CL 1 s (n .columns) (after .column-sizes)
-  pub merge-first-rows : Front MR 0 s (n .merges) (after .merge-first-rows)
-  pub merge-first-columns : Front MR 1 s (n .merges) (after .merge-first-columns)
-  pub merge-last-rows : Front MR 2 s (n .merges) (after .merge-last-rows)
-  pub merge-last-columns : Front MR 3 s (n .merges) (after .merge-last-columns)
-  pub row-breaks : Front BR 0 s (n .«row_breaks») (after .row-breaks)
-  pub column-breaks : Front BC 0 s (n .«column_breaks») (after .column-breaks)
+  pub row_indexes : Front RW 0 s n.rows after.row_indexes
+  pub row_sizes : Front RW 1 s n.rows after.row_sizes
+  pub column_indexes : Front CL 0 s n.columns after.column_indexes
+  pub column_sizes : Front CL 1 s n.columns after.column_sizes
+  pub merge_first_rows : Front MR 0 s n.merges after.merge_first_rows
+  pub merge_first_columns : Front MR 1 s n.merges after.merge_first_columns
+  pub merge_last_rows : Front MR 2 s n.merges after.merge_last_rows
+  pub merge_last_columns : Front MR 3 s n.merges after.merge_last_columns
+  pub row_breaks : Front BR 0 s n.row_breaks after.row_breaks
+  pub column_breaks : Front BC 0 s n.column_breaks after.column_breaks
 
-pub fronts-are : (s : List ℕ) (n : Items) (after : Lists) → ReadTo s n after → fronts n after ≡ jobLists s
-fronts-are s n after f =
+pub fronts_are : (s : List ℕ) (n : Items) (after : Lists) → ReadTo s n after → fronts n after ≡ job_lists s
+fronts_are s n after f =
     rw (
-      f .row-indexes .is,
-      f .row-sizes .is,
-      f .column-indexes .is,
-      f .column-sizes .is,
-      f .merge-first-rows .is,
-      f .merge-first-columns .is,
-      f .merge-last-rows .is,
-      f .merge-last-columns .is,
-      f .row-breaks .is,
-      f .column-breaks .is,
+      f.row_indexes.is,
+      f.row_sizes.is,
+      f.column_indexes.is,
+      f.column_sizes.is,
+      f.merge_first_rows.is,
+      f.merge_first_columns.is,
+      f.merge_last_rows.is,
+      f.merge_last_columns.is,
+      f.row_breaks.is,
+      f.column_breaks.is,
     )
 
 front : (s : List ℕ) (o : Outcome Job) (j : Job) → o ≡ given j → (k f n : ℕ) (old new : List ℕ) → n ≡ length (marked k (records s))
     → new ≡ lent o (values k f (records s)) old → Front k f s n new
-front s o j given-is k f n old new m i =
-    let w : new ≡ written (values k f (records s)) old = rw given-is at i in
+front s o j given_is k f n old new m i =
+    let w : new ≡ written (values k f (records s)) old = rw given_is at i in
     record {
       few = rw w (simp length-append (omega (arith, m, length-map (marked k (records s)) (field f))));
-      is = rw w (take-at (values k f (records s)) (drop (length (values k f (records s))) old) n (length-map (marked k (records s)) (field f) ∙ sym m));
+      is = rw w (take_at (values k f (records s)) (drop (length (values k f (records s))) old) n (length-map (marked k (records s)) (field f) ∙ sym m));
     }
 
 -- a job that was given, and is that of the bytes
-pub read-to : (s : List ℕ) (before after : Lists) (r : Reading) → JobRead s r before after → (j : Job) → r ≡ reading.Value j → j ≡ jobOf (records s)
-    → ReadTo s (j .items) after
-read-to s before after r w j k m =
-    let q : readJob s before ≡ given j = sym (w .answer) ∙ ap readingOutcome k in
-    let rows = ap (λ (x : Job). x .items .rows) m in
-    let columns = ap (λ (x : Job). x .items .columns) m in
-    let merges = ap (λ (x : Job). x .items .merges) m in
+pub read_to : (s : List ℕ) (before after : Lists) (r : Reading) → JobRead s r before after → (j : Job) → r ≡ reading.Value j → j ≡ job_of (records s)
+    → ReadTo s j.items after
+read_to s before after r w j k m =
+    let q : read_job s before ≡ given j = sym w.answer ∙ ap reading_outcome k in
+    let rows = ap (λ (x : Job). x.items.rows) m in
+    let columns = ap (λ (x : Job). x.items.columns) m in
+    let merges = ap (λ (x : Job). x.items.merges) m in
     record {
-      row-indexes = front s _ j q RW 0 _ (before .row-indexes) (after .row-indexes) rows (w .row-indexes-are);
-      row-sizes = front s _ j q RW 1 _ (before .row-sizes) (after .row-sizes) rows (w .row-sizes-are);
-      column-indexes = front s _ j q CL 0 _ (before .column-indexes) (after .column-indexes) columns (w .column-indexes-are);
-      column-sizes = front s _ j q CL 1 _ (before .column-sizes) (after .column-sizes) columns (w .column-sizes-are);
-      merge-first-rows = front s _ j q MR 0 _ (before .merge-first-rows) (after .merge-first-rows) merges (w .merge-first-rows-are);
-      merge-first-columns = front s _ j q MR 1 _ (before .merge-first-columns) (after .merge-first-columns) merges (w .merge-first-columns-are);
-      merge-last-rows = front s _ j q MR 2 _ (before .merge-last-rows) (after .merge-last-rows) merges (w .merge-last-rows-are);
-      merge-last-columns = front s _ j q MR 3 _ (before .merge-last-columns) (after .merge-last-columns) merges (w .merge-last-columns-are);
-      row-breaks = front s _ j q BR 0 _ (before .row-breaks) (after .row-breaks) (ap (λ (x : Job). x .items .«row_breaks») m) (w .row-breaks-are);
-      column-breaks = front s _ j q BC 0 _ (before .column-breaks) (after .column-breaks) (ap (λ (x : Job). x .items .«column_breaks») m)
-          (w .column-breaks-are);
+      row_indexes = front s _ j q RW 0 _ before.row_indexes after.row_indexes rows w.row_indexes_are;
+      row_sizes = front s _ j q RW 1 _ before.row_sizes after.row_sizes rows w.row_sizes_are;
+      column_indexes = front s _ j q CL 0 _ before.column_indexes after.column_indexes columns w.column_indexes_are;
+      column_sizes = front s _ j q CL 1 _ before.column_sizes after.column_sizes columns w.column_sizes_are;
+      merge_first_rows = front s _ j q MR 0 _ before.merge_first_rows after.merge_first_rows merges w.merge_first_rows_are;
+      merge_first_columns = front s _ j q MR 1 _ before.merge_first_columns after.merge_first_columns merges w.merge_first_columns_are;
+      merge_last_rows = front s _ j q MR 2 _ before.merge_last_rows after.merge_last_rows merges w.merge_last_rows_are;
+      merge_last_columns = front s _ j q MR 3 _ before.merge_last_columns after.merge_last_columns merges w.merge_last_columns_are;
+      row_breaks = front s _ j q BR 0 _ before.row_breaks after.row_breaks (ap (λ (x : Job). x.items.row_breaks) m) w.row_breaks_are;
+      column_breaks = front s _ j q BC 0 _ before.column_breaks after.column_breaks (ap (λ (x : Job). x.items.column_breaks) m)
+          w.column_breaks_are;
     }
 
 -- the sheet and the areas of what was read are those of the bytes
-pub sheet-is : (s : List ℕ) (j : Job) (after : Lists) → j ≡ jobOf (records s) → ReadTo s (j .items) after
-    → sheetRead (j .settings) (fronts (j .items) after) ≡ jobSheet s
-sheet-is s j after m f = ap₂ sheetRead (ap (λ (x : Job). x .settings) m) (fronts-are s (j .items) after f)
+pub sheet_is : (s : List ℕ) (j : Job) (after : Lists) → j ≡ job_of (records s) → ReadTo s j.items after
+    → sheet_read j.settings (fronts j.items after) ≡ job_sheet s
+sheet_is s j after m f = ap₂ sheet_read (ap (λ (x : Job). x.settings) m) (fronts_are s j.items after f)
 
-pub areas-are : (s : List ℕ) (j : Job) → j ≡ jobOf (records s) → areasFor (j .settings .areas) ≡ jobAreas s
-areas-are s j m = ap (λ (x : Job). areasFor (x .settings .areas)) m
+pub areas_are : (s : List ℕ) (j : Job) → j ≡ job_of (records s) → areas_for j.settings.areas ≡ job_areas s
+areas_are s j m = ap (λ (x : Job). areas_for x.settings.areas) m
 
 -- ---- the questions of a job that is read
 
 module _ (s : List ℕ) {before : Lists} (holds : Holds s before) where
   -- reading asks what the questions ask, and never 11
-  read-as : readJob s before ≡ andThen (verdictLent true s) (λ (items : Items). given (jobOf (records s)))
-  read-as = go (verdictLent true s) refl
+  read_as : read_job s before ≡ and_then (verdict_lent true s) (λ (items : Items). given (job_of (records s)))
+  read_as = go (verdict_lent true s) refl
     where
-      go : (o : Outcome Items) → verdictLent true s ≡ o → readJob s before ≡ andThen o (λ (items : Items). given (jobOf (records s)))
-      go (given items) e = read-whole s items e before (holds .even) (holds .room (all-answered s items e .0))
+      go : (o : Outcome Items) → verdict_lent true s ≡ o → read_job s before ≡ and_then o (λ (items : Items). given (job_of (records s)))
+      go (given items) e = read_whole s items e before holds.even (holds.room (all_answered s items e).0)
       go (refused n) e =
-          let v : refused n ≡ verdictLent (itemsEven before) s = sym e ∙ ap (λ (b : Bool). verdictLent b s) (sym (holds .even)) in
-          sym (not-read {s = s} {l = before} {f = checked.Refused n} (admit-no (itemsEven before) s (roomIn before) (checked.Refused n) v n refl) refl .answer)
+          let v : refused n ≡ verdict_lent (items_even before) s = sym e ∙ ap (λ (b : Bool). verdict_lent b s) (sym holds.even) in
+          sym (not_read {s = s} {l = before} {f = checked.Refused n} (admit_no (items_even before) s (room_in before) (checked.Refused n) v n refl) refl).answer
 
   -- a no is the questions'
-  verdict-no : (n : ℕ) → refused n ≡ readJob s before → verdictLent true s ≡ refused n
-  verdict-no n e = go (verdictLent true s) refl (e ∙ read-as)
+  verdict_no : (n : ℕ) → refused n ≡ read_job s before → verdict_lent true s ≡ refused n
+  verdict_no n e = go (verdict_lent true s) refl (e ∙ read_as)
     where
-      go : (o : Outcome Items) → verdictLent true s ≡ o → refused n ≡ andThen o (λ (items : Items). given (jobOf (records s))) → verdictLent true s ≡ refused n
-      go (given items) i h = let z : _≡_ {A = ℕ} 0 1 = cc in absurd (omega arith)
+      go : (o : Outcome Items) → verdict_lent true s ≡ o → refused n ≡ and_then o (λ (items : Items). given (job_of (records s))) → verdict_lent true s ≡ refused n
+      go (given items) i h = let z : ◌≡◌ {A = ℕ} 0 1 = cc in absurd (omega arith)
       go (refused m) i h = let same : m ≡ n = cc in i ∙ ap refused same
 
   -- else the job is what was read
-  verdict-yes : (j : Job) → given j ≡ readJob s before → (j ≡ jobOf (records s)) × ((items : Items) × (verdictLent true s ≡ given items))
-  verdict-yes j e = go (verdictLent true s) refl (e ∙ read-as)
+  verdict_yes : (j : Job) → given j ≡ read_job s before → (j ≡ job_of (records s)) × ((items : Items) × (verdict_lent true s ≡ given items))
+  verdict_yes j e = go (verdict_lent true s) refl (e ∙ read_as)
     where
-      go : (o : Outcome Items) → verdictLent true s ≡ o → given j ≡ andThen o (λ (items : Items). given (jobOf (records s)))
-          → (j ≡ jobOf (records s)) × ((items : Items) × (verdictLent true s ≡ given items))
+      go : (o : Outcome Items) → verdict_lent true s ≡ o → given j ≡ and_then o (λ (items : Items). given (job_of (records s)))
+          → (j ≡ job_of (records s)) × ((items : Items) × (verdict_lent true s ≡ given items))
       go (given items) i h = (cc, (items, i))
-      go (refused m) i h = let z : _≡_ {A = ℕ} 0 1 = cc in absurd (omega arith)
+      go (refused m) i h = let z : ◌≡◌ {A = ℕ} 0 1 = cc in absurd (omega arith)
 
 -- a job that was read to lists that hold it, and answered
 module _ {s : List ℕ} {before after : Lists} (holds : Holds s before) {got : Reading} (w : JobRead s got before after) where
-  yes-is : (j : Job) → got ≡ reading.Value j → (j ≡ jobOf (records s)) × ((items : Items) × (verdictLent true s ≡ given items))
-  yes-is j k = verdict-yes s holds j (sym (ap readingOutcome k) ∙ w .answer)
+  yes_is : (j : Job) → got ≡ reading.Value j → (j ≡ job_of (records s)) × ((items : Items) × (verdict_lent true s ≡ given items))
+  yes_is j k = verdict_yes s holds j (sym (ap reading_outcome k) ∙ w.answer)
 
-  pub was-filled : Filled got after
-  was-filled = record {
+  pub was_filled : Filled got after
+  was_filled = record {
     filled = λ j k.
-        let f = read-to s before after got w j k (yes-is j k .0) in
+        let f = read_to s before after got w j k (yes_is j k).0 in
         record {
-          row-indexes-long = f .row-indexes .few;
-          row-sizes-long = f .row-sizes .few;
-          column-indexes-long = f .column-indexes .few;
-          column-sizes-long = f .column-sizes .few;
-          merge-first-rows-long = f .merge-first-rows .few;
-          merge-first-columns-long = f .merge-first-columns .few;
-          merge-last-rows-long = f .merge-last-rows .few;
-          merge-last-columns-long = f .merge-last-columns .few;
-          row-breaks-long = f .row-breaks .few;
-          column-breaks-long = f .column-breaks .few;
+          row_indexes_long = f.row_indexes.few;
+          row_sizes_long = f.row_sizes.few;
+          column_indexes_long = f.column_indexes.few;
+          column_sizes_long = f.column_sizes.few;
+          merge_first_rows_long = f.merge_first_rows.few;
+          merge_first_columns_long = f.merge_first_columns.few;
+          merge_last_rows_long = f.merge_last_rows.few;
+          merge_last_columns_long = f.merge_last_columns.few;
+          row_breaks_long = f.row_breaks.few;
+          column_breaks_long = f.column_breaks.few;
         };
   }
 
-  pub job-told : (x : Wanted) (r : Answer) (rows₀ columns₀ rows columns : List ℕ) → ReadTold x got after r rows₀ columns₀ rows columns
+  pub job_told : (x : Wanted) (r : Answer) (rows₀ columns₀ rows columns : List ℕ) → ReadTold x got after r rows₀ columns₀ rows columns
       → JobTold x s r rows₀ columns₀ rows columns
-  job-told x r rows₀ columns₀ rows columns t = go got refl
+  job_told x r rows₀ columns₀ rows columns t = go got refl
     where
       go : (q : Reading) → got ≡ q → JobTold x s r rows₀ columns₀ rows columns
       go (reading.Refused n) k =
-          let told = t .no n k in
-          rw (told .0, told .1 .0, told .1 .1)
-          (refused-told x n (verdict-no s holds n (sym (ap readingOutcome k) ∙ w .answer)) (jobSheet s) (jobAreas s) rows₀ columns₀)
+          let told = t.no n k in
+          rw (told.0, told.1.0, told.1.1)
+          (refused_told x n (verdict_no s holds n (sym (ap reading_outcome k) ∙ w.answer)) (job_sheet s) (job_areas s) rows₀ columns₀)
       go (reading.Value j) k =
-          let y = yes-is j k in
-          let m = y .0 in
-          same-told x (sym (y .1 .1)) (sheet-is s j after m (read-to s before after got w j k m)) (areas-are s j m) r rows₀ columns₀ rows columns
-          (t .yes j k (y .1 .0))
+          let y = yes_is j k in
+          let m = y.0 in
+          same_told x (sym y.1.1) (sheet_is s j after m (read_to s before after got w j k m)) (areas_are s j m) r rows₀ columns₀ rows columns
+          (t.yes j k y.1.0)

@@ -1,87 +1,83 @@
 -- The plan of a job's bytes: document 01, sections "Jobs" and "Questions in order", and document 02, T-02. Assumes nothing.
-use mathlib.Core.Path.{_≡_}
-use mathlib.Core.Bool.{true}
-use mathlib.Core.List.{List}
-use Prim.Native.Nat.{ℕ, _≤_}
-use lib.ListN.{length, take}
-use Rattle·units.specs.Outcome.{Outcome, given, andThen}
-use Rattle·planner_rules.specs.declared.planning.Areas.{Areas}
-use Rattle·planner_rules.specs.Plan.{Sheet, Layout, AreaLayout, Planned, Counted, AreaWrote, sheetOf, planned, counted, areaWritten}
-use Rattle·planner_rules.specs.Demand.{CoversPairs, FewestPlan, LargestPlan}
-use Rattle·planner_rules.specs.declared.planning.Planning.{Planning}
-use Rattle·planner_rules.specs.declared.planning.Planning.the-variants.{Refused}
-use Rattle·planner_rules.specs.declared.planning.Writing.{Writing}
-use Rattle·planner_rules.specs.declared.planning.Writing.the-variants as writing
-use Rattle·job_records.specs.Records.{RW, CL, MR, BR, BC, records, values}
-use Rattle·job_questions.specs.Verdict.{verdict, question1, itemsOf}
-use Rattle·job_reader.specs.Reading.{Lists, lists, evenLists, roomIn, fitIn}
-use Rattle·job_reader.specs.declared.lists.Job.{Job}
-use Rattle·job_reader.specs.declared.lists.Reading.{Reading}
-use Rattle·job_reader.specs.declared.lists.Reading.the-variants.{Value, Refused as NotRead}
-use Rattle·job_settings.specs.Meaning.{settingsFor, areasFor}
-use Rattle·job_reader.specs.Settings.{settingsOf}
-use Rattle·job_questions.specs.declared.Items.{Items}
-use Rattle·job_settings.specs.declared.JobSettings.{JobSettings}
-use Rattle·job·specs.specs.declared.bytes.Wanted.{Wanted}
-use Rattle·job·specs.specs.declared.bytes.Wanted.the-variants.{Plan, Count, Area}
-use Rattle·job·specs.specs.declared.bytes.Answer.{Answer}
-use Rattle·job·specs.specs.declared.bytes.Answer.the-variants.{ToPlan, ToWrite}
+use Rattle.std.specs.Prelude.{◌≡◌, true, List, ℕ, ◌≤◌, length, take}
+use Rattle.units.specs.Outcome.{Outcome, given, and_then}
+use Rattle.planner_rules.specs.declared.planning.Areas.{Areas}
+use Rattle.planner_rules.specs.Plan.{Sheet, Layout, AreaLayout, Planned, Counted, AreaWrote, sheet_of, planned, counted, area_written}
+use Rattle.planner_rules.specs.Demand.{CoversPairs, FewestPlan, LargestPlan}
+use Rattle.planner_rules.specs.declared.planning.Planning.{Planning}
+use Rattle.planner_rules.specs.declared.planning.Planning.TheVariants.{Refused}
+use Rattle.planner_rules.specs.declared.planning.Writing.{Writing}
+use Rattle.planner_rules.specs.declared.planning.Writing.TheVariants as writing
+use Rattle.job_records.specs.Records.{RW, CL, MR, BR, BC, records, values}
+use Rattle.job_questions.specs.Verdict.{verdict, question1, items_of}
+use Rattle.job_reader.specs.Reading.{Lists, lists, even_lists, room_in, fit_in}
+use Rattle.job_reader.specs.declared.lists.Job.{Job}
+use Rattle.job_reader.specs.declared.lists.Reading.{Reading}
+use Rattle.job_reader.specs.declared.lists.Reading.TheVariants.{Value, Refused as NotRead}
+use Rattle.job_settings.specs.Meaning.{settings_for, areas_for}
+use Rattle.job_reader.specs.Settings.{settings_of}
+use Rattle.job_questions.specs.declared.Items.{Items}
+use Rattle.job_settings.specs.declared.JobSettings.{JobSettings}
+use Rattle.job.specs.declared.bytes.Wanted.{Wanted}
+use Rattle.job.specs.declared.bytes.Wanted.TheVariants.{Plan, Count, Area}
+use Rattle.job.specs.declared.bytes.Answer.{Answer}
+use Rattle.job.specs.declared.bytes.Answer.TheVariants.{ToPlan, ToWrite}
 
 -- ---- what was read, as the planner takes it
 
 -- settings and ten lists
-abbrev pub sheetRead : JobSettings → Lists → Sheet
-sheetRead j l =
-    sheetOf (settingsFor j) (j .«row_title») (j .«column_title») (l .row-indexes) (l .row-sizes) (l .column-indexes) (l .column-sizes)
-    (l .merge-first-rows) (l .merge-first-columns) (l .merge-last-rows) (l .merge-last-columns) (l .row-breaks) (l .column-breaks)
+abbrev pub sheet_read : JobSettings → Lists → Sheet
+sheet_read j l =
+    sheet_of (settings_for j) j.row_title j.column_title l.row_indexes l.row_sizes l.column_indexes l.column_sizes
+    l.merge_first_rows l.merge_first_columns l.merge_last_rows l.merge_last_columns l.row_breaks l.column_breaks
 
 -- ---- a job, by its bytes
 
 -- "RW u32, i64", "CL u16, i64", "MR as AR", "BR u32", "BC u16"
-abbrev pub jobLists : List ℕ → Lists
-jobLists s =
+abbrev pub job_lists : List ℕ → Lists
+job_lists s =
     let rs = records s in
     lists (values RW 0 rs) (values RW 1 rs) (values CL 0 rs) (values CL 1 rs) (values MR 0 rs) (values MR 1 rs) (values MR 2 rs) (values MR 3 rs)
     (values BR 0 rs) (values BC 0 rs)
 
 -- all that is handed to the planner beside the areas
-abbrev pub jobSheet : List ℕ → Sheet
-jobSheet s = sheetRead (settingsOf (records s)) (jobLists s)
+abbrev pub job_sheet : List ℕ → Sheet
+job_sheet s = sheet_read (settings_of (records s)) (job_lists s)
 
 -- "AR may stand up to eight times": the areas, in job order
-abbrev pub jobAreas : List ℕ → Areas
-jobAreas s = areasFor (settingsOf (records s) .areas)
+abbrev pub job_areas : List ℕ → Areas
+job_areas s = areas_for (settings_of (records s)).areas
 
 -- ---- the calls
 
 -- 1 to 9 and 15 as they are put to the bytes, then the plan of what was read; the lent lists are that of the row runs and that of the column runs
-unfoldable pub planJob : List ℕ → List ℕ → List ℕ → Outcome Layout
-planJob s rows columns = andThen (verdict s) (λ (items : Items). planned (jobSheet s) (jobAreas s) rows columns)
+unfoldable pub plan_job : List ℕ → List ℕ → List ℕ → Outcome Layout
+plan_job s rows columns = and_then (verdict s) (λ (items : Items). planned (job_sheet s) (job_areas s) rows columns)
 
 -- the same plan, of a call that was lent no list: "program `plan` counts all pages first"
-unfoldable pub countJob : List ℕ → Outcome Layout
-countJob s = andThen (verdict s) (λ (items : Items). counted (jobSheet s) (jobAreas s))
+unfoldable pub count_job : List ℕ → Outcome Layout
+count_job s = and_then (verdict s) (λ (items : Items). counted (job_sheet s) (job_areas s))
 
 -- the runs of the area with a number from 1 at a permille: "then plans area by area in the same lists"
-unfoldable pub writeJobArea : List ℕ → ℕ → ℕ → List ℕ → List ℕ → Outcome AreaLayout
-writeJobArea s n p rows columns = andThen (verdict s) (λ (items : Items). areaWritten (jobSheet s) (jobAreas s) n p rows columns)
+unfoldable pub write_job_area : List ℕ → ℕ → ℕ → List ℕ → List ℕ → Outcome AreaLayout
+write_job_area s n p rows columns = and_then (verdict s) (λ (items : Items). area_written (job_sheet s) (job_areas s) n p rows columns)
 
 -- ---- for the private functions
 
 -- the planning and the writing of an answer; what it does not have is refused
-abbrev pub planningIn : Answer → Planning
-planningIn (ToPlan r) = r
-planningIn (ToWrite r) = Refused 10
+abbrev pub planning_in : Answer → Planning
+planning_in (ToPlan r) = r
+planning_in (ToWrite r) = Refused 10
 
-abbrev pub writingIn : Answer → Writing
-writingIn (ToPlan r) = writing.Refused 10
-writingIn (ToWrite r) = r
+abbrev pub writing_in : Answer → Writing
+writing_in (ToPlan r) = writing.Refused 10
+writing_in (ToWrite r) = r
 
 -- the refusal with a number
-abbrev pub refusedTo : Wanted → ℕ → Answer
-refusedTo Plan n = ToPlan (Refused n)
-refusedTo Count n = ToPlan (Refused n)
-refusedTo (Area k p) n = ToWrite (writing.Refused n)
+abbrev pub refused_to : Wanted → ℕ → Answer
+refused_to Plan n = ToPlan (Refused n)
+refused_to Count n = ToPlan (Refused n)
+refused_to (Area k p) n = ToWrite (writing.Refused n)
 
 -- the four clauses: the answer r and the run lists, which were rows₀ and columns₀, where the outcome is o
 abbrev pub PlanTold : Outcome Layout → Sheet → Areas → Planning → List ℕ → List ℕ → List ℕ → List ℕ → Type 0
@@ -92,35 +88,35 @@ PlanTold o s areas r rows₀ columns₀ rows columns =
 -- the clauses of what is wanted, of a job whose questions come to v
 abbrev pub Told : Wanted → Outcome Items → Sheet → Areas → Answer → List ℕ → List ℕ → List ℕ → List ℕ → Type 0
 Told Plan v s areas r rows₀ columns₀ rows columns =
-    PlanTold (andThen v (λ (items : Items). planned s areas rows₀ columns₀)) s areas (planningIn r) rows₀ columns₀ rows columns
-Told Count v s areas r rows₀ columns₀ rows columns = Counted (andThen v (λ (items : Items). counted s areas)) (planningIn r)
+    PlanTold (and_then v (λ (items : Items). planned s areas rows₀ columns₀)) s areas (planning_in r) rows₀ columns₀ rows columns
+Told Count v s areas r rows₀ columns₀ rows columns = Counted (and_then v (λ (items : Items). counted s areas)) (planning_in r)
 Told (Area n p) v s areas r rows₀ columns₀ rows columns =
-    AreaWrote (andThen v (λ (items : Items). areaWritten s areas n p rows₀ columns₀)) (writingIn r) rows₀ columns₀ rows columns
+    AreaWrote (and_then v (λ (items : Items). area_written s areas n p rows₀ columns₀)) (writing_in r) rows₀ columns₀ rows columns
 
 -- the same of settings and ten lists, whatever the questions come to where a job was read
 abbrev pub ListsTold : Wanted → JobSettings → Lists → Answer → List ℕ → List ℕ → List ℕ → List ℕ → Type 0
 ListsTold w j l r rows₀ columns₀ rows columns =
-    (items : Items) → Told w (given items) (sheetRead j l) (areasFor (j .areas)) r rows₀ columns₀ rows columns
+    (items : Items) → Told w (given items) (sheet_read j l) (areas_for j.areas) r rows₀ columns₀ rows columns
 
 -- the fronts of ten lists, as long as so many items say
 abbrev pub fronts : Items → Lists → Lists
 fronts n l =
-    lists (take (n .rows) (l .row-indexes)) (take (n .rows) (l .row-sizes)) (take (n .columns) (l .column-indexes)) (take (n .columns) (l .column-sizes))
-    (take (n .merges) (l .merge-first-rows)) (take (n .merges) (l .merge-first-columns)) (take (n .merges) (l .merge-last-rows))
-    (take (n .merges) (l .merge-last-columns)) (take (n .«row_breaks») (l .row-breaks)) (take (n .«column_breaks») (l .column-breaks))
+    lists (take n.rows l.row_indexes) (take n.rows l.row_sizes) (take n.columns l.column_indexes) (take n.columns l.column_sizes)
+    (take n.merges l.merge_first_rows) (take n.merges l.merge_first_columns) (take n.merges l.merge_last_rows)
+    (take n.merges l.merge_last_columns) (take n.row_breaks l.row_breaks) (take n.column_breaks l.column_breaks)
 
 -- the lists are as long as a job that was read to them says
 pub record Long (j : Job) (l : Lists) : Type 0 where
-  pub row-indexes-long : j .items .rows ≤ length (l .row-indexes)
-  pub row-sizes-long : j .items .rows ≤ length (l .row-sizes)
-  pub column-indexes-long : j .items .columns ≤ length (l .column-indexes)
-  pub column-sizes-long : j .items .columns ≤ length (l .column-sizes)
-  pub merge-first-rows-long : j .items .merges ≤ length (l .merge-first-rows)
-  pub merge-first-columns-long : j .items .merges ≤ length (l .merge-first-columns)
-  pub merge-last-rows-long : j .items .merges ≤ length (l .merge-last-rows)
-  pub merge-last-columns-long : j .items .merges ≤ length (l .merge-last-columns)
-  pub row-breaks-long : j .items .«row_breaks» ≤ length (l .row-breaks)
-  pub column-breaks-long : j .items .«column_breaks» ≤ length (l .column-breaks)
+  pub row_indexes_long : j.items.rows ≤ length l.row_indexes
+  pub row_sizes_long : j.items.rows ≤ length l.row_sizes
+  pub column_indexes_long : j.items.columns ≤ length l.column_indexes
+  pub column_sizes_long : j.items.columns ≤ length l.column_sizes
+  pub merge_first_rows_long : j.items.merges ≤ length l.merge_first_rows
+  pub merge_first_columns_long : j.items.merges ≤ length l.merge_first_columns
+  pub merge_last_rows_long : j.items.merges ≤ length l.merge_last_rows
+  pub merge_last_columns_long : j.items.merges ≤ length l.merge_last_columns
+  pub row_breaks_long : j.items.row_breaks ≤ length l.row_breaks
+  pub column_breaks_long : j.items.column_breaks ≤ length l.column_breaks
 
 -- what was read, if a job was, stands in the lists
 pub record Filled (reading : Reading) (l : Lists) : Type 0 where
@@ -128,14 +124,14 @@ pub record Filled (reading : Reading) (l : Lists) : Type 0 where
 
 -- a refusal is handed on, and writes nothing; a job is answered
 pub record ReadTold (w : Wanted) (reading : Reading) (l : Lists) (r : Answer) (rows₀ columns₀ rows columns : List ℕ) : Type 0 where
-  pub no : (n : ℕ) → reading ≡ NotRead n → (r ≡ refusedTo w n) × ((rows ≡ rows₀) × (columns ≡ columns₀))
-  pub yes : (j : Job) → reading ≡ Value j → ListsTold w (j .settings) (fronts (j .items) l) r rows₀ columns₀ rows columns
+  pub no : (n : ℕ) → reading ≡ NotRead n → (r ≡ refused_to w n) × ((rows ≡ rows₀) × (columns ≡ columns₀))
+  pub yes : (j : Job) → reading ≡ Value j → ListsTold w j.settings (fronts j.items l) r rows₀ columns₀ rows columns
 
 -- the lists hold the items of every job that is read
 pub record Holds (s : List ℕ) (l : Lists) : Type 0 where
-  pub even : evenLists l ≡ true
-  pub room : question1 s ≡ true → fitIn (itemsOf (records s)) (roomIn l) ≡ true
+  pub even : even_lists l ≡ true
+  pub room : question1 s ≡ true → fit_in (items_of (records s)) (room_in l) ≡ true
 
 -- the clauses of what is wanted of a job's bytes
 abbrev pub JobTold : Wanted → List ℕ → Answer → List ℕ → List ℕ → List ℕ → List ℕ → Type 0
-JobTold w s r rows₀ columns₀ rows columns = Told w (verdict s) (jobSheet s) (jobAreas s) r rows₀ columns₀ rows columns
+JobTold w s r rows₀ columns₀ rows columns = Told w (verdict s) (job_sheet s) (job_areas s) r rows₀ columns₀ rows columns

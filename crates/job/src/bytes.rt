@@ -1,22 +1,15 @@
 // The plan of a job's bytes: document 01, sections "Jobs" and "Questions in order", and document 02, T-02.
-use job_reader::Reading;
-use job_reader::read_job;
-use job_settings::JobSettings;
-use job_settings::areas_for;
-use job_settings::settings_for;
-use planner::count_pages;
-use planner::plan_pages;
-use planner::write_area;
-use planner_rules::Planning;
-use planner_rules::Writing;
-ghost use mathlib.Core.Path.{_≡_};
-ghost use Prim.Native.Nat.{_≤_};
-ghost use Rattle·units.specs.Outcome.{given};
-ghost use lib.ListN.{length};
-ghost use Rattle·planner_rules.specs.Plan as call;
-ghost use Rattle·planner_rules.specs.Demand.{CoversPairs, FewestPlan, LargestPlan};
-ghost use Rattle·job_reader.specs.Reading.{lists};
-ghost use Rattle·job·specs.specs.PlanJob as section;
+ghost use Rattle.std.specs.Prelude.{◌≡◌, ◌≤◌, length};
+ghost use Rattle.units.specs.Outcome.{given};
+ghost use Rattle.planner_rules.specs.Plan as call;
+ghost use Rattle.planner_rules.specs.Demand.{CoversPairs, FewestPlan, LargestPlan};
+ghost use Rattle.job_reader.specs.Reading.{lists};
+ghost use Rattle.job.specs.PlanJob as section;
+
+use job_reader::{Reading, read_job};
+use job_settings::{JobSettings, areas_for, settings_for};
+use planner::{count_pages, plan_pages, write_area};
+use planner_rules::{Planning, Writing};
 
 // The most items that 60,000 bytes can bring, kind by kind.
 const ROWS: usize = 4285;
@@ -43,6 +36,7 @@ const SMALL_ROW_BREAKS: usize = 350;
 const SMALL_COLUMN_BREAKS: usize = 525;
 
 // What is asked of a job: its plan, how many pages it has, or the runs of the area with a number, from 1, at a permille.
+#[derive(Drop)]
 pub(crate) enum Wanted {
     Plan,
     Count,
@@ -50,13 +44,14 @@ pub(crate) enum Wanted {
 }
 
 // What is answered: the first two are answered with a planning, the third with a writing.
+#[derive(Drop)]
 pub(crate) enum Answer {
     ToPlan(Planning),
     ToWrite(Writing),
 }
 
 fn planning_in(answer: Answer) -> Planning
-    ensures { λ r. ⌜ r ≡ section.planningIn answer ⌝ }
+    ensures { result ≡ section.planning_in answer }
 {
     match answer {
         Answer::ToPlan(planning) => planning,
@@ -65,7 +60,7 @@ fn planning_in(answer: Answer) -> Planning
 }
 
 fn writing_in(answer: Answer) -> Writing
-    ensures { λ r. ⌜ r ≡ section.writingIn answer ⌝ }
+    ensures { result ≡ section.writing_in answer }
 {
     match answer {
         Answer::ToPlan(_) => Writing::Refused(10),
@@ -74,7 +69,7 @@ fn writing_in(answer: Answer) -> Writing
 }
 
 fn refused_to(wanted: Wanted, number: u8) -> Answer
-    ensures { λ r. ⌜ r ≡ section.refusedTo wanted number ⌝ }
+    ensures { result ≡ section.refused_to wanted number }
 {
     match wanted {
         Wanted::Plan => Answer::ToPlan(Planning::Refused(number)),
@@ -100,11 +95,11 @@ fn answer_lists(
     row_runs: &mut [u64],
     column_runs: &mut [u64],
 ) -> Answer
-    ensures { λ r. ⌜ section.ListsTold wanted read
-        (lists (now («row_indexes» .entry)) (now («row_sizes» .entry)) (now («column_indexes» .entry)) (now («column_sizes» .entry))
-        (now («merge_first_rows» .entry)) (now («merge_first_columns» .entry)) (now («merge_last_rows» .entry)) (now («merge_last_columns» .entry))
-        (now («row_breaks» .entry)) (now («column_breaks» .entry)))
-        r (now («row_runs» .entry)) (now («column_runs» .entry)) (now («row_runs» .exit)) (now («column_runs» .exit)) ⌝ }
+    ensures { section.ListsTold wanted read
+        (lists row_indexes.now row_sizes.now column_indexes.now column_sizes.now
+        merge_first_rows.now merge_first_columns.now merge_last_rows.now merge_last_columns.now
+        row_breaks.now column_breaks.now)
+        result row_runs.old column_runs.old row_runs.new column_runs.new }
 {
     let settings = settings_for(read);
     let areas = areas_for(read.areas);
@@ -185,14 +180,14 @@ fn answer_read(
     row_runs: &mut [u64],
     column_runs: &mut [u64],
 ) -> Answer
-    requires { ⌜ section.Filled reading
-        (lists (now «row_indexes») (now «row_sizes») (now «column_indexes») (now «column_sizes») (now «merge_first_rows») (now «merge_first_columns»)
-        (now «merge_last_rows») (now «merge_last_columns») (now «row_breaks») (now «column_breaks»)) ⌝ }
-    ensures { λ r. ⌜ section.ReadTold wanted reading
-        (lists (now («row_indexes» .entry)) (now («row_sizes» .entry)) (now («column_indexes» .entry)) (now («column_sizes» .entry))
-        (now («merge_first_rows» .entry)) (now («merge_first_columns» .entry)) (now («merge_last_rows» .entry)) (now («merge_last_columns» .entry))
-        (now («row_breaks» .entry)) (now («column_breaks» .entry)))
-        r (now («row_runs» .entry)) (now («column_runs» .entry)) (now («row_runs» .exit)) (now («column_runs» .exit)) ⌝ }
+    requires { section.Filled reading
+        (lists row_indexes.now row_sizes.now column_indexes.now column_sizes.now merge_first_rows.now merge_first_columns.now
+        merge_last_rows.now merge_last_columns.now row_breaks.now column_breaks.now) }
+    ensures { section.ReadTold wanted reading
+        (lists row_indexes.now row_sizes.now column_indexes.now column_sizes.now
+        merge_first_rows.now merge_first_columns.now merge_last_rows.now merge_last_columns.now
+        row_breaks.now column_breaks.now)
+        result row_runs.old column_runs.old row_runs.new column_runs.new }
 {
     match reading {
         Reading::Refused(number) => refused_to(wanted, number),
@@ -241,13 +236,11 @@ fn answer_in(
     row_runs: &mut [u64],
     column_runs: &mut [u64],
 ) -> Answer
-    requires { ⌜ section.Holds (now bytes)
-        (lists (now «row_indexes») (now «row_sizes») (now «column_indexes») (now «column_sizes») (now «merge_first_rows») (now «merge_first_columns»)
-        (now «merge_last_rows») (now «merge_last_columns») (now «row_breaks») (now «column_breaks»)) ⌝ }
-    ensures { λ r. ⌜
-        section.JobTold wanted (now (bytes .entry)) r (now («row_runs» .entry)) (now («column_runs» .entry)) (now («row_runs» .exit))
-        (now («column_runs» .exit))
-        ⌝ }
+    requires { section.Holds bytes.now
+        (lists row_indexes.old row_sizes.old column_indexes.old column_sizes.old merge_first_rows.old merge_first_columns.old
+        merge_last_rows.old merge_last_columns.old row_breaks.old column_breaks.old) }
+    ensures { section.JobTold wanted bytes.now result row_runs.old column_runs.old row_runs.new
+        column_runs.new }
 {
     let reading = read_job(
         bytes,
@@ -287,11 +280,9 @@ fn answer_small(
     row_runs: &mut [u64],
     column_runs: &mut [u64],
 ) -> Answer
-    requires { ⌜ length (now bytes) ≤ 2100 ⌝ }
-    ensures { λ r. ⌜
-        section.JobTold wanted (now (bytes .entry)) r (now («row_runs» .entry)) (now («column_runs» .entry)) (now («row_runs» .exit))
-        (now («column_runs» .exit))
-        ⌝ }
+    requires { length bytes.now ≤ 2100 }
+    ensures { section.JobTold wanted bytes.now result row_runs.old column_runs.old row_runs.new
+        column_runs.new }
 {
     let mut row_indexes = [0u32; SMALL_ROWS];
     let mut row_sizes = [0u64; SMALL_ROWS];
@@ -328,10 +319,8 @@ fn answer_large(
     row_runs: &mut [u64],
     column_runs: &mut [u64],
 ) -> Answer
-    ensures { λ r. ⌜
-        section.JobTold wanted (now (bytes .entry)) r (now («row_runs» .entry)) (now («column_runs» .entry)) (now («row_runs» .exit))
-        (now («column_runs» .exit))
-        ⌝ }
+    ensures { section.JobTold wanted bytes.now result row_runs.old column_runs.old row_runs.new
+        column_runs.new }
 {
     let mut row_indexes = [0u32; ROWS];
     let mut row_sizes = [0u64; ROWS];
@@ -362,10 +351,8 @@ fn answer_large(
 }
 
 fn answer_job(wanted: Wanted, bytes: &[u8], row_runs: &mut [u64], column_runs: &mut [u64]) -> Answer
-    ensures { λ r. ⌜
-        section.JobTold wanted (now (bytes .entry)) r (now («row_runs» .entry)) (now («column_runs» .entry)) (now («row_runs» .exit))
-        (now («column_runs» .exit))
-        ⌝ }
+    ensures { section.JobTold wanted bytes.now result row_runs.old column_runs.old row_runs.new
+        column_runs.new }
 {
     if bytes.len() <= SMALL {
         return answer_small(wanted, bytes, row_runs, column_runs);
@@ -376,19 +363,13 @@ fn answer_job(wanted: Wanted, bytes: &[u8], row_runs: &mut [u64], column_runs: &
 // Plans the pages of a job, area by area: each one's scale and its runs of rows and columns, which go to the fronts of two lent lists, area
 // after area, and the notes.
 pub fn plan_job(bytes: &[u8], row_runs: &mut [u64], column_runs: &mut [u64]) -> Planning
-    ensures planned { λ r. ⌜
-        call.Planned (section.planJob (now (bytes .entry)) (now («row_runs» .entry)) (now («column_runs» .entry))) r
-        (now («row_runs» .entry)) (now («column_runs» .entry)) (now («row_runs» .exit)) (now («column_runs» .exit))
-        ⌝ }
-    ensures covered { λ r. ⌜
-        (let s = now (bytes .entry) in
-        CoversPairs r (section.jobSheet s) (section.jobAreas s) (now («row_runs» .exit)) (now («column_runs» .exit)))
-        ⌝ }
-    ensures fewest { λ r. ⌜
-        (let s = now (bytes .entry) in
-        FewestPlan r (section.jobSheet s) (section.jobAreas s) (now («row_runs» .exit)) (now («column_runs» .exit)))
-        ⌝ }
-    ensures largest { λ r. ⌜ (let s = now (bytes .entry) in LargestPlan r (section.jobSheet s) (section.jobAreas s)) ⌝ }
+    ensures planned { call.Planned (section.plan_job bytes.now row_runs.old column_runs.old) result
+        row_runs.old column_runs.old row_runs.new column_runs.new }
+    ensures covered { let s = bytes.now in
+        CoversPairs result (section.job_sheet s) (section.job_areas s) row_runs.new column_runs.new }
+    ensures fewest { let s = bytes.now in
+        FewestPlan result (section.job_sheet s) (section.job_areas s) row_runs.new column_runs.new }
+    ensures largest { let s = bytes.now in LargestPlan result (section.job_sheet s) (section.job_areas s) }
 {
     let answer = answer_job(Wanted::Plan, bytes, row_runs, column_runs);
     planning_in(answer)
@@ -396,7 +377,7 @@ pub fn plan_job(bytes: &[u8], row_runs: &mut [u64], column_runs: &mut [u64]) -> 
 
 // The plan that `plan_job` answers where its lists are long enough, of a job whose runs are not written.
 pub fn count_job(bytes: &[u8]) -> Planning
-    ensures { λ r. ⌜ call.Counted (section.countJob (now (bytes .entry))) r ⌝ }
+    ensures { call.Counted (section.count_job bytes.now) result }
 {
     let mut rows = [0u64; 0];
     let mut columns = [0u64; 0];
@@ -412,10 +393,8 @@ pub fn write_job_area(
     row_runs: &mut [u64],
     column_runs: &mut [u64],
 ) -> Writing
-    ensures { λ r. ⌜
-        call.AreaWrote (section.writeJobArea (now (bytes .entry)) number permille (now («row_runs» .entry)) (now («column_runs» .entry))) r
-        (now («row_runs» .entry)) (now («column_runs» .entry)) (now («row_runs» .exit)) (now («column_runs» .exit))
-        ⌝ }
+    ensures { call.AreaWrote (section.write_job_area bytes.now number permille row_runs.old column_runs.old) result
+        row_runs.old column_runs.old row_runs.new column_runs.new }
 {
     let answer = answer_job(Wanted::Area(number, permille), bytes, row_runs, column_runs);
     writing_in(answer)

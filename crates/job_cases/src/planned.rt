@@ -1,21 +1,11 @@
 // Plans a job and prints the plan, as program `plan` does: counted first, then area by area in the same lists.
 use crate::block;
-use crate::block::BLOCK;
-use crate::block::LINE;
-use job::count_job;
-use job::write_job_area;
-use job_report::area_line;
-use job_report::head_lines;
-use job_report::page_line;
+use crate::block::{BLOCK, LINE};
+use job::{count_job, write_job_area};
+use job_report::{area_line, head_lines, page_line};
 use planner_areas::plan_at;
-use planner_pages::area_page;
-use planner_pages::page_spot;
-use planner_rules::Found;
-use planner_rules::PageAnswer;
-use planner_rules::Plan;
-use planner_rules::Planning;
-use planner_rules::RUN_NUMBERS;
-use planner_rules::Spot;
+use planner_pages::{area_page, page_spot};
+use planner_rules::{Found, PageAnswer, Plan, Planning, RUN_NUMBERS, Spot};
 
 // The runs that a list has room for, and its numbers.
 const RUNS: usize = 5000;

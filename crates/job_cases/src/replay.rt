@@ -1,9 +1,9 @@
 // Answers lines of input. A line is the number of a job's bytes as eight hexadecimal digits, the bytes as two digits each, and a line end.
+ghost use Rattle.std.specs.Prelude.{◌<◌, ◌≤◌};
+
 use crate::planned::print_plan;
 use hexadecimal::bits;
-use libc::STDIN_FILENO;
-use libc::STDOUT_FILENO;
-ghost use Prim.Native.Nat.{_≤_, _<_};
+use libc::{STDIN_FILENO, STDOUT_FILENO};
 
 // The most bytes that are read: one more than a job may have.
 const MOST: usize = 60_001;
@@ -13,7 +13,7 @@ const TEXT: usize = 2 * MOST + 1;
 
 // The byte with the number i.
 fn byte(text: &[u8; TEXT], i: usize) -> u8
-    requires { ⌜ i < 60001 ⌝ }
+    requires { i < 60001 }
 {
     let digits = &text[..];
     let start = 2 * i;
@@ -22,7 +22,7 @@ fn byte(text: &[u8; TEXT], i: usize) -> u8
 }
 
 fn decode(text: &[u8; TEXT], n: usize, out: &mut [u8; MOST])
-    requires { ⌜ n ≤ 60001 ⌝ }
+    requires { n ≤ 60001 }
 {
     let mut i = 0;
     while i < n {
@@ -33,7 +33,7 @@ fn decode(text: &[u8; TEXT], n: usize, out: &mut [u8; MOST])
 
 // Whether a line end stands after the digits of n bytes.
 fn line_ends(text: &[u8; TEXT], n: usize) -> bool
-    requires { ⌜ n ≤ 60001 ⌝ }
+    requires { n ≤ 60001 }
 {
     let at = 2 * n;
     text[at] == b'\n'
@@ -41,7 +41,7 @@ fn line_ends(text: &[u8; TEXT], n: usize) -> bool
 
 // Answers the job of the first n bytes.
 fn answer_job(bytes: &[u8; MOST], n: usize)
-    requires { ⌜ n ≤ 60001 ⌝ }
+    requires { n ≤ 60001 }
 {
     let all = &bytes[..];
     print_plan(&all[0..n]);
@@ -49,7 +49,7 @@ fn answer_job(bytes: &[u8; MOST], n: usize)
 
 // Reads the rest of a line, answers it, and says whether it ended where it had to.
 fn answered(n: usize) -> bool
-    requires { ⌜ n ≤ 60001 ⌝ }
+    requires { n ≤ 60001 }
 {
     let mut text = [b'0'; TEXT];
     let rest = 2 * n + 1;

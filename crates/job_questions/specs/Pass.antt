@@ -1,28 +1,25 @@
 -- What one pass over the records carries from record to record, for the private functions of `src/lib.rt`. Assumes nothing.
-use Prim.Native.Nat.{ℕ, _+_, _<_, _^_}
-use mathlib.Core.Bool.{Bool, true, cond, _&&_}
-use mathlib.Core.List.{List, [], _∷_}
-use lib.Dec.{leb, ltb, eqb}
-use Rattle·job_records.specs.Records.{AR, RW, CL, MR, BR, BC, rank, records}
-use Rattle·units.specs.Grid.{lastRow, lastColumn}
-use Rattle·planner_rules.specs.Areas.{oneToEight}
-use Rattle·job_questions·specs.specs.Verdict.{asked, follows, flagOk, notReversed, inGrid, sized, question1, question2, question3}
-use Rattle·job_records.specs.declared.records.Record.{Record}
-use Rattle·job_questions·specs.specs.declared.Asked.{Asked}
-use Rattle·job_questions·specs.specs.declared.Asked.the-variants.{Flag, Rectangle, InRows, InColumns, Other}
-use Rattle·job_questions·specs.specs.declared.Fine.{Fine}
-use Rattle·job_questions·specs.specs.declared.Items.{Items}
-use Rattle·job_questions·specs.specs.declared.State.{State}
-use Rattle·job_questions·specs.specs.declared.Survey.{Survey}
-use Rattle·job_questions·specs.specs.declared.Survey.the-variants.{Stopped, Whole}
+use Rattle.std.specs.Prelude.{ℕ, ◌+◌, ◌<◌, ◌^◌, Bool, true, cond, ◌&&◌, List, [], ◌∷◌, leb, ltb, eqb}
+use Rattle.job_records.specs.Records.{AR, RW, CL, MR, BR, BC, rank, records}
+use Rattle.units.specs.Grid.{last_row, last_column}
+use Rattle.planner_rules.specs.Areas.{one_to_eight}
+use Rattle.job_questions.specs.Verdict.{asked, follows, flag_ok, not_reversed, in_grid, sized, question1, question2, question3}
+use Rattle.job_records.specs.declared.records.Record.{Record}
+use Rattle.job_questions.specs.declared.Asked.{Asked}
+use Rattle.job_questions.specs.declared.Asked.TheVariants.{Flag, Rectangle, InRows, InColumns, Other}
+use Rattle.job_questions.specs.declared.Fine.{Fine}
+use Rattle.job_questions.specs.declared.Items.{Items}
+use Rattle.job_questions.specs.declared.State.{State}
+use Rattle.job_questions.specs.declared.Survey.{Survey}
+use Rattle.job_questions.specs.declared.Survey.TheVariants.{Stopped, Whole}
 
 -- what a record answers to the questions 5, 6, 7 and 9
 abbrev pub fine : Asked → Fine
-fine a = record { flag = flagOk a; first = notReversed a; grid = inGrid a; size = sized a }
+fine a = record { flag = flag_ok a; first = not_reversed a; grid = in_grid a; size = sized a }
 
 -- what is fine of both
-abbrev pub bothFine : Fine → Fine → Fine
-bothFine a b = record { flag = a .flag && b .flag; first = a .first && b .first; grid = a .grid && b .grid; size = a .size && b .size }
+abbrev pub both_fine : Fine → Fine → Fine
+both_fine a b = record { flag = a.flag && b.flag; first = a.first && b.first; grid = a.grid && b.grid; size = a.size && b.size }
 
 -- above every index: what no slot may follow
 abbrev pub beyond : ℕ
@@ -33,44 +30,44 @@ abbrev pub placed : ℕ → ℕ → ℕ → ℕ
 placed top next i = cond (leb next i && leb i top) (i + 1) beyond
 
 -- the next row that may come, after a record
-abbrev pub rowsAfter : ℕ → Asked → ℕ
-rowsAfter n (Flag x) = n
-rowsAfter n (Rectangle r) = n
-rowsAfter n (InRows s) = placed lastRow n (s .index)
-rowsAfter n (InColumns s) = n
-rowsAfter n Other = n
+abbrev pub rows_after : ℕ → Asked → ℕ
+rows_after n (Flag x) = n
+rows_after n (Rectangle r) = n
+rows_after n (InRows s) = placed last_row n s.index
+rows_after n (InColumns s) = n
+rows_after n Other = n
 
 -- the next column that may come, after a record
-abbrev pub columnsAfter : ℕ → Asked → ℕ
-columnsAfter n (Flag x) = n
-columnsAfter n (Rectangle r) = n
-columnsAfter n (InRows s) = n
-columnsAfter n (InColumns s) = placed lastColumn n (s .index)
-columnsAfter n Other = n
+abbrev pub columns_after : ℕ → Asked → ℕ
+columns_after n (Flag x) = n
+columns_after n (Rectangle r) = n
+columns_after n (InRows s) = n
+columns_after n (InColumns s) = placed last_column n s.index
+columns_after n Other = n
 
 -- one more where the ranks are the same
-abbrev pub oneMore : ℕ → ℕ → ℕ → ℕ
-oneMore n k j = n + cond (eqb k j) 1 0
+abbrev pub one_more : ℕ → ℕ → ℕ → ℕ
+one_more n k j = n + cond (eqb k j) 1 0
 
 -- the items counted, after a record with the rank k
 abbrev pub counted : Items → ℕ → Items
 counted c k = record {
-  areas = oneMore (c .areas) k AR;
-  rows = oneMore (c .rows) k RW;
-  columns = oneMore (c .columns) k CL;
-  merges = oneMore (c .merges) k MR;
-  «row_breaks» = oneMore (c .«row_breaks») k BR;
-  «column_breaks» = oneMore (c .«column_breaks») k BC;
+  areas = one_more c.areas k AR;
+  rows = one_more c.rows k RW;
+  columns = one_more c.columns k CL;
+  merges = one_more c.merges k MR;
+  row_breaks = one_more c.row_breaks k BR;
+  column_breaks = one_more c.column_breaks k BC;
 }
 
 -- so few that one more can be counted
 pub record Few (c : Items) : Type 0 where
-  pub areas : c .areas < 2 ^ 32
-  pub rows : c .rows < 2 ^ 32
-  pub columns : c .columns < 2 ^ 32
-  pub merges : c .merges < 2 ^ 32
-  pub row-breaks : c .«row_breaks» < 2 ^ 32
-  pub column-breaks : c .«column_breaks» < 2 ^ 32
+  pub areas : c.areas < 2 ^ 32
+  pub rows : c.rows < 2 ^ 32
+  pub columns : c.columns < 2 ^ 32
+  pub merges : c.merges < 2 ^ 32
+  pub row_breaks : c.row_breaks < 2 ^ 32
+  pub column_breaks : c.column_breaks < 2 ^ 32
 
 -- before the first record
 abbrev pub start : State
@@ -80,18 +77,18 @@ start = record {
   fine = record { flag = true; first = true; grid = true; size = true };
   rows = 0;
   columns = 0;
-  items = record { areas = 0; rows = 0; columns = 0; merges = 0; «row_breaks» = 0; «column_breaks» = 0 };
+  items = record { areas = 0; rows = 0; columns = 0; merges = 0; row_breaks = 0; column_breaks = 0 };
 }
 
 -- the state of a pass after one more record
 abbrev pub advanced : State → Record → State
 advanced t r = record {
   rank = rank r;
-  ordered = t .ordered && follows (t .rank) (rank r);
-  fine = bothFine (t .fine) (fine (asked r));
-  rows = rowsAfter (t .rows) (asked r);
-  columns = columnsAfter (t .columns) (asked r);
-  items = counted (t .items) (rank r);
+  ordered = t.ordered && follows t.rank (rank r);
+  fine = both_fine t.fine (fine (asked r));
+  rows = rows_after t.rows (asked r);
+  columns = columns_after t.columns (asked r);
+  items = counted t.items (rank r);
 }
 
 -- after some records
@@ -105,19 +102,19 @@ surveyed s =
     cond (question1 s) (cond (question2 s) (cond (question3 s) (Whole (after start (records s))) (Stopped 3)) (Stopped 2)) (Stopped 1)
 
 -- the number of the first no, or 0
-unfoldable pub firstNo : List (ℕ × Bool) → ℕ
-firstNo [] = 0
-firstNo ((n, q) ∷ qs) = cond q (firstNo qs) n
+unfoldable pub first_no : List (ℕ × Bool) → ℕ
+first_no [] = 0
+first_no ((n, q) ∷ qs) = cond q (first_no qs) n
 
 -- the first of the questions 4 to 7, 15, 8 and 9 that is answered no, or 0; 15 is not the pass's
 unfoldable pub answer : Bool → Bool → State → ℕ
-answer equally-long cells t =
-    firstNo
-    ((4, t .ordered && oneToEight (t .items .areas))
-    ∷ (5, t .fine .flag)
-    ∷ (6, equally-long && t .fine .first)
-    ∷ (7, t .fine .grid)
+answer equally_long cells t =
+    first_no
+    ((4, t.ordered && one_to_eight t.items.areas)
+    ∷ (5, t.fine.flag)
+    ∷ (6, equally_long && t.fine.first)
+    ∷ (7, t.fine.grid)
     ∷ (15, cells)
-    ∷ (8, ltb (t .rows) beyond && ltb (t .columns) beyond)
-    ∷ (9, t .fine .size)
+    ∷ (8, ltb t.rows beyond && ltb t.columns beyond)
+    ∷ (9, t.fine.size)
     ∷ [])

@@ -1,34 +1,18 @@
 // The questions 1 to 9 and 15 put to a job, all but 15 in one pass over its records: document 01, section "Questions in order".
-use job_records::ColumnSlot;
-use job_records::Range;
-use job_records::Record;
-use job_records::RowSlot;
-use job_records::Step;
-use job_records::rank_of;
-use job_records::ranks::COLUMN_BREAKS;
-use job_records::ranks::COLUMNS;
-use job_records::ranks::END;
-use job_records::ranks::MERGES;
-use job_records::ranks::RANGE;
-use job_records::ranks::ROW_BREAKS;
-use job_records::ranks::ROWS;
-use job_records::read_record;
+ghost use Rattle.std.specs.Prelude.{◌≡◌, ◌<◌, ◌^◌, length};
+ghost use Rattle.job_records.specs.Records.{rank, AR, records, marked};
+ghost use Rattle.job_walk.specs.Walk.{Sorted};
+ghost use Rattle.job_questions.specs.Verdict.{asked, follows, firsts_ok, grid_ok, size_ok, question15, verdict_lent, verdict, checked_outcome};
+ghost use Rattle.job_questions.specs.Pass.{fine, both_fine, placed, rows_after, columns_after, one_more, counted, Few};
+ghost use Rattle.job_questions.specs.Pass.{start, advanced, after, surveyed, answer};
+
+use job_records::ranks::{COLUMN_BREAKS, COLUMNS, END, MERGES, RANGE, ROW_BREAKS, ROWS};
+use job_records::{ColumnSlot, Range, Record, RowSlot, Step, rank_of, read_record};
 use job_settings::areas_for;
-use job_walk::areas_of;
-use job_walk::cell_limit_of;
+use job_walk::{areas_of, cell_limit_of};
 use planner_areas::cells_hold;
 use planner_rules::CellLimit;
-use units::LARGEST_SIZE;
-use units::MAX_WORKSHEET_COLUMN;
-use units::MAX_WORKSHEET_ROW;
-ghost use mathlib.Core.Path.{_≡_};
-ghost use Prim.Native.Nat.{_<_, _^_};
-ghost use lib.ListN.{length};
-ghost use Rattle·job_records.specs.Records.{rank, AR, records, marked};
-ghost use Rattle·job_walk.specs.Walk.{Sorted};
-ghost use Rattle·job_questions·specs.specs.Verdict.{asked, follows, firstsOk, gridOk, sizeOk, question15, verdictLent, verdict, checkedOutcome};
-ghost use Rattle·job_questions·specs.specs.Pass.{fine, bothFine, placed, rowsAfter, columnsAfter, oneMore, counted, Few};
-ghost use Rattle·job_questions·specs.specs.Pass.{start, advanced, after, surveyed, answer};
+use units::{LARGEST_SIZE, MAX_WORKSHEET_COLUMN, MAX_WORKSHEET_ROW};
 
 // The most bytes of a job.
 pub const MOST_BYTES: usize = 60_000;
@@ -40,6 +24,7 @@ pub const MOST_AREAS: usize = 8;
 const BEYOND: u64 = 0x1_0000_0000;
 
 // How many records repeat of each kind.
+#[derive(Drop)]
 pub struct Items {
     pub areas: usize,
     pub rows: usize,
@@ -50,12 +35,14 @@ pub struct Items {
 }
 
 // What `check_job` answers: how many items a job has, or a refusal with its number.
+#[derive(Drop)]
 pub enum Checked {
     Value(Items),
     Refused(u8),
 }
 
 // What the questions 5 to 9 ask of a record.
+#[derive(Drop)]
 pub(crate) enum Asked {
     Flag(u8),
     Rectangle(Range),
@@ -65,6 +52,7 @@ pub(crate) enum Asked {
 }
 
 // What a record answers to the questions 5, 6, 7 and 9.
+#[derive(Drop)]
 pub(crate) struct Fine {
     pub flag: bool,
     pub first: bool,
@@ -73,6 +61,7 @@ pub(crate) struct Fine {
 }
 
 // What the pass carries from record to record. Of an axis it is the least index that may come next, or `BEYOND`.
+#[derive(Drop)]
 pub(crate) struct State {
     pub rank: u8,
     pub ordered: bool,
@@ -83,13 +72,14 @@ pub(crate) struct State {
 }
 
 // What a pass found: the number of a question, or what it carried past the last record before an EN that is last.
+#[derive(Drop)]
 pub(crate) enum Survey {
     Stopped(u8),
     Whole(State),
 }
 
 fn asked_of(found: Record) -> Asked
-    ensures { λ r. ⌜ r ≡ asked found ⌝ }
+    ensures { result ≡ asked found }
 {
     match found {
         Record::Fit(x) => Asked::Flag(x),
@@ -106,20 +96,20 @@ fn asked_of(found: Record) -> Asked
 }
 
 fn follows_on(last: u8, next: u8) -> bool
-    ensures { λ r. ⌜ r ≡ follows last next ⌝ }
+    ensures { result ≡ follows last next }
 {
     let repeats = (next == RANGE) | ((ROWS <= next) & (next <= COLUMN_BREAKS));
     (last < next) | ((last == next) & repeats)
 }
 
 fn firsts_ok(a: Range) -> bool
-    ensures { λ r. ⌜ r ≡ firstsOk a ⌝ }
+    ensures { result ≡ firsts_ok a }
 {
     (a.first_row <= a.last_row) & (a.first_column <= a.last_column)
 }
 
 fn grid_ok(a: Range) -> bool
-    ensures { λ r. ⌜ r ≡ gridOk a ⌝ }
+    ensures { result ≡ grid_ok a }
 {
     let rows = (a.first_row <= MAX_WORKSHEET_ROW) & (a.last_row <= MAX_WORKSHEET_ROW);
     let columns = (a.first_column <= MAX_WORKSHEET_COLUMN)
@@ -129,13 +119,13 @@ fn grid_ok(a: Range) -> bool
 
 // 9 of a size.
 fn size_ok(size: i64) -> bool
-    ensures { λ r. ⌜ r ≡ sizeOk size ⌝ }
+    ensures { result ≡ size_ok size }
 {
     (0 <= size) & (size <= LARGEST_SIZE as i64)
 }
 
 fn fine_of(what: Asked) -> Fine
-    ensures { λ r. ⌜ r ≡ fine what ⌝ }
+    ensures { result ≡ fine what }
 {
     let mut f = Fine {
         flag: true,
@@ -167,7 +157,7 @@ fn fine_of(what: Asked) -> Fine
 
 // 8 of an axis after a slot with this index, in a grid whose last index is `last`.
 fn place(last: u32, next: u64, index: u32) -> u64
-    ensures { λ r. ⌜ r ≡ placed last next index ⌝ }
+    ensures { result ≡ placed last next index }
 {
     let i = index as u64;
     if (next <= i) & (index <= last) {
@@ -178,7 +168,7 @@ fn place(last: u32, next: u64, index: u32) -> u64
 }
 
 fn rows_after(next: u64, what: Asked) -> u64
-    ensures { λ r. ⌜ r ≡ rowsAfter next what ⌝ }
+    ensures { result ≡ rows_after next what }
 {
     match what {
         Asked::InRows(s) => place(MAX_WORKSHEET_ROW, next, s.index),
@@ -187,7 +177,7 @@ fn rows_after(next: u64, what: Asked) -> u64
 }
 
 fn columns_after(next: u64, what: Asked) -> u64
-    ensures { λ r. ⌜ r ≡ columnsAfter next what ⌝ }
+    ensures { result ≡ columns_after next what }
 {
     match what {
         Asked::InColumns(s) => place(MAX_WORKSHEET_COLUMN as u32, next, s.index as u32),
@@ -196,7 +186,7 @@ fn columns_after(next: u64, what: Asked) -> u64
 }
 
 fn both(a: Fine, b: Fine) -> Fine
-    ensures { λ r. ⌜ r ≡ bothFine a b ⌝ }
+    ensures { result ≡ both_fine a b }
 {
     Fine {
         flag: a.flag & b.flag,
@@ -208,16 +198,16 @@ fn both(a: Fine, b: Fine) -> Fine
 
 // One more where the ranks are the same.
 fn one_more(n: usize, rank: u8, wanted: u8) -> usize
-    requires { ⌜ n < 2 ^ 32 ⌝ }
-    ensures { λ r. ⌜ r ≡ oneMore n rank wanted ⌝ }
+    requires { n < 2 ^ 32 }
+    ensures { result ≡ one_more n rank wanted }
 {
     if rank == wanted { n + 1 } else { n }
 }
 
 // The items after a record with this rank.
 fn count(c: Items, rank: u8) -> Items
-    requires { ⌜ Few c ⌝ }
-    ensures { λ r. ⌜ r ≡ counted c rank ⌝ }
+    requires { Few c }
+    ensures { result ≡ counted c rank }
 {
     Items {
         areas: one_more(c.areas, rank, RANGE),
@@ -230,8 +220,8 @@ fn count(c: Items, rank: u8) -> Items
 }
 
 fn advance(t: State, found: Record) -> State
-    requires { ⌜ Few (t .items) ⌝ }
-    ensures { λ r. ⌜ r ≡ advanced t found ⌝ }
+    requires { Few t.items }
+    ensures { result ≡ advanced t found }
 {
     let rank = rank_of(found);
     let what = asked_of(found);
@@ -248,7 +238,7 @@ fn advance(t: State, found: Record) -> State
 }
 
 fn beginning() -> State
-    ensures { λ r. ⌜ r ≡ start ⌝ }
+    ensures { result ≡ start }
 {
     State {
         rank: 0,
@@ -274,9 +264,9 @@ fn beginning() -> State
 
 // 15 of a job with so many areas, whose records are in order.
 fn cells_ok(bytes: &[u8], count: usize) -> bool
-    requires { ⌜ Sorted 0 (records (now bytes)) ⌝ }
-    requires { ⌜ count ≡ length (marked AR (records (now bytes))) ⌝ }
-    ensures { λ r. ⌜ r ≡ question15 (now (bytes .entry)) ⌝ }
+    requires sorted { Sorted 0 (records bytes.now) }
+    requires count_value { count ≡ length (marked AR (records bytes.now)) }
+    ensures { result ≡ question15 bytes.now }
 {
     let limit = cell_limit_of(bytes);
     let CellLimit::Given(_) = limit else {
@@ -289,8 +279,8 @@ fn cells_ok(bytes: &[u8], count: usize) -> bool
 
 // The first of the questions 4 to 7, 15, 8 and 9 that is answered no, or 0. Slices that make up one list are equally long, or not.
 fn first_no(bytes: &[u8], equally_long: bool, t: State) -> u8
-    requires { ⌜ t ≡ after start (records (now bytes)) ⌝ }
-    ensures { λ r. ⌜ r ≡ answer «equally_long» (question15 (now (bytes .entry))) t ⌝ }
+    requires { t ≡ after start (records bytes.now) }
+    ensures { result ≡ answer equally_long (question15 bytes.now) t }
 {
     let areas = t.items.areas;
     if !(t.ordered & ((1 <= areas) & (areas <= MOST_AREAS))) {
@@ -321,7 +311,7 @@ fn first_no(bytes: &[u8], equally_long: bool, t: State) -> u8
 
 // Questions 1 to 3, and what is carried past the records.
 fn survey_job(bytes: &[u8]) -> Survey
-    ensures { λ r. ⌜ r ≡ surveyed (now (bytes .entry)) ⌝ }
+    ensures { result ≡ surveyed bytes.now }
 {
     if bytes.len() > MOST_BYTES {
         return Survey::Stopped(1);
@@ -346,7 +336,7 @@ fn survey_job(bytes: &[u8]) -> Survey
 // How many items a job has, or the number of the first question that is answered no. The slices that a caller was lent for the job's
 // answer and that make up one list are equally long, or not.
 pub fn check_job_lent(bytes: &[u8], equally_long: bool) -> Checked
-    ensures { λ r. ⌜ checkedOutcome r ≡ verdictLent «equally_long» (now (bytes .entry)) ⌝ }
+    ensures { checked_outcome result ≡ verdict_lent equally_long bytes.now }
 {
     let found = survey_job(bytes);
     match found {
@@ -364,7 +354,7 @@ pub fn check_job_lent(bytes: &[u8], equally_long: bool) -> Checked
 
 // The same for a call that was lent no list.
 pub fn check_job(bytes: &[u8]) -> Checked
-    ensures { λ r. ⌜ checkedOutcome r ≡ verdict (now (bytes .entry)) ⌝ }
+    ensures { checked_outcome result ≡ verdict bytes.now }
 {
     check_job_lent(bytes, true)
 }

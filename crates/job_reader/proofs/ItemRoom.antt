@@ -1,62 +1,62 @@
 -- How many items a number of bytes can bring: a record has the bytes of its mark. A job whose questions are answered yes is read whole where
 -- the lists hold its items. Assumes nothing.
-use mathlib.Core.Path.{_≡_, refl, sym, ap, _∙_}
-use mathlib.Core.Bool.{Bool, true, false, cond, _&&_, _||_}
-use mathlib.Core.List.{List, [], _∷_}
-use Prim.Native.Nat.{ℕ, zero, suc, pred, _+_, _*_, _≤_, _<_}
+use mathlib.Core.Path.{◌≡◌, refl, sym, ap, ◌∙◌}
+use mathlib.Core.Bool.{Bool, true, false, cond, ◌&&◌, ◌||◌}
+use mathlib.Core.List.{List, [], ◌∷◌}
+use Prim.Native.Nat.{ℕ, zero, suc, pred, ◌+◌, ◌*◌, ◌≤◌, ◌<◌}
 use native.Mathlib.Omega.{arith}
 use lib.Dec.{T, leb, eqb, leb→le}
 use lib.ListN.{length}
 use borrow.Author.Tests.{le-leb, leb-true}
-use Rattle·units.specs.Outcome.{Outcome, given, refused}
-use Rattle·job_records.specs.declared.records.Record.{Record}
-use Rattle·job_records.specs.declared.records.Step.{Step}
-use Rattle·job_records.specs.declared.records.Step.the-variants.{Read, Nothing}
-use Rattle·job_questions.specs.declared.Items.{Items}
-use Rattle·job_records.specs.Records.{Format, Found, RW, CL, MR, BR, BC, found, find, formats, known, headRecord, step, rank, isEnd, used, onto}
-use Rattle·job_records.specs.Records.{recordsFrom, records, marked}
-use Rattle·job_questions.specs.Verdict.{questions, inOrder, verdictLent, itemsOf}
-use Rattle·job_reader·specs.specs.Reading.{Lists, evenLists, roomIn, fitIn, asked, jobOf, readJob}
-use Rattle·job_records.proofs.RecordLaws.{same-found, in-whole, step-found, step-used, split}
-use Rattle·job_questions.proofs.PassLaws.{All}
-use Rattle·planner_rules.proofs.QuestionLaws.{both}
-use Rattle·job_reader·proofs.proofs.ReadingLaws.{all-given, all-past}
+use Rattle.units.specs.Outcome.{Outcome, given, refused}
+use Rattle.job_records.specs.declared.records.Record.{Record}
+use Rattle.job_records.specs.declared.records.Step.{Step}
+use Rattle.job_records.specs.declared.records.Step.TheVariants.{Read, Nothing}
+use Rattle.job_questions.specs.declared.Items.{Items}
+use Rattle.job_records.specs.Records.{Format, Found, RW, CL, MR, BR, BC, found, find, formats, known, head_record, step, rank, is_end, used, onto}
+use Rattle.job_records.specs.Records.{records_from, records, marked}
+use Rattle.job_questions.specs.Verdict.{questions, in_order, verdict_lent, items_of}
+use Rattle.job_reader.specs.Reading.{Lists, even_lists, room_in, fit_in, asked, job_of, read_job}
+use Rattle.job_records.proofs.RecordLaws.{same_found, in_whole, step_found, step_used, split}
+use Rattle.job_questions.proofs.PassLaws.{All}
+use Rattle.planner_rules.proofs.QuestionLaws.{both}
+use Rattle.job_reader.proofs.ReadingLaws.{all_given, all_past}
 
 -- ---- the bytes of a mark
 
 -- a record with the place k in the order has at least w bytes
 abbrev heavy : ℕ → ℕ → List ℕ → List Format → Bool
 heavy k w s [] = true
-heavy k w s (f ∷ fs) = cond (cond (eqb (rank (f .kind s)) k) (leb w (f .bytes)) true) (heavy k w s fs) false
+heavy k w s (f ∷ fs) = cond (cond (eqb (rank (f.kind s)) k) (leb w f.bytes) true) (heavy k w s fs) false
 
-heavy-here : (k w : ℕ) (f : Format) (s : List ℕ) → T (cond (eqb (rank (f .kind s)) k) (leb w (f .bytes)) true) → eqb (rank (f .kind s)) k ≡ true
-    → w ≤ f .bytes
-heavy-here k w f s t e = leb→le w (f .bytes) (rw e at t)
+heavy_here : (k w : ℕ) (f : Format) (s : List ℕ) → T (cond (eqb (rank (f.kind s)) k) (leb w f.bytes) true) → eqb (rank (f.kind s)) k ≡ true
+    → w ≤ f.bytes
+heavy_here k w f s t e = leb→le w f.bytes (rw e at t)
 
-found-here : (k w : ℕ) (f : Format) (b : Bool) (g : Outcome Found) (s : List ℕ) (r : Record) (n : ℕ)
-    → T (cond (eqb (rank (f .kind s)) k) (leb w (f .bytes)) true) → (g ≡ found r n → w ≤ n) → eqb (rank r) k ≡ true
-    → cond b (found (f .kind s) (f .bytes)) g ≡ found r n → w ≤ n
-found-here k w f true g s r n t h e i =
-    let same = same-found (f .kind s) r (f .bytes) n i in
-    let j = heavy-here k w f s t (ap (λ (q : Record). eqb (rank q) k) (same .0) ∙ e) in
-    omega (arith, same .1)
-found-here k w f false g s r n t h e i = h i
+found_here : (k w : ℕ) (f : Format) (b : Bool) (g : Outcome Found) (s : List ℕ) (r : Record) (n : ℕ)
+    → T (cond (eqb (rank (f.kind s)) k) (leb w f.bytes) true) → (g ≡ found r n → w ≤ n) → eqb (rank r) k ≡ true
+    → cond b (found (f.kind s) f.bytes) g ≡ found r n → w ≤ n
+found_here k w f true g s r n t h e i =
+    let same = same_found (f.kind s) r f.bytes n i in
+    let j = heavy_here k w f s t (ap (λ (q : Record). eqb (rank q) k) same.0 ∙ e) in
+    omega (arith, same.1)
+found_here k w f false g s r n t h e i = h i
 
-found-heavy : (k w : ℕ) (fs : List Format) (x : ℕ) (s : List ℕ) (r : Record) (n : ℕ) → T (heavy k w s fs) → eqb (rank r) k ≡ true → find x fs s ≡ found r n
+found_heavy : (k w : ℕ) (fs : List Format) (x : ℕ) (s : List ℕ) (r : Record) (n : ℕ) → T (heavy k w s fs) → eqb (rank r) k ≡ true → find x fs s ≡ found r n
     → w ≤ n
 unfolding find
-found-heavy k w [] x s r n t e i = let z : _≡_ {A = ℕ} 0 1 = cc in absurd (omega arith)
-found-heavy k w (f ∷ fs) x s r n t e i =
-    let u = split (cond (eqb (rank (f .kind s)) k) (leb w (f .bytes)) true) (heavy k w s fs) t in
-    found-here k w f (eqb x (f .mark)) (find x fs s) s r n (u .0) (found-heavy k w fs x s r n (u .1) e) e i
+found_heavy k w [] x s r n t e i = let z : ◌≡◌ {A = ℕ} 0 1 = cc in absurd (omega arith)
+found_heavy k w (f ∷ fs) x s r n t e i =
+    let u = split (cond (eqb (rank (f.kind s)) k) (leb w f.bytes) true) (heavy k w s fs) t in
+    found_here k w f (eqb x f.mark) (find x fs s) s r n u.0 (found_heavy k w fs x s r n u.1 e) e i
 
 -- the table says so, of a mark and its bytes
 abbrev Weighs : ℕ → ℕ → Type 0
 Weighs k w = (s : List ℕ) → T (heavy k w s formats)
 
-step-heavy : (k w : ℕ) → Weighs k w → (s : List ℕ) (r : Record) (n : ℕ) → step s ≡ Read r n → eqb (rank r) k ≡ true → w ≤ n
-unfolding headRecord known
-step-heavy k w h s r n i e = found-heavy k w formats _ s r n (h s) e (in-whole (length s) (known s) r n (step-found s r n i) .0)
+step_heavy : (k w : ℕ) → Weighs k w → (s : List ℕ) (r : Record) (n : ℕ) → step s ≡ Read r n → eqb (rank r) k ≡ true → w ≤ n
+unfolding head_record known
+step_heavy k w h s r n i e = found_heavy k w formats _ s r n (h s) e (in_whole (length s) (known s) r n (step_found s r n i)).0
 
 -- ---- the bytes of all records with a mark
 
@@ -70,102 +70,102 @@ module _ (k w : ℕ) (h : Weighs k w) where
       go true v = let j = v refl in omega arith
       go false v = omega arith
 
-  pub bytes-from : (j : ℕ) (s : List ℕ) → j ≤ length s → length (marked k (recordsFrom j s)) * w + j ≤ length s
-  unfolding recordsFrom marked onto
-  bytes-from zero [] u = omega arith
-  bytes-from (suc j) [] u = absurd (omega arith)
-  bytes-from (suc j) (b ∷ bs) u = let i = bytes-from j bs (omega arith) in omega arith
-  bytes-from zero (b ∷ bs) u = go (step (b ∷ bs)) refl (λ m v. bytes-from m bs v)
+  pub bytes_from : (j : ℕ) (s : List ℕ) → j ≤ length s → length (marked k (records_from j s)) * w + j ≤ length s
+  unfolding records_from marked onto
+  bytes_from zero [] u = omega arith
+  bytes_from (suc j) [] u = absurd (omega arith)
+  bytes_from (suc j) (b ∷ bs) u = let i = bytes_from j bs (omega arith) in omega arith
+  bytes_from zero (b ∷ bs) u = go (step (b ∷ bs)) refl (λ m v. bytes_from m bs v)
     where
-      here : (r : Record) (n : ℕ) (e : Bool) → step (b ∷ bs) ≡ Read r n → ((m : ℕ) → m ≤ length bs → length (marked k (recordsFrom m bs)) * w + m ≤ length bs)
-          → length (marked k (cond e [] (r ∷ recordsFrom (pred n) bs))) * w + 0 ≤ suc (length bs)
+      here : (r : Record) (n : ℕ) (e : Bool) → step (b ∷ bs) ≡ Read r n → ((m : ℕ) → m ≤ length bs → length (marked k (records_from m bs)) * w + m ≤ length bs)
+          → length (marked k (cond e [] (r ∷ records_from (pred n) bs))) * w + 0 ≤ suc (length bs)
       here r n true i more = omega arith
       here r n false i more =
-          let m = step-used (b ∷ bs) (Read r n) r n (sym i) refl in
-          let v = next r n (length bs) (recordsFrom (pred n) bs) (m .0) (step-heavy k w h (b ∷ bs) r n i) (more (pred n) (omega (arith, m .0, m .1))) in
+          let m = step_used (b ∷ bs) (Read r n) r n (sym i) refl in
+          let v = next r n (length bs) (records_from (pred n) bs) m.0 (step_heavy k w h (b ∷ bs) r n i) (more (pred n) (omega (arith, m.0, m.1))) in
           omega (arith, v)
 
-      go : (f : Step) → step (b ∷ bs) ≡ f → ((m : ℕ) → m ≤ length bs → length (marked k (recordsFrom m bs)) * w + m ≤ length bs)
-          → length (marked k (onto f (recordsFrom (pred (used f)) bs))) * w + 0 ≤ suc (length bs)
+      go : (f : Step) → step (b ∷ bs) ≡ f → ((m : ℕ) → m ≤ length bs → length (marked k (records_from m bs)) * w + m ≤ length bs)
+          → length (marked k (onto f (records_from (pred (used f)) bs))) * w + 0 ≤ suc (length bs)
       go Nothing i more = omega arith
-      go (Read r n) i more = here r n (isEnd r) i more
+      go (Read r n) i more = here r n (is_end r) i more
 
-  pub bytes-of : (s : List ℕ) → length (marked k (records s)) * w ≤ length s
+  pub bytes_of : (s : List ℕ) → length (marked k (records s)) * w ≤ length s
   unfolding records
-  bytes-of s = let i = bytes-from 0 s (omega arith) in omega (arith, i)
+  bytes_of s = let i = bytes_from 0 s (omega arith) in omega (arith, i)
 
 -- ---- "all that 60,000 bytes can bring"
 
 -- room for all that n bytes can bring: one item more of a kind has more bytes than those
 pub record Brings (n : ℕ) (room : Items) : Type 0 where
-  pub rows-held : n < 14 * suc (room .rows)
-  pub columns-held : n < 12 * suc (room .columns)
-  pub merges-held : n < 14 * suc (room .merges)
-  pub row-breaks-held : n < 6 * suc (room .«row_breaks»)
-  pub column-breaks-held : n < 4 * suc (room .«column_breaks»)
+  pub rows_held : n < 14 * suc room.rows
+  pub columns_held : n < 12 * suc room.columns
+  pub merges_held : n < 14 * suc room.merges
+  pub row_breaks_held : n < 6 * suc room.row_breaks
+  pub column_breaks_held : n < 4 * suc room.column_breaks
 
-pub items-fit : (n : ℕ) (room : Items) → Brings n room → (s : List ℕ) → length s ≤ n → fitIn (itemsOf (records s)) room ≡ true
+pub items_fit : (n : ℕ) (room : Items) → Brings n room → (s : List ℕ) → length s ≤ n → fit_in (items_of (records s)) room ≡ true
 unfolding formats
-items-fit n room w s l =
-    let r = bytes-of RW 14 (λ t. tt) s in
-    let c = bytes-of CL 12 (λ t. tt) s in
-    let m = bytes-of MR 14 (λ t. tt) s in
-    let b = bytes-of BR 6 (λ t. tt) s in
-    let d = bytes-of BC 4 (λ t. tt) s in
+items_fit n room w s l =
+    let r = bytes_of RW 14 (λ t. tt) s in
+    let c = bytes_of CL 12 (λ t. tt) s in
+    let m = bytes_of MR 14 (λ t. tt) s in
+    let b = bytes_of BR 6 (λ t. tt) s in
+    let d = bytes_of BC 4 (λ t. tt) s in
     let count : ℕ → ℕ = λ k. length (marked k (records s)) in
-    let fr = le-leb (count RW) (room .rows) (omega (arith, r, l, w .rows-held)) in
-    let fc = le-leb (count CL) (room .columns) (omega (arith, c, l, w .columns-held)) in
-    let fm = le-leb (count MR) (room .merges) (omega (arith, m, l, w .merges-held)) in
-    let fb = le-leb (count BR) (room .«row_breaks») (omega (arith, b, l, w .row-breaks-held)) in
-    let fd = le-leb (count BC) (room .«column_breaks») (omega (arith, d, l, w .column-breaks-held)) in
+    let fr = le-leb (count RW) room.rows (omega (arith, r, l, w.rows_held)) in
+    let fc = le-leb (count CL) room.columns (omega (arith, c, l, w.columns_held)) in
+    let fm = le-leb (count MR) room.merges (omega (arith, m, l, w.merges_held)) in
+    let fb = le-leb (count BR) room.row_breaks (omega (arith, b, l, w.row_breaks_held)) in
+    let fd = le-leb (count BC) room.column_breaks (omega (arith, d, l, w.column_breaks_held)) in
     rw (fr, fc, fm, fb, fd)
 
 -- ---- a job that is questioned with yes is read
 
-module _ (s : List ℕ) (items : Items) (e : verdictLent true s ≡ given items) where
-  is-given : given items ≡ inOrder (questions true s) (itemsOf (records s))
-  unfolding verdictLent
-  is-given = sym e
+module _ (s : List ℕ) (items : Items) (e : verdict_lent true s ≡ given items) where
+  is_given : given items ≡ in_order (questions true s) (items_of (records s))
+  unfolding verdict_lent
+  is_given = sym e
 
-  pub all-answered : All (questions true s)
-  all-answered = all-given (itemsOf (records s)) (questions true s) items is-given
+  pub all_answered : All (questions true s)
+  all_answered = all_given (items_of (records s)) (questions true s) items is_given
 
-  pub read-whole : (l : Lists) → evenLists l ≡ true → fitIn (itemsOf (records s)) (roomIn l) ≡ true → readJob s l ≡ given (jobOf (records s))
-  unfolding readJob
-  read-whole l even f =
-      ap (λ (b : Bool). inOrder (asked b (roomIn l) s) (jobOf (records s))) even
-      ∙ sym (all-past (jobOf (records s)) ((11, fitIn (itemsOf (records s)) (roomIn l)) ∷ []) (questions true s) all-answered)
-      ∙ ap (λ (b : Bool). inOrder ((11, b) ∷ []) (jobOf (records s))) f
+  pub read_whole : (l : Lists) → even_lists l ≡ true → fit_in (items_of (records s)) (room_in l) ≡ true → read_job s l ≡ given (job_of (records s))
+  unfolding read_job
+  read_whole l even f =
+      ap (λ (b : Bool). in_order (asked b (room_in l) s) (job_of (records s))) even
+      ∙ sym (all_past (job_of (records s)) ((11, fit_in (items_of (records s)) (room_in l)) ∷ []) (questions true s) all_answered)
+      ∙ ap (λ (b : Bool). in_order ((11, b) ∷ []) (job_of (records s))) f
 
 -- ---- which numbers the questions give, and how many rows and columns a job has
 
 -- the numbers of the questions that are put to the bytes
-abbrev pub isAsked : ℕ → Bool
-isAsked n = (leb 1 n && leb n 9) || eqb n 15
+abbrev pub is_asked : ℕ → Bool
+is_asked n = (leb 1 n && leb n 9) || eqb n 15
 
 -- a test that the numbers of some questions pass
 abbrev passed : (ℕ → Bool) → List (ℕ × Bool) → Bool
 passed p [] = true
 passed p ((n, q) ∷ qs) = p n && passed p qs
 
-in-order-passed : {A : Type 0} (v : A) (p : ℕ → Bool) (m : ℕ) (qs : List (ℕ × Bool)) → passed p qs ≡ true → inOrder qs v ≡ refused m → p m ≡ true
-in-order-passed v p m [] t e = let z : _≡_ {A = ℕ} 0 1 = cc in absurd (omega arith)
-in-order-passed v p m ((n, true) ∷ qs) t e = in-order-passed v p m qs (both (p n) (passed p qs) t .1) e
-in-order-passed v p m ((n, false) ∷ qs) t e = let i : n ≡ m = cc in ap p (sym i) ∙ both (p n) (passed p qs) t .0
+in_order_passed : {A : Type 0} (v : A) (p : ℕ → Bool) (m : ℕ) (qs : List (ℕ × Bool)) → passed p qs ≡ true → in_order qs v ≡ refused m → p m ≡ true
+in_order_passed v p m [] t e = let z : ◌≡◌ {A = ℕ} 0 1 = cc in absurd (omega arith)
+in_order_passed v p m ((n, true) ∷ qs) t e = in_order_passed v p m qs (both (p n) (passed p qs) t).1 e
+in_order_passed v p m ((n, false) ∷ qs) t e = let i : n ≡ m = cc in ap p (sym i) ∙ (both (p n) (passed p qs) t).0
 
--- so a number such as 0, 10 or 11 is none: there `isAsked` is false
-pub verdict-number : (even : Bool) (s : List ℕ) (n : ℕ) → verdictLent even s ≡ refused n → isAsked n ≡ true
-unfolding verdictLent
-verdict-number even s n e = in-order-passed (itemsOf (records s)) isAsked n (questions even s) refl e
+-- so a number such as 0, 10 or 11 is none: there `is_asked` is false
+pub verdict_number : (even : Bool) (s : List ℕ) (n : ℕ) → verdict_lent even s ≡ refused n → is_asked n ≡ true
+unfolding verdict_lent
+verdict_number even s n e = in_order_passed (items_of (records s)) is_asked n (questions even s) refl e
 
-module _ (s : List ℕ) (items : Items) (e : verdictLent true s ≡ given items) where
+module _ (s : List ℕ) (items : Items) (e : verdict_lent true s ≡ given items) where
   short : length s ≤ 60000
-  short = leb-true (length s) 60000 (all-answered s items e .0)
+  short = leb-true (length s) 60000 (all_answered s items e).0
 
-  pub few-rows : length (marked RW (records s)) ≤ 4285
+  pub few_rows : length (marked RW (records s)) ≤ 4285
   unfolding formats
-  few-rows = omega (arith, bytes-of RW 14 (λ t. tt) s, short)
+  few_rows = omega (arith, bytes_of RW 14 (λ t. tt) s, short)
 
-  pub few-columns : length (marked CL (records s)) ≤ 5000
+  pub few_columns : length (marked CL (records s)) ≤ 5000
   unfolding formats
-  few-columns = omega (arith, bytes-of CL 12 (λ t. tt) s, short)
+  few_columns = omega (arith, bytes_of CL 12 (λ t. tt) s, short)

@@ -1,12 +1,12 @@
 -- A loop that writes a number of each item to a lent list, from its front. Assumes nothing.
-use mathlib.Core.Path.{_≡_, sym, ap, _∙_}
-use mathlib.Core.List.{List, [], _∷_, map}
-use Prim.Native.Nat.{ℕ, _+_, _≤_, _<_}
+use mathlib.Core.Path.{◌≡◌, sym, ap, ◌∙◌}
+use mathlib.Core.List.{List, [], ◌∷◌, map}
+use Prim.Native.Nat.{ℕ, ◌+◌, ◌≤◌, ◌<◌}
 use native.Mathlib.Omega.{arith}
 use lib.ListN.{length, set, length-map}
-use Rattle·job_records.specs.Records.{field, records, marked}
-use Rattle·planner_rules.specs.Slots.{written}
-use Rattle·planner_rules.proofs.Lent.{Wrote, start, store, done}
+use Rattle.job_records.specs.Records.{field, records, marked}
+use Rattle.planner_rules.specs.Slots.{written}
+use Rattle.planner_rules.proofs.Lent.{Wrote, start, store, done}
 
 -- ---- one list, of a number of each item
 
@@ -20,23 +20,23 @@ pub record One {A : Type 0} (g : A → ℕ) (whole : List A) (old : List ℕ) (k
 abbrev pub Numbers : (mark at : ℕ) (bytes s : List ℕ) (k : ℕ) (old new : List ℕ) → Type 0
 Numbers mark at bytes s k old new = One (field at) (marked mark (records bytes)) old k (marked mark (records s)) new
 
-pub one-start : {A : Type 0} {g : A → ℕ} {whole : List A} {old : List ℕ} → length whole ≤ length old → One g whole old 0 whole old
-one-start p = record { room = p; counted = omega arith; wrote = start _ _ }
+pub one_start : {A : Type 0} {g : A → ℕ} {whole : List A} {old : List ℕ} → length whole ≤ length old → One g whole old 0 whole old
+one_start p = record { room = p; counted = omega arith; wrote = start _ _ }
 
 module _ {A : Type 0} {g : A → ℕ} {whole : List A} {old : List ℕ} {k : ℕ} {left : List A} {new : List ℕ} (w : One g whole old k left new) where
-  pub one-room : {x : A} {rest : List A} → left ≡ x ∷ rest → k < length new
-  one-room e =
-      let a = w .wrote .long in
+  pub one_room : {x : A} {rest : List A} → left ≡ x ∷ rest → k < length new
+  one_room e =
+      let a = w.wrote.long in
       let l = ap length e in
       omega arith
 
-  pub one-store : {x : A} {rest : List A} {v : ℕ} → left ≡ x ∷ rest → v ≡ g x → One g whole old (k + 1) rest (set new k v)
-  one-store {x} {rest} e h =
+  pub one_store : {x : A} {rest : List A} {v : ℕ} → left ≡ x ∷ rest → v ≡ g x → One g whole old (k + 1) rest (set new k v)
+  one_store {x} {rest} e h =
       let u : One g whole old k (x ∷ rest) new = rw e at w in
-      rw h (record { room = w .room; counted = omega (arith, u .counted); wrote = store _ old k (g x) (map g rest) new (one-room e) (u .wrote) })
+      rw h (record { room = w.room; counted = omega (arith, u.counted); wrote = store _ old k (g x) (map g rest) new (one_room e) u.wrote })
 
-  pub one-done : left ≡ [] → new ≡ written (map g whole) old
-  one-done e =
+  pub one_done : left ≡ [] → new ≡ written (map g whole) old
+  one_done e =
       let u : One g whole old k [] new = rw e at w in
-      let c : k ≡ length whole = omega (arith, u .counted) in
-      done _ old k new (c ∙ sym (length-map whole g)) (u .wrote)
+      let c : k ≡ length whole = omega (arith, u.counted) in
+      done _ old k new (c ∙ sym (length-map whole g)) u.wrote

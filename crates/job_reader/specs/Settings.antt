@@ -1,69 +1,68 @@
 -- Document 01, section "Jobs": the settings of a job, each with whether its record is there. Assumes nothing.
-use mathlib.Core.Bool.{Bool, true, false}
-use mathlib.Core.List.{List, [], _∷_}
-use Rattle·geometry.specs.declared.paper.Setting.{Setting}
-use Rattle·geometry.specs.declared.paper.Setting.the-variants as number
-use Rattle·planner_rules.specs.declared.titles.Title.{Title}
-use Rattle·planner_rules.specs.declared.titles.Title.the-variants as title
-use Rattle·job_records.specs.Records.{PC, LA, MG, SC, FW, FH, FT, OD, HD, LP, UC, AR, TR, TC, field, marked}
-use Rattle·job_records.specs.declared.records.Record.{Record}
-use Rattle·job_settings.specs.declared.MarginsRead.{MarginsRead}
-use Rattle·job_settings.specs.declared.MarginsRead.the-variants as margins
-use Rattle·job_settings.specs.declared.FlagSetting.{FlagSetting}
-use Rattle·job_settings.specs.declared.FlagSetting.the-variants as flag
-use Rattle·job_settings.specs.declared.LimitSetting.{LimitSetting}
-use Rattle·job_settings.specs.declared.LimitSetting.the-variants as limit
-use Rattle·job_settings.specs.declared.JobSettings.{JobSettings}
-use Rattle·job_walk.specs.Areas.{cellLimitFrom, areasFrom}
+use Rattle.std.specs.Prelude.{Bool, true, false, List, [], ◌∷◌}
+use Rattle.geometry.specs.declared.paper.Setting.{Setting}
+use Rattle.geometry.specs.declared.paper.Setting.TheVariants as number
+use Rattle.planner_rules.specs.declared.titles.Title.{Title}
+use Rattle.planner_rules.specs.declared.titles.Title.TheVariants as title
+use Rattle.job_records.specs.Records.{PC, LA, MG, SC, FW, FH, FT, OD, HD, LP, UC, AR, TR, TC, field, marked}
+use Rattle.job_records.specs.declared.records.Record.{Record}
+use Rattle.job_settings.specs.declared.MarginsRead.{MarginsRead}
+use Rattle.job_settings.specs.declared.MarginsRead.TheVariants as margins
+use Rattle.job_settings.specs.declared.FlagSetting.{FlagSetting}
+use Rattle.job_settings.specs.declared.FlagSetting.TheVariants as flag
+use Rattle.job_settings.specs.declared.LimitSetting.{LimitSetting}
+use Rattle.job_settings.specs.declared.LimitSetting.TheVariants as limit
+use Rattle.job_settings.specs.declared.JobSettings.{JobSettings}
+use Rattle.job_walk.specs.Areas.{cell_limit_from, areas_from}
 
 -- ---- a setting, from the records with its mark: but for AR, there is one at most
 
 -- "PC paper u16", "SC percent u16", "FW, FH targets u16"
-abbrev pub numberFrom : List Record → Setting
-numberFrom [] = number.Absent
-numberFrom (r ∷ rs) = number.Given (field 0 r)
+abbrev pub number_from : List Record → Setting
+number_from [] = number.Absent
+number_from (r ∷ rs) = number.Given (field 0 r)
 
 -- "LA landscape", "HD headings": a record that "has no body" is there or not
-abbrev pub isThere : List Record → Bool
-isThere [] = false
-isThere (r ∷ rs) = true
+abbrev pub is_there : List Record → Bool
+is_there [] = false
+is_there (r ∷ rs) = true
 
 -- "MG six f64": "left, right, top, bottom, header, footer"
-abbrev pub marginsFrom : List Record → MarginsRead
-marginsFrom [] = margins.Absent
-marginsFrom (r ∷ rs) =
+abbrev pub margins_from : List Record → MarginsRead
+margins_from [] = margins.Absent
+margins_from (r ∷ rs) =
     margins.Given (record { left = field 0 r; right = field 1 r; top = field 2 r; bottom = field 3 r; header = field 4 r; footer = field 5 r })
 
 -- "FT fit u8", "OD u8"
-abbrev pub flagFrom : List Record → FlagSetting
-flagFrom [] = flag.Absent
-flagFrom (r ∷ rs) = flag.Given (field 0 r)
+abbrev pub flag_from : List Record → FlagSetting
+flag_from [] = flag.Absent
+flag_from (r ∷ rs) = flag.Given (field 0 r)
 
 -- "LP page limit u64"
-abbrev pub limitFrom : List Record → LimitSetting
-limitFrom [] = limit.Absent
-limitFrom (r ∷ rs) = limit.Given (field 0 r)
+abbrev pub limit_from : List Record → LimitSetting
+limit_from [] = limit.Absent
+limit_from (r ∷ rs) = limit.Given (field 0 r)
 
 -- "A title is absent or a pair first, last.": "TR two u32; TC two u16"
-abbrev pub titleFrom : List Record → Title
-titleFrom [] = title.Absent
-titleFrom (r ∷ rs) = title.Pair (field 0 r) (field 1 r)
+abbrev pub title_from : List Record → Title
+title_from [] = title.Absent
+title_from (r ∷ rs) = title.Pair (field 0 r) (field 1 r)
 
 -- the settings of the records, in their order
-abbrev pub settingsOf : List Record → JobSettings
-settingsOf rs = record {
-  paper = numberFrom (marked PC rs);
-  landscape = isThere (marked LA rs);
-  margins = marginsFrom (marked MG rs);
-  percent = numberFrom (marked SC rs);
-  «fit_width» = numberFrom (marked FW rs);
-  «fit_height» = numberFrom (marked FH rs);
-  fit = flagFrom (marked FT rs);
-  order = flagFrom (marked OD rs);
-  headings = isThere (marked HD rs);
-  «page_limit» = limitFrom (marked LP rs);
-  «cell_limit» = cellLimitFrom (marked UC rs);
-  areas = areasFrom (marked AR rs);
-  «row_title» = titleFrom (marked TR rs);
-  «column_title» = titleFrom (marked TC rs);
+abbrev pub settings_of : List Record → JobSettings
+settings_of rs = record {
+  paper = number_from (marked PC rs);
+  landscape = is_there (marked LA rs);
+  margins = margins_from (marked MG rs);
+  percent = number_from (marked SC rs);
+  fit_width = number_from (marked FW rs);
+  fit_height = number_from (marked FH rs);
+  fit = flag_from (marked FT rs);
+  order = flag_from (marked OD rs);
+  headings = is_there (marked HD rs);
+  page_limit = limit_from (marked LP rs);
+  cell_limit = cell_limit_from (marked UC rs);
+  areas = areas_from (marked AR rs);
+  row_title = title_from (marked TR rs);
+  column_title = title_from (marked TC rs);
 }

@@ -1,26 +1,20 @@
 -- How the records of a job are walked once question 4 is answered yes: marks that never fall, so that the items of a kind stand together.
 -- For the private functions of `src/settings.rt` and `src/lists.rt`. Assumes nothing.
-use mathlib.Core.Path.{_≡_}
-use mathlib.Core.Bool.{Bool, cond, _||_}
-use mathlib.Core.List.{List}
-use Prim.Native.Nat.{ℕ, _≤_}
-use lib.Dec.{eqb}
-use lib.ListN.{length, drop}
-use lib.IntN.{natAbs}
-use Rattle·job_records.specs.Records.{PC, SC, FW, FH, FT, OD, RW, CL, BR, BC, rank, field, marked, records}
-use Rattle·job_records.specs.declared.records.Range.{Range}
-use Rattle·job_records.specs.declared.records.RowSlot.{RowSlot}
-use Rattle·job_records.specs.declared.records.ColumnSlot.{ColumnSlot}
-use Rattle·job_records.specs.declared.records.Record.{Record}
-use Rattle·job_walk.specs.declared.Next.{Next}
-use Rattle·job_walk.specs.declared.Next.the-variants.{Kind, Stop}
-use Rattle·job_walk.specs.Walk.{Sorted}
-use Rattle·job_reader·specs.specs.declared.lists.Measured.{Measured}
+use Rattle.std.specs.Prelude.{◌≡◌, Bool, cond, ◌||◌, List, ℕ, ◌≤◌, eqb, length, drop, nat_abs}
+use Rattle.job_records.specs.Records.{PC, SC, FW, FH, FT, OD, RW, CL, BR, BC, rank, field, marked, records}
+use Rattle.job_records.specs.declared.records.Range.{Range}
+use Rattle.job_records.specs.declared.records.RowSlot.{RowSlot}
+use Rattle.job_records.specs.declared.records.ColumnSlot.{ColumnSlot}
+use Rattle.job_records.specs.declared.records.Record.{Record}
+use Rattle.job_walk.specs.declared.Next.{Next}
+use Rattle.job_walk.specs.declared.Next.TheVariants.{Kind, Stop}
+use Rattle.job_walk.specs.Walk.{Sorted}
+use Rattle.job_reader.specs.declared.lists.Measured.{Measured}
 
 -- the next record, where its mark is k
-unfoldable pub ofKind : ℕ → Next → Next
-ofKind k Stop = Stop
-ofKind k (Kind r n) = cond (eqb (rank r) k) (Kind r n) Stop
+unfoldable pub of_kind : ℕ → Next → Next
+of_kind k Stop = Stop
+of_kind k (Kind r n) = cond (eqb (rank r) k) (Kind r n) Stop
 
 -- s is the part of b that has the marks from k on
 pub record From (k : ℕ) (b s : List ℕ) : Type 0 where
@@ -33,32 +27,32 @@ pub record Past (k : ℕ) (b : List ℕ) (n : ℕ) : Type 0 where
   pub left : From k b (drop n b)
 
 -- the marks with a body of one u16, and of one u8, among the settings
-abbrev pub isNumber : ℕ → Bool
-isNumber k = eqb k PC || (eqb k SC || (eqb k FW || eqb k FH))
+abbrev pub is_number : ℕ → Bool
+is_number k = eqb k PC || (eqb k SC || (eqb k FW || eqb k FH))
 
 -- a kind of record that has a flag
-abbrev pub isFlag : ℕ → Bool
-isFlag k = eqb k FT || eqb k OD
+abbrev pub is_flag : ℕ → Bool
+is_flag k = eqb k FT || eqb k OD
 
 -- the marks of slots, and of breaks
-abbrev pub isSlot : ℕ → Bool
-isSlot k = eqb k RW || eqb k CL
+abbrev pub is_slot : ℕ → Bool
+is_slot k = eqb k RW || eqb k CL
 
 -- a kind of record that has a break
-abbrev pub isBreak : ℕ → Bool
-isBreak k = eqb k BR || eqb k BC
+abbrev pub is_break : ℕ → Bool
+is_break k = eqb k BR || eqb k BC
 
 -- a slot's index and size
 abbrev pub measured : Record → Measured
 measured r = record { index = field 0 r; size = field 1 r }
 
 -- a row and a column as slots
-abbrev pub rowMeasured : RowSlot → Measured
-rowMeasured s = record { index = s .index; size = natAbs (s .size) }
+abbrev pub row_measured : RowSlot → Measured
+row_measured s = record { index = s.index; size = nat_abs s.size }
 
-abbrev pub columnMeasured : ColumnSlot → Measured
-columnMeasured s = record { index = s .index; size = natAbs (s .size) }
+abbrev pub column_measured : ColumnSlot → Measured
+column_measured s = record { index = s.index; size = nat_abs s.size }
 
 -- the four indexes of a merge
 abbrev pub cells : Record → Range
-cells r = record { «first_row» = field 0 r; «first_column» = field 1 r; «last_row» = field 2 r; «last_column» = field 3 r }
+cells r = record { first_row = field 0 r; first_column = field 1 r; last_row = field 2 r; last_column = field 3 r }

@@ -2,6 +2,4 @@
 mod lists;
 mod settings;
 
-pub use lists::Job;
-pub use lists::Reading;
-pub use lists::read_job;
+pub use lists::{Job, Reading, read_job};

@@ -1,56 +1,44 @@
 // The items of a job, read into lent lists: document 01, sections "Jobs" and "Questions in order".
+ghost use Rattle.std.specs.Prelude.{◌≡◌, true, [], ◌+◌, ◌≤◌, length};
+ghost use Rattle.planner_rules.specs.Slots.{written};
+ghost use Rattle.job_records.specs.Records.{RW, MR, BR, rank, step, records, marked, values, field};
+ghost use Rattle.job_questions.specs.Verdict.{checked_outcome};
+ghost use Rattle.job_walk.specs.Walk.{before, Sorted};
+ghost use Rattle.job_reader.specs.Walk.{of_kind, Past, is_slot, is_break, measured};
+ghost use Rattle.job_reader.specs.Walk as walk;
+ghost use Rattle.job_reader.specs.Reading.{lists, even_lists, fit_in, admitted, admitted_to, Room, AllWritten, JobRead};
+
 use crate::settings::settings_of;
-use job_questions::Checked;
-use job_questions::Items;
-use job_questions::MOST_AREAS;
-use job_questions::check_job_lent;
-use job_records::ColumnSlot;
-use job_records::Range;
-use job_records::Record;
-use job_records::RowSlot;
-use job_records::rank_of;
-use job_records::ranks::COLUMN_BREAKS;
-use job_records::ranks::COLUMNS;
-use job_records::ranks::MERGES;
-use job_records::ranks::ROW_BREAKS;
-use job_records::ranks::ROWS;
+use job_questions::{Checked, Items, MOST_AREAS, check_job_lent};
+use job_records::ranks::{COLUMN_BREAKS, COLUMNS, MERGES, ROW_BREAKS, ROWS};
+use job_records::{ColumnSlot, Range, Record, RowSlot, rank_of};
 use job_settings::JobSettings;
-use job_walk::Next;
-use job_walk::next_record;
+use job_walk::{Next, next_record};
 use units::Fixed;
-ghost use mathlib.Core.Path.{_≡_};
-ghost use mathlib.Core.Bool.{true};
-ghost use mathlib.Core.List.{[]};
-ghost use Prim.Native.Nat.{_+_, _≤_};
-ghost use lib.ListN.{length};
-ghost use Rattle·planner_rules.specs.Slots.{written};
-ghost use Rattle·job_records.specs.Records.{RW, MR, BR, rank, step, records, marked, values, field};
-ghost use Rattle·job_questions.specs.Verdict.{checkedOutcome};
-ghost use Rattle·job_walk.specs.Walk.{before, Sorted};
-ghost use Rattle·job_reader·specs.specs.Walk.{ofKind, Past, isSlot, isBreak, measured};
-ghost use Rattle·job_reader·specs.specs.Walk as walk;
-ghost use Rattle·job_reader·specs.specs.Reading.{lists, evenLists, fitIn, admitted, admittedTo, Room, AllWritten, JobRead};
 
 // What a job holds besides its lists.
+#[derive(Drop)]
 pub struct Job {
     pub settings: JobSettings,
     pub items: Items,
 }
 
 // What `read_job` answers: the job, or a refusal with its number.
+#[derive(Drop)]
 pub enum Reading {
     Value(Job),
     Refused(u8),
 }
 
 // A slot as it goes to the lists.
+#[derive(Drop)]
 pub(crate) struct Measured {
     pub index: u32,
     pub size: u64,
 }
 
 fn row_measured(slot: RowSlot) -> Measured
-    ensures { λ r. ⌜ r ≡ walk.rowMeasured slot ⌝ }
+    ensures { result ≡ walk.row_measured slot }
 {
     let size = slot.size;
     Measured {
@@ -60,7 +48,7 @@ fn row_measured(slot: RowSlot) -> Measured
 }
 
 fn column_measured(slot: ColumnSlot) -> Measured
-    ensures { λ r. ⌜ r ≡ walk.columnMeasured slot ⌝ }
+    ensures { result ≡ walk.column_measured slot }
 {
     let size = slot.size;
     Measured {
@@ -70,8 +58,8 @@ fn column_measured(slot: ColumnSlot) -> Measured
 }
 
 fn slot_of(found: Record) -> Measured
-    requires { ⌜ isSlot (rank found) ≡ true ⌝ }
-    ensures { λ r. ⌜ r ≡ measured found ⌝ }
+    requires { is_slot (rank found) ≡ true }
+    ensures { result ≡ measured found }
 {
     match found {
         Record::Row(slot) => row_measured(slot),
@@ -81,8 +69,8 @@ fn slot_of(found: Record) -> Measured
 }
 
 fn break_of(found: Record) -> u32
-    requires { ⌜ isBreak (rank found) ≡ true ⌝ }
-    ensures { λ r. ⌜ r ≡ field 0 found ⌝ }
+    requires { is_break (rank found) ≡ true }
+    ensures { result ≡ field 0 found }
 {
     match found {
         Record::RowBreak(row) => row,
@@ -92,8 +80,8 @@ fn break_of(found: Record) -> u32
 }
 
 fn cells_of(found: Record) -> Range
-    requires { ⌜ rank found ≡ MR ⌝ }
-    ensures { λ r. ⌜ r ≡ walk.cells found ⌝ }
+    requires { rank found ≡ MR }
+    ensures { result ≡ walk.cells found }
 {
     let Record::Merged(merge) = found else {
         return Range {
@@ -108,7 +96,7 @@ fn cells_of(found: Record) -> Range
 
 // The next record, where it has this rank.
 fn next_of(s: &[u8], wanted: u8) -> Next
-    ensures { λ r. ⌜ r ≡ ofKind wanted (before (step (now (s .entry)))) ⌝ }
+    ensures { result ≡ of_kind wanted (before (step s.now)) }
 {
     let Next::Kind(found, used) = next_record(s) else {
         return Next::Stop;
@@ -122,8 +110,8 @@ fn next_of(s: &[u8], wanted: u8) -> Next
 
 // How many bytes stand before the first record that may repeat.
 fn settings_end(bytes: &[u8]) -> usize
-    requires { ⌜ Sorted 0 (records (now bytes)) ⌝ }
-    ensures { λ r. ⌜ Past RW (now (bytes .entry)) r ⌝ }
+    requires { Sorted 0 (records bytes.now) }
+    ensures { Past RW bytes.now result }
 {
     let mut s = bytes;
     loop {
@@ -139,13 +127,13 @@ fn settings_end(bytes: &[u8]) -> usize
 
 // Writes the slots with this rank, which stand at the head, and answers how many bytes they have.
 fn write_slots(bytes: &[u8], wanted: u8, indexes: &mut [u32], sizes: &mut [u64]) -> usize
-    requires { ⌜ Sorted wanted (records (now bytes)) ⌝ }
-    requires { ⌜ isSlot wanted ≡ true ⌝ }
-    requires { ⌜ length (marked wanted (records (now bytes))) ≤ length (now indexes) ⌝ }
-    requires { ⌜ length (now indexes) ≡ length (now sizes) ⌝ }
-    ensures { λ r. ⌜ Past (wanted + 1) (now (bytes .entry)) r ⌝ }
-    ensures { λ _. ⌜ now (indexes .exit) ≡ written (values wanted 0 (records (now (bytes .entry)))) (now (indexes .entry)) ⌝ }
-    ensures { λ _. ⌜ now (sizes .exit) ≡ written (values wanted 1 (records (now (bytes .entry)))) (now (sizes .entry)) ⌝ }
+    requires sorted { Sorted wanted (records bytes.now) }
+    requires wanted_value { is_slot wanted ≡ true }
+    requires bytes_in_bounds { length (marked wanted (records bytes.now)) ≤ length indexes.old }
+    requires indexes_len { length indexes.old ≡ length sizes.old }
+    ensures past { Past (wanted + 1) bytes.now result }
+    ensures indexes_after { indexes.new ≡ written (values wanted 0 (records bytes.now)) indexes.old }
+    ensures sizes_after { sizes.new ≡ written (values wanted 1 (records bytes.now)) sizes.old }
 {
     let mut s = bytes;
     let mut k: usize = 0;
@@ -169,16 +157,16 @@ fn write_merges(
     last_rows: &mut [u32],
     last_columns: &mut [u32],
 ) -> usize
-    requires { ⌜ Sorted MR (records (now bytes)) ⌝ }
-    requires { ⌜ length (marked MR (records (now bytes))) ≤ length (now «first_rows») ⌝ }
-    requires { ⌜ length (now «first_rows») ≡ length (now «first_columns») ⌝ }
-    requires { ⌜ length (now «first_rows») ≡ length (now «last_rows») ⌝ }
-    requires { ⌜ length (now «first_rows») ≡ length (now «last_columns») ⌝ }
-    ensures { λ r. ⌜ Past BR (now (bytes .entry)) r ⌝ }
-    ensures { λ _. ⌜ now («first_rows» .exit) ≡ written (values MR 0 (records (now (bytes .entry)))) (now («first_rows» .entry)) ⌝ }
-    ensures { λ _. ⌜ now («first_columns» .exit) ≡ written (values MR 1 (records (now (bytes .entry)))) (now («first_columns» .entry)) ⌝ }
-    ensures { λ _. ⌜ now («last_rows» .exit) ≡ written (values MR 2 (records (now (bytes .entry)))) (now («last_rows» .entry)) ⌝ }
-    ensures { λ _. ⌜ now («last_columns» .exit) ≡ written (values MR 3 (records (now (bytes .entry)))) (now («last_columns» .entry)) ⌝ }
+    requires sorted { Sorted MR (records bytes.now) }
+    requires bytes_in_bounds { length (marked MR (records bytes.now)) ≤ length first_rows.old }
+    requires first_rows_len { length first_rows.old ≡ length first_columns.old }
+    requires first_rows_len_2 { length first_rows.old ≡ length last_rows.old }
+    requires first_rows_len_3 { length first_rows.old ≡ length last_columns.old }
+    ensures past { Past BR bytes.now result }
+    ensures first_rows_after { first_rows.new ≡ written (values MR 0 (records bytes.now)) first_rows.old }
+    ensures first_columns_after { first_columns.new ≡ written (values MR 1 (records bytes.now)) first_columns.old }
+    ensures last_rows_after { last_rows.new ≡ written (values MR 2 (records bytes.now)) last_rows.old }
+    ensures last_columns_after { last_columns.new ≡ written (values MR 3 (records bytes.now)) last_columns.old }
 {
     let mut s = bytes;
     let mut k: usize = 0;
@@ -198,11 +186,11 @@ fn write_merges(
 
 // Writes the breaks with this rank, which stand at the head, and answers how many bytes they have.
 fn write_breaks(bytes: &[u8], wanted: u8, breaks: &mut [u32]) -> usize
-    requires { ⌜ Sorted wanted (records (now bytes)) ⌝ }
-    requires { ⌜ isBreak wanted ≡ true ⌝ }
-    requires { ⌜ length (marked wanted (records (now bytes))) ≤ length (now breaks) ⌝ }
-    ensures { λ r. ⌜ Past (wanted + 1) (now (bytes .entry)) r ⌝ }
-    ensures { λ _. ⌜ now (breaks .exit) ≡ written (values wanted 0 (records (now (bytes .entry)))) (now (breaks .entry)) ⌝ }
+    requires sorted { Sorted wanted (records bytes.now) }
+    requires wanted_value { is_break wanted ≡ true }
+    requires bytes_in_bounds { length (marked wanted (records bytes.now)) ≤ length breaks.old }
+    ensures past { Past (wanted + 1) bytes.now result }
+    ensures breaks_after { breaks.new ≡ written (values wanted 0 (records bytes.now)) breaks.old }
 {
     let mut s = bytes;
     let mut k: usize = 0;
@@ -230,22 +218,18 @@ fn write_items(
     row_breaks: &mut [u32],
     column_breaks: &mut [u32],
 )
-    requires { ⌜ Sorted 0 (records (now bytes)) ⌝ }
-    requires { ⌜
-        Room (now bytes)
-        (lists (now «row_indexes») (now «row_sizes») (now «column_indexes») (now «column_sizes») (now «merge_first_rows»)
-        (now «merge_first_columns») (now «merge_last_rows») (now «merge_last_columns») (now «row_breaks») (now «column_breaks»))
-        ⌝ }
-    ensures { λ _. ⌜
-        AllWritten (now (bytes .entry))
-        (lists (now («row_indexes» .entry)) (now («row_sizes» .entry)) (now («column_indexes» .entry))
-        (now («column_sizes» .entry)) (now («merge_first_rows» .entry)) (now («merge_first_columns» .entry))
-        (now («merge_last_rows» .entry)) (now («merge_last_columns» .entry)) (now («row_breaks» .entry))
-        (now («column_breaks» .entry)))
-        (lists (now («row_indexes» .exit)) (now («row_sizes» .exit)) (now («column_indexes» .exit)) (now («column_sizes» .exit))
-        (now («merge_first_rows» .exit)) (now («merge_first_columns» .exit)) (now («merge_last_rows» .exit))
-        (now («merge_last_columns» .exit)) (now («row_breaks» .exit)) (now («column_breaks» .exit)))
-        ⌝ }
+    requires sorted { Sorted 0 (records bytes.now) }
+    requires room { Room bytes.now
+        (lists row_indexes.old row_sizes.old column_indexes.old column_sizes.old merge_first_rows.old
+        merge_first_columns.old merge_last_rows.old merge_last_columns.old row_breaks.old column_breaks.old) }
+    ensures { AllWritten bytes.now
+        (lists row_indexes.old row_sizes.old column_indexes.old
+        column_sizes.old merge_first_rows.old merge_first_columns.old
+        merge_last_rows.old merge_last_columns.old row_breaks.old
+        column_breaks.old)
+        (lists row_indexes.new row_sizes.new column_indexes.new column_sizes.new
+        merge_first_rows.new merge_first_columns.new merge_last_rows.new
+        merge_last_columns.new row_breaks.new column_breaks.new) }
 {
     let at_rows = settings_end(bytes);
     let rows = &bytes[at_rows..];
@@ -266,7 +250,7 @@ fn write_items(
 }
 
 fn fit_in(items: Items, room: Items) -> bool
-    ensures { λ r. ⌜ r ≡ fitIn items room ⌝ }
+    ensures { result ≡ fit_in items room }
 {
     let breaks = (items.row_breaks <= room.row_breaks)
         & (items.column_breaks <= room.column_breaks);
@@ -276,7 +260,7 @@ fn fit_in(items: Items, room: Items) -> bool
 
 // How many items a job has that lent lists hold, or the number of the first question that is answered no.
 fn admit(bytes: &[u8], equally_long: bool, room: Items) -> Checked
-    ensures { λ r. ⌜ checkedOutcome r ≡ admitted «equally_long» room (now (bytes .entry)) ⌝ }
+    ensures { checked_outcome result ≡ admitted equally_long room bytes.now }
 {
     let checked = check_job_lent(bytes, equally_long);
     match checked {
@@ -302,12 +286,10 @@ fn lent_even(
     last_rows: &[u32],
     last_columns: &[u32],
 ) -> bool
-    ensures { λ r. ⌜
-        r ≡ evenLists
-        (lists (now («row_indexes» .entry)) (now («row_sizes» .entry)) (now («column_indexes» .entry))
-        (now («column_sizes» .entry)) (now («first_rows» .entry)) (now («first_columns» .entry)) (now («last_rows» .entry))
-        (now («last_columns» .entry)) [] [])
-        ⌝ }
+    ensures { result ≡ even_lists
+        (lists row_indexes.now row_sizes.now column_indexes.now
+        column_sizes.now first_rows.now first_columns.now last_rows.now
+        last_columns.now [] []) }
 {
     let merges = first_rows.len();
     let rows_even = row_indexes.len() == row_sizes.len();
@@ -330,13 +312,11 @@ fn admit_to(
     row_breaks: &[u32],
     column_breaks: &[u32],
 ) -> Checked
-    ensures { λ r. ⌜
-        checkedOutcome r ≡ admittedTo (now (bytes .entry))
-        (lists (now («row_indexes» .entry)) (now («row_sizes» .entry)) (now («column_indexes» .entry))
-        (now («column_sizes» .entry)) (now («merge_first_rows» .entry)) (now («merge_first_columns» .entry))
-        (now («merge_last_rows» .entry)) (now («merge_last_columns» .entry)) (now («row_breaks» .entry))
-        (now («column_breaks» .entry)))
-        ⌝ }
+    ensures { checked_outcome result ≡ admitted_to bytes.now
+        (lists row_indexes.now row_sizes.now column_indexes.now
+        column_sizes.now merge_first_rows.now merge_first_columns.now
+        merge_last_rows.now merge_last_columns.now row_breaks.now
+        column_breaks.now) }
 {
     let even = lent_even(
         row_indexes,
@@ -373,16 +353,14 @@ pub fn read_job(
     row_breaks: &mut [u32],
     column_breaks: &mut [u32],
 ) -> Reading
-    ensures { λ r. ⌜
-        JobRead (now (bytes .entry)) r
-        (lists (now («row_indexes» .entry)) (now («row_sizes» .entry)) (now («column_indexes» .entry))
-        (now («column_sizes» .entry)) (now («merge_first_rows» .entry)) (now («merge_first_columns» .entry))
-        (now («merge_last_rows» .entry)) (now («merge_last_columns» .entry)) (now («row_breaks» .entry))
-        (now («column_breaks» .entry)))
-        (lists (now («row_indexes» .exit)) (now («row_sizes» .exit)) (now («column_indexes» .exit)) (now («column_sizes» .exit))
-        (now («merge_first_rows» .exit)) (now («merge_first_columns» .exit)) (now («merge_last_rows» .exit))
-        (now («merge_last_columns» .exit)) (now («row_breaks» .exit)) (now («column_breaks» .exit)))
-        ⌝ }
+    ensures { JobRead bytes.now result
+        (lists row_indexes.old row_sizes.old column_indexes.old
+        column_sizes.old merge_first_rows.old merge_first_columns.old
+        merge_last_rows.old merge_last_columns.old row_breaks.old
+        column_breaks.old)
+        (lists row_indexes.new row_sizes.new column_indexes.new column_sizes.new
+        merge_first_rows.new merge_first_columns.new merge_last_rows.new
+        merge_last_columns.new row_breaks.new column_breaks.new) }
 {
     let admitted = admit_to(
         bytes,

@@ -1,39 +1,24 @@
 // The settings of a job, each with whether its record is there: document 01, section "Jobs".
+ghost use Rattle.std.specs.Prelude.{◌≡◌, true, length};
+ghost use Rattle.job_records.specs.Records.{records, marked, MG, LP, AR, TR, TC};
+ghost use Rattle.job_walk.specs.Walk.{Sorted};
+ghost use Rattle.job_reader.specs.Settings as section;
+ghost use Rattle.job_reader.specs.Walk.{is_number, is_flag};
+
 use geometry::Setting;
 use job_records::Record;
-use job_records::ranks::COLUMN_TITLE;
-use job_records::ranks::FIT;
-use job_records::ranks::FIT_HEIGHT;
-use job_records::ranks::FIT_WIDTH;
-use job_records::ranks::HEADINGS;
-use job_records::ranks::LANDSCAPE;
-use job_records::ranks::MARGINS;
-use job_records::ranks::ORDER;
-use job_records::ranks::PAGE_LIMIT;
-use job_records::ranks::PAPER;
-use job_records::ranks::PERCENT;
-use job_records::ranks::ROW_TITLE;
-use job_settings::FlagSetting;
-use job_settings::JobSettings;
-use job_settings::LimitSetting;
-use job_settings::MarginsRead;
-use job_walk::Lookup;
-use job_walk::areas_of;
-use job_walk::cell_limit_of;
-use job_walk::find_record;
+use job_records::ranks::{
+    COLUMN_TITLE, FIT, FIT_HEIGHT, FIT_WIDTH, HEADINGS, LANDSCAPE, MARGINS, ORDER, PAGE_LIMIT,
+    PAPER, PERCENT, ROW_TITLE,
+};
+use job_settings::{FlagSetting, JobSettings, LimitSetting, MarginsRead};
+use job_walk::{Lookup, areas_of, cell_limit_of, find_record};
 use planner_rules::Title;
-ghost use mathlib.Core.Path.{_≡_};
-ghost use mathlib.Core.Bool.{true};
-ghost use lib.ListN.{length};
-ghost use Rattle·job_records.specs.Records.{records, marked, MG, LP, AR, TR, TC};
-ghost use Rattle·job_walk.specs.Walk.{Sorted};
-ghost use Rattle·job_reader·specs.specs.Settings as section;
-ghost use Rattle·job_reader·specs.specs.Walk.{isNumber, isFlag};
 
 fn number_of(bytes: &[u8], wanted: u8) -> Setting
-    requires { ⌜ Sorted 0 (records (now bytes)) ⌝ }
-    requires { ⌜ isNumber wanted ≡ true ⌝ }
-    ensures { λ r. ⌜ r ≡ section.numberFrom (marked wanted (records (now (bytes .entry)))) ⌝ }
+    requires sorted { Sorted 0 (records bytes.now) }
+    requires wanted_value { is_number wanted ≡ true }
+    ensures { result ≡ section.number_from (marked wanted (records bytes.now)) }
 {
     let Lookup::Found(found) = find_record(bytes, wanted, 0) else {
         return Setting::Absent;
@@ -48,9 +33,9 @@ fn number_of(bytes: &[u8], wanted: u8) -> Setting
 }
 
 fn flag_of(bytes: &[u8], wanted: u8) -> FlagSetting
-    requires { ⌜ Sorted 0 (records (now bytes)) ⌝ }
-    requires { ⌜ isFlag wanted ≡ true ⌝ }
-    ensures { λ r. ⌜ r ≡ section.flagFrom (marked wanted (records (now (bytes .entry)))) ⌝ }
+    requires sorted { Sorted 0 (records bytes.now) }
+    requires wanted_value { is_flag wanted ≡ true }
+    ensures { result ≡ section.flag_from (marked wanted (records bytes.now)) }
 {
     let Lookup::Found(found) = find_record(bytes, wanted, 0) else {
         return FlagSetting::Absent;
@@ -63,8 +48,8 @@ fn flag_of(bytes: &[u8], wanted: u8) -> FlagSetting
 }
 
 fn is_there(bytes: &[u8], wanted: u8) -> bool
-    requires { ⌜ Sorted 0 (records (now bytes)) ⌝ }
-    ensures { λ r. ⌜ r ≡ section.isThere (marked wanted (records (now (bytes .entry)))) ⌝ }
+    requires { Sorted 0 (records bytes.now) }
+    ensures { result ≡ section.is_there (marked wanted (records bytes.now)) }
 {
     let Lookup::Found(_) = find_record(bytes, wanted, 0) else {
         return false;
@@ -73,8 +58,8 @@ fn is_there(bytes: &[u8], wanted: u8) -> bool
 }
 
 fn margins_of(bytes: &[u8]) -> MarginsRead
-    requires { ⌜ Sorted 0 (records (now bytes)) ⌝ }
-    ensures { λ r. ⌜ r ≡ section.marginsFrom (marked MG (records (now (bytes .entry)))) ⌝ }
+    requires { Sorted 0 (records bytes.now) }
+    ensures { result ≡ section.margins_from (marked MG (records bytes.now)) }
 {
     let Lookup::Found(found) = find_record(bytes, MARGINS, 0) else {
         return MarginsRead::Absent;
@@ -86,8 +71,8 @@ fn margins_of(bytes: &[u8]) -> MarginsRead
 }
 
 fn limit_of(bytes: &[u8]) -> LimitSetting
-    requires { ⌜ Sorted 0 (records (now bytes)) ⌝ }
-    ensures { λ r. ⌜ r ≡ section.limitFrom (marked LP (records (now (bytes .entry)))) ⌝ }
+    requires { Sorted 0 (records bytes.now) }
+    ensures { result ≡ section.limit_from (marked LP (records bytes.now)) }
 {
     let Lookup::Found(found) = find_record(bytes, PAGE_LIMIT, 0) else {
         return LimitSetting::Absent;
@@ -99,8 +84,8 @@ fn limit_of(bytes: &[u8]) -> LimitSetting
 }
 
 fn row_title_of(bytes: &[u8]) -> Title
-    requires { ⌜ Sorted 0 (records (now bytes)) ⌝ }
-    ensures { λ r. ⌜ r ≡ section.titleFrom (marked TR (records (now (bytes .entry)))) ⌝ }
+    requires { Sorted 0 (records bytes.now) }
+    ensures { result ≡ section.title_from (marked TR (records bytes.now)) }
 {
     let Lookup::Found(found) = find_record(bytes, ROW_TITLE, 0) else {
         return Title::Absent;
@@ -112,8 +97,8 @@ fn row_title_of(bytes: &[u8]) -> Title
 }
 
 fn column_title_of(bytes: &[u8]) -> Title
-    requires { ⌜ Sorted 0 (records (now bytes)) ⌝ }
-    ensures { λ r. ⌜ r ≡ section.titleFrom (marked TC (records (now (bytes .entry)))) ⌝ }
+    requires { Sorted 0 (records bytes.now) }
+    ensures { result ≡ section.title_from (marked TC (records bytes.now)) }
 {
     let Lookup::Found(found) = find_record(bytes, COLUMN_TITLE, 0) else {
         return Title::Absent;
@@ -126,9 +111,9 @@ fn column_title_of(bytes: &[u8]) -> Title
 
 // The settings of a job with so many areas.
 pub(crate) fn settings_of(bytes: &[u8], areas: usize) -> JobSettings
-    requires { ⌜ Sorted 0 (records (now bytes)) ⌝ }
-    requires { ⌜ areas ≡ length (marked AR (records (now bytes))) ⌝ }
-    ensures { λ r. ⌜ r ≡ section.settingsOf (records (now (bytes .entry))) ⌝ }
+    requires sorted { Sorted 0 (records bytes.now) }
+    requires areas_value { areas ≡ length (marked AR (records bytes.now)) }
+    ensures { result ≡ section.settings_of (records bytes.now) }
 {
     JobSettings {
         paper: number_of(bytes, PAPER),

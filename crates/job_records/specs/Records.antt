@@ -1,47 +1,42 @@
 -- Document 01, section "Jobs": the records of a job. A record is said of the bytes from its mark on, so that no definition speaks of a
 -- position. Assumes nothing.
-use Prim.Native.Nat.{ℕ, zero, suc, pred, _+_, _*_}
-use mathlib.Core.Bool.{Bool, false, not, cond}
-use mathlib.Core.List.{List, [], _∷_, map}
-use lib.ListN.{length, getD, take}
-use lib.Dec.{leb, eqb}
-use lib.IntN.{natAbs}
-use Rattle·units.specs.Outcome.{Outcome, given, refused}
-use Rattle·job_records·specs.specs.LittleEndian.{u16At, u32At, u64At, i64Of}
-use Rattle·job_records·specs.specs.declared.records.Range.{Range}
-use Rattle·job_records·specs.specs.declared.records.RowSlot.{RowSlot}
-use Rattle·job_records·specs.specs.declared.records.ColumnSlot.{ColumnSlot}
-use Rattle·job_records·specs.specs.declared.records.MarginBits.{MarginBits}
-use Rattle·job_records·specs.specs.declared.records.Record.{Record}
-use Rattle·job_records·specs.specs.declared.records.Record.the-variants.{Paper, Landscape, Margin, Scale, Wide, High, Fit, Order, Headings, Limit, Cells, Area}
-use Rattle·job_records·specs.specs.declared.records.Record.the-variants.{TitleRows, TitleColumns, Row, Column, Merged, RowBreak, ColumnBreak, End}
-use Rattle·job_records·specs.specs.declared.records.Step.{Step}
-use Rattle·job_records·specs.specs.declared.records.Step.the-variants.{Read, Nothing}
+use Rattle.std.specs.Prelude.{ℕ, zero, suc, pred, ◌+◌, ◌*◌, Bool, false, not, cond, List, [], ◌∷◌, map, length, get_or, take, leb, eqb, nat_abs}
+use Rattle.units.specs.Outcome.{Outcome, given, refused}
+use Rattle.job_records.specs.LittleEndian.{u16_at, u32_at, u64_at, i64_of}
+use Rattle.job_records.specs.declared.records.Range.{Range}
+use Rattle.job_records.specs.declared.records.RowSlot.{RowSlot}
+use Rattle.job_records.specs.declared.records.ColumnSlot.{ColumnSlot}
+use Rattle.job_records.specs.declared.records.MarginBits.{MarginBits}
+use Rattle.job_records.specs.declared.records.Record.{Record}
+use Rattle.job_records.specs.declared.records.Record.TheVariants.{Paper, Landscape, Margin, Scale, Wide, High, Fit, Order, Headings, Limit, Cells, Area}
+use Rattle.job_records.specs.declared.records.Record.TheVariants.{TitleRows, TitleColumns, Row, Column, Merged, RowBreak, ColumnBreak, End}
+use Rattle.job_records.specs.declared.records.Step.{Step}
+use Rattle.job_records.specs.declared.records.Step.TheVariants.{Read, Nothing}
 
 -- ---- what stands after a mark, which has two bytes
 
 -- "MG six f64", each by the 64 bits that stand for it: "left, right, top, bottom, header, footer"
-abbrev pub marginsAt : List ℕ → MarginBits
-marginsAt s = record {
-  left = u64At s 2;
-  right = u64At s 10;
-  top = u64At s 18;
-  bottom = u64At s 26;
-  header = u64At s 34;
-  footer = u64At s 42;
+abbrev pub margins_at : List ℕ → MarginBits
+margins_at s = record {
+  left = u64_at s 2;
+  right = u64_at s 10;
+  top = u64_at s 18;
+  bottom = u64_at s 26;
+  header = u64_at s 34;
+  footer = u64_at s 42;
 }
 
 -- "AR range u32, u16, u32, u16 as first row, first column, last row, last column"; "MR as AR"
-abbrev pub rangeAt : List ℕ → Range
-rangeAt s = record { «first_row» = u32At s 2; «first_column» = u16At s 6; «last_row» = u32At s 8; «last_column» = u16At s 12 }
+abbrev pub range_at : List ℕ → Range
+range_at s = record { first_row = u32_at s 2; first_column = u16_at s 6; last_row = u32_at s 8; last_column = u16_at s 12 }
 
 -- "RW u32, i64"
-abbrev pub rowAt : List ℕ → RowSlot
-rowAt s = record { index = u32At s 2; size = i64Of (u64At s 6) }
+abbrev pub row_at : List ℕ → RowSlot
+row_at s = record { index = u32_at s 2; size = i64_of (u64_at s 6) }
 
 -- "CL u16, i64"
-abbrev pub columnAt : List ℕ → ColumnSlot
-columnAt s = record { index = u16At s 2; size = i64Of (u64At s 4) }
+abbrev pub column_at : List ℕ → ColumnSlot
+column_at s = record { index = u16_at s 2; size = i64_of (u64_at s 4) }
 
 -- ---- the table of records
 
@@ -60,42 +55,42 @@ format a b k n = record { mark = a + 256 * b; kind = k; bytes = n }
 unfoldable pub formats : List Format
 formats =
     -- "PC paper u16"
-    format 80 67 (λ s. Paper (u16At s 2)) 4
+    format 80 67 (λ s. Paper (u16_at s 2)) 4
     -- "LA landscape"
     ∷ format 76 65 (λ s. Landscape) 2
     -- "MG six f64"
-    ∷ format 77 71 (λ s. Margin (marginsAt s)) 50
+    ∷ format 77 71 (λ s. Margin (margins_at s)) 50
     -- "SC percent u16"
-    ∷ format 83 67 (λ s. Scale (u16At s 2)) 4
+    ∷ format 83 67 (λ s. Scale (u16_at s 2)) 4
     -- "FW, FH targets u16"
-    ∷ format 70 87 (λ s. Wide (u16At s 2)) 4
-    ∷ format 70 72 (λ s. High (u16At s 2)) 4
+    ∷ format 70 87 (λ s. Wide (u16_at s 2)) 4
+    ∷ format 70 72 (λ s. High (u16_at s 2)) 4
     -- "FT fit u8"
-    ∷ format 70 84 (λ s. Fit (getD s 2 0)) 3
+    ∷ format 70 84 (λ s. Fit (get_or s 2 0)) 3
     -- "OD u8, 1 for over then down"
-    ∷ format 79 68 (λ s. Order (getD s 2 0)) 3
+    ∷ format 79 68 (λ s. Order (get_or s 2 0)) 3
     -- "HD headings"
     ∷ format 72 68 (λ s. Headings) 2
     -- "LP page limit u64"
-    ∷ format 76 80 (λ s. Limit (u64At s 2)) 10
+    ∷ format 76 80 (λ s. Limit (u64_at s 2)) 10
     -- document 02, T-02: "UC, u64, between LP and AR"
-    ∷ format 85 67 (λ s. Cells (u64At s 2)) 10
+    ∷ format 85 67 (λ s. Cells (u64_at s 2)) 10
     -- "AR range u32, u16, u32, u16"
-    ∷ format 65 82 (λ s. Area (rangeAt s)) 14
+    ∷ format 65 82 (λ s. Area (range_at s)) 14
     -- "TR two u32"
-    ∷ format 84 82 (λ s. TitleRows (u32At s 2) (u32At s 6)) 10
+    ∷ format 84 82 (λ s. TitleRows (u32_at s 2) (u32_at s 6)) 10
     -- "TC two u16"
-    ∷ format 84 67 (λ s. TitleColumns (u16At s 2) (u16At s 4)) 6
+    ∷ format 84 67 (λ s. TitleColumns (u16_at s 2) (u16_at s 4)) 6
     -- "RW u32, i64"
-    ∷ format 82 87 (λ s. Row (rowAt s)) 14
+    ∷ format 82 87 (λ s. Row (row_at s)) 14
     -- "CL u16, i64"
-    ∷ format 67 76 (λ s. Column (columnAt s)) 12
+    ∷ format 67 76 (λ s. Column (column_at s)) 12
     -- "MR as AR"
-    ∷ format 77 82 (λ s. Merged (record { cells = rangeAt s })) 14
+    ∷ format 77 82 (λ s. Merged (record { cells = range_at s })) 14
     -- "BR u32"
-    ∷ format 66 82 (λ s. RowBreak (u32At s 2)) 6
+    ∷ format 66 82 (λ s. RowBreak (u32_at s 2)) 6
     -- "BC u16"
-    ∷ format 66 67 (λ s. ColumnBreak (u16At s 2)) 4
+    ∷ format 66 67 (λ s. ColumnBreak (u16_at s 2)) 4
     -- "EN"
     ∷ format 69 78 (λ s. End) 2
     ∷ []
@@ -112,44 +107,44 @@ found r n = given (record { kind = r; bytes = n })
 -- the record of a mark among some formats; an unknown mark is no to 2, "Whole known records up to an EN?"
 unfoldable pub find : ℕ → List Format → List ℕ → Outcome Found
 find m [] s = refused 2
-find m (f ∷ fs) s = cond (eqb m (f .mark)) (found (f .kind s) (f .bytes)) (find m fs s)
+find m (f ∷ fs) s = cond (eqb m f.mark) (found (f.kind s) f.bytes) (find m fs s)
 
 -- the formats of the settings, which stand first, for the private functions of `src/records.rt`
 abbrev pub settings : List Format
 settings = take 14 formats
 
 -- how many bytes the record of a mark has, for the private functions of `src/records.rt`; 0 where the formats have no such mark
-unfoldable pub sizeIn : List Format → ℕ → ℕ
-sizeIn [] m = 0
-sizeIn (f ∷ fs) m = cond (eqb m (f .mark)) (f .bytes) (sizeIn fs m)
+unfoldable pub size_in : List Format → ℕ → ℕ
+size_in [] m = 0
+size_in (f ∷ fs) m = cond (eqb m f.mark) f.bytes (size_in fs m)
 
 -- the record of a known mark at the head of the bytes
 unfoldable pub known : List ℕ → Outcome Found
-known s = find (u16At s 0) formats s
+known s = find (u16_at s 0) formats s
 
 -- a record counts where all its bytes are there, of n; one that is not whole is no to 2
 unfoldable pub whole : ℕ → Outcome Found → Outcome Found
-whole n (given f) = cond (leb (f .bytes) n) (given f) (refused 2)
+whole n (given f) = cond (leb f.bytes n) (given f) (refused 2)
 whole n (refused k) = refused k
 
 -- the whole known record at the head of the bytes, and how many bytes it has
-unfoldable pub headRecord : List ℕ → Outcome Found
-headRecord s = whole (length s) (known s)
+unfoldable pub head_record : List ℕ → Outcome Found
+head_record s = whole (length s) (known s)
 
 -- the value or the number that each case of `Step` stands for
-abbrev pub stepOutcome : Step → Outcome Found
-stepOutcome (Read r n) = found r n
-stepOutcome Nothing = refused 2
+abbrev pub step_outcome : Step → Outcome Found
+step_outcome (Read r n) = found r n
+step_outcome Nothing = refused 2
 
 -- the case of `Step` that stands for an outcome
-abbrev pub stepOf : Outcome Found → Step
-stepOf (given f) = Read (f .kind) (f .bytes)
-stepOf (refused n) = Nothing
+abbrev pub step_of : Outcome Found → Step
+step_of (given f) = Read f.kind f.bytes
+step_of (refused n) = Nothing
 
 -- the step from the head of the bytes
 unfoldable pub step : List ℕ → Step
-unfolding headRecord
-step s = stepOf (headRecord s)
+unfolding head_record
+step s = step_of (head_record s)
 
 -- ---- the places of the marks in the order of the records, from 1
 
@@ -239,18 +234,18 @@ rank End = EN
 -- ---- the records of a job, up to the first EN
 
 -- an EN
-abbrev pub isEnd : Record → Bool
-isEnd r = eqb (rank r) EN
+abbrev pub is_end : Record → Bool
+is_end r = eqb (rank r) EN
 
 -- whether reading goes on after a step: it found a record, and that is no EN
-unfoldable pub goesOn : Step → Bool
-goesOn Nothing = false
-goesOn (Read r n) = not (isEnd r)
+unfoldable pub goes_on : Step → Bool
+goes_on Nothing = false
+goes_on (Read r n) = not (is_end r)
 
 -- whether a step found an EN
 unfoldable pub ended : Step → Bool
 ended Nothing = false
-ended (Read r n) = isEnd r
+ended (Read r n) = is_end r
 
 -- how many bytes a step takes
 abbrev pub used : Step → ℕ
@@ -260,39 +255,39 @@ used (Read r n) = n
 -- the record of a step, if it is no EN, before others
 unfoldable pub onto : Step → List Record → List Record
 onto Nothing rs = []
-onto (Read r n) rs = cond (isEnd r) [] (r ∷ rs)
+onto (Read r n) rs = cond (is_end r) [] (r ∷ rs)
 
 -- the records before the first EN, or before what is no whole known record; k bytes still belong to the record before
-unfoldable pub recordsFrom : ℕ → List ℕ → List Record
-recordsFrom k [] = []
-recordsFrom zero (b ∷ bs) = onto (step (b ∷ bs)) (recordsFrom (pred (used (step (b ∷ bs)))) bs)
-recordsFrom (suc k) (b ∷ bs) = recordsFrom k bs
+unfoldable pub records_from : ℕ → List ℕ → List Record
+records_from k [] = []
+records_from zero (b ∷ bs) = onto (step (b ∷ bs)) (records_from (pred (used (step (b ∷ bs)))) bs)
+records_from (suc k) (b ∷ bs) = records_from k bs
 
 -- the records of a job
 unfoldable pub records : List ℕ → List Record
-records s = recordsFrom 0 s
+records s = records_from 0 s
 
 -- the bytes after those records: from the first EN on
-unfoldable pub restFrom : ℕ → List ℕ → List ℕ
-restFrom k [] = []
-restFrom zero (b ∷ bs) = cond (goesOn (step (b ∷ bs))) (restFrom (pred (used (step (b ∷ bs)))) bs) (b ∷ bs)
-restFrom (suc k) (b ∷ bs) = restFrom k bs
+unfoldable pub rest_from : ℕ → List ℕ → List ℕ
+rest_from k [] = []
+rest_from zero (b ∷ bs) = cond (goes_on (step (b ∷ bs))) (rest_from (pred (used (step (b ∷ bs)))) bs) (b ∷ bs)
+rest_from (suc k) (b ∷ bs) = rest_from k bs
 
 -- the bytes from the EN on, or from where no whole known record stands
 unfoldable pub rest : List ℕ → List ℕ
-rest s = restFrom 0 s
+rest s = rest_from 0 s
 
 -- ---- "each record read is one kind with its own fields": the fields, in the order in which they stand
 
 -- the four numbers of a range of cells
-abbrev pub cellsOf : Range → List ℕ
-cellsOf a = a .«first_row» ∷ a .«first_column» ∷ a .«last_row» ∷ a .«last_column» ∷ []
+abbrev pub cells_of : Range → List ℕ
+cells_of a = a.first_row ∷ a.first_column ∷ a.last_row ∷ a.last_column ∷ []
 
 -- a size without its sign: question 9 finds it to be 0 or more
 abbrev pub fields : Record → List ℕ
 fields (Paper x) = x ∷ []
 fields Landscape = []
-fields (Margin m) = m .left ∷ m .right ∷ m .top ∷ m .bottom ∷ m .header ∷ m .footer ∷ []
+fields (Margin m) = m.left ∷ m.right ∷ m.top ∷ m.bottom ∷ m.header ∷ m.footer ∷ []
 fields (Scale x) = x ∷ []
 fields (Wide x) = x ∷ []
 fields (High x) = x ∷ []
@@ -301,19 +296,19 @@ fields (Order x) = x ∷ []
 fields Headings = []
 fields (Limit x) = x ∷ []
 fields (Cells x) = x ∷ []
-fields (Area a) = cellsOf a
+fields (Area a) = cells_of a
 fields (TitleRows f l) = f ∷ l ∷ []
 fields (TitleColumns f l) = f ∷ l ∷ []
-fields (Row s) = s .index ∷ natAbs (s .size) ∷ []
-fields (Column s) = s .index ∷ natAbs (s .size) ∷ []
-fields (Merged m) = cellsOf (m .cells)
+fields (Row s) = s.index ∷ nat_abs s.size ∷ []
+fields (Column s) = s.index ∷ nat_abs s.size ∷ []
+fields (Merged m) = cells_of m.cells
 fields (RowBreak b) = b ∷ []
 fields (ColumnBreak b) = b ∷ []
 fields End = []
 
 -- a field by its place, from 0
 abbrev pub field : ℕ → Record → ℕ
-field f r = getD (fields r) f 0
+field f r = get_or (fields r) f 0
 
 -- the records with a mark
 unfoldable pub marked : ℕ → List Record → List Record

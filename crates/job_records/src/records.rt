@@ -1,34 +1,16 @@
 // The records of a job, one at a time: document 01, section "Jobs".
-use crate::little_endian::signed;
-use crate::little_endian::u16_at;
-use crate::little_endian::u32_at;
-use crate::little_endian::u64_at;
-use crate::ranks::CELL_LIMIT;
-use crate::ranks::COLUMN_BREAKS;
-use crate::ranks::COLUMN_TITLE;
-use crate::ranks::COLUMNS;
-use crate::ranks::END;
-use crate::ranks::FIT;
-use crate::ranks::FIT_HEIGHT;
-use crate::ranks::FIT_WIDTH;
-use crate::ranks::HEADINGS;
-use crate::ranks::LANDSCAPE;
-use crate::ranks::MARGINS;
-use crate::ranks::MERGES;
-use crate::ranks::ORDER;
-use crate::ranks::PAGE_LIMIT;
-use crate::ranks::PAPER;
-use crate::ranks::PERCENT;
-use crate::ranks::RANGE;
-use crate::ranks::ROW_BREAKS;
-use crate::ranks::ROW_TITLE;
-use crate::ranks::ROWS;
-ghost use mathlib.Core.Path.{_≡_};
-ghost use Prim.Native.Nat.{_≤_};
-ghost use lib.ListN.{length};
-ghost use Rattle·job_records·specs.specs.Records.{rangeAt, marginsAt, rowAt, columnAt, find, formats, settings, sizeIn, headRecord, stepOutcome, rank};
+ghost use Rattle.std.specs.Prelude.{◌≡◌, ◌≤◌, length};
+ghost use Rattle.job_records.specs.Records.{range_at, margins_at, row_at, column_at, find, formats, settings, size_in, head_record, step_outcome, rank};
+
+use crate::little_endian::{signed, u16_at, u32_at, u64_at};
+use crate::ranks::{
+    CELL_LIMIT, COLUMN_BREAKS, COLUMN_TITLE, COLUMNS, END, FIT, FIT_HEIGHT, FIT_WIDTH, HEADINGS,
+    LANDSCAPE, MARGINS, MERGES, ORDER, PAGE_LIMIT, PAPER, PERCENT, RANGE, ROW_BREAKS, ROW_TITLE,
+    ROWS,
+};
 
 // A rectangle of cells.
+#[derive(Drop)]
 pub struct Range {
     pub first_row: u32,
     pub first_column: u16,
@@ -37,6 +19,7 @@ pub struct Range {
 }
 
 // The print areas of a job, at most eight, in job order; what stands past their count is no area.
+#[derive(Drop)]
 pub struct JobAreas {
     pub count: usize,
     pub first: Range,
@@ -50,23 +33,27 @@ pub struct JobAreas {
 }
 
 // A measured row. The size stands first: behind the index a range would end inside it, and a `Record` would be written in halves.
+#[derive(Drop)]
 pub struct RowSlot {
     pub size: i64,
     pub index: u32,
 }
 
 // A measured column, in the same order.
+#[derive(Drop)]
 pub struct ColumnSlot {
     pub size: i64,
     pub index: u16,
 }
 
 // A merged rectangle.
+#[derive(Drop)]
 pub struct Merge {
     pub cells: Range,
 }
 
 // Six margins in inches, each by the 64 bits of its f64.
+#[derive(Drop)]
 pub struct MarginBits {
     pub left: u64,
     pub right: u64,
@@ -77,6 +64,7 @@ pub struct MarginBits {
 }
 
 // A record, one kind for each mark.
+#[derive(Drop)]
 pub enum Record {
     Paper(u16),
     Landscape,
@@ -102,14 +90,15 @@ pub enum Record {
 
 // What `read_record` answers: the record at the head of some bytes and how many bytes it has, or that no whole known record is there, which is
 // a no to question 2.
+#[derive(Drop)]
 pub enum Step {
     Read(Record, usize),
     Nothing,
 }
 
 fn margins_at(s: &[u8]) -> MarginBits
-    requires { ⌜ 50 ≤ length (now s) ⌝ }
-    ensures { λ r. ⌜ r ≡ marginsAt (now (s .entry)) ⌝ }
+    requires { 50 ≤ length s.now }
+    ensures { result ≡ margins_at s.now }
 {
     MarginBits {
         left: u64_at(s, 2),
@@ -122,8 +111,8 @@ fn margins_at(s: &[u8]) -> MarginBits
 }
 
 fn range_at(s: &[u8]) -> Range
-    requires { ⌜ 14 ≤ length (now s) ⌝ }
-    ensures { λ r. ⌜ r ≡ rangeAt (now (s .entry)) ⌝ }
+    requires { 14 ≤ length s.now }
+    ensures { result ≡ range_at s.now }
 {
     Range {
         first_row: u32_at(s, 2),
@@ -134,8 +123,8 @@ fn range_at(s: &[u8]) -> Range
 }
 
 fn row_at(s: &[u8]) -> RowSlot
-    requires { ⌜ 14 ≤ length (now s) ⌝ }
-    ensures { λ r. ⌜ r ≡ rowAt (now (s .entry)) ⌝ }
+    requires { 14 ≤ length s.now }
+    ensures { result ≡ row_at s.now }
 {
     RowSlot {
         index: u32_at(s, 2),
@@ -144,8 +133,8 @@ fn row_at(s: &[u8]) -> RowSlot
 }
 
 fn column_at(s: &[u8]) -> ColumnSlot
-    requires { ⌜ 12 ≤ length (now s) ⌝ }
-    ensures { λ r. ⌜ r ≡ columnAt (now (s .entry)) ⌝ }
+    requires { 12 ≤ length s.now }
+    ensures { result ≡ column_at s.now }
 {
     ColumnSlot {
         index: u16_at(s, 2),
@@ -195,7 +184,7 @@ const EN: u16 = 0x4e45;
 
 // How many bytes a record with this mark has; 0 for an unknown mark.
 fn size_of(mark: u16) -> usize
-    ensures { λ r. ⌜ r ≡ sizeIn formats mark ⌝ }
+    ensures { result ≡ size_in formats mark }
 {
     match mark {
         LA | HD | EN => 2,
@@ -212,8 +201,8 @@ fn size_of(mark: u16) -> usize
 
 // The record with this mark where it is a setting, whose bytes are all there.
 fn setting_at(s: &[u8], mark: u16) -> Step
-    requires { ⌜ sizeIn settings mark ≤ length (now s) ⌝ }
-    ensures { λ r. ⌜ stepOutcome r ≡ find mark settings (now (s .entry)) ⌝ }
+    requires { size_in settings mark ≤ length s.now }
+    ensures { step_outcome result ≡ find mark settings s.now }
 {
     match mark {
         PC => Step::Read(Record::Paper(u16_at(s, 2)), 4),
@@ -236,8 +225,8 @@ fn setting_at(s: &[u8], mark: u16) -> Step
 
 // The record with this mark, whose bytes are all there.
 fn known_at(s: &[u8], mark: u16) -> Step
-    requires { ⌜ sizeIn formats mark ≤ length (now s) ⌝ }
-    ensures { λ r. ⌜ stepOutcome r ≡ find mark formats (now (s .entry)) ⌝ }
+    requires { size_in formats mark ≤ length s.now }
+    ensures { step_outcome result ≡ find mark formats s.now }
 {
     match mark {
         RW => Step::Read(Record::Row(row_at(s)), 14),
@@ -252,7 +241,7 @@ fn known_at(s: &[u8], mark: u16) -> Step
 
 // The whole known record at the head of the bytes, and how many bytes it has.
 pub fn read_record(bytes: &[u8]) -> Step
-    ensures { λ r. ⌜ stepOutcome r ≡ headRecord (now (bytes .entry)) ⌝ }
+    ensures { step_outcome result ≡ head_record bytes.now }
 {
     if bytes.len() < 2 {
         return Step::Nothing;
@@ -266,7 +255,7 @@ pub fn read_record(bytes: &[u8]) -> Step
 
 // The place of a record's mark in the order of the records, from 1.
 pub fn rank_of(found: Record) -> u8
-    ensures { λ r. ⌜ r ≡ rank found ⌝ }
+    ensures { result ≡ rank found }
 {
     match found {
         Record::Paper(_) => PAPER,

@@ -1,58 +1,58 @@
 -- The fewest digits of a number are its decimal. Assumes nothing.
-use mathlib.Core.Path.{_≡_, sym}
-use mathlib.Core.List.{[], _∷_, _++_}
-use Prim.Native.Nat.{ℕ, zero, suc, _+_, _-_, _*_, _/_, _%_, _^_, _≤_, _<_}
-use native.Mathlib.Nat.{pow-succ', one-le-pow, pow-le-pow-right}
+use mathlib.Core.Path.{◌≡◌, sym}
+use mathlib.Core.List.{[], ◌∷◌, ◌++◌}
+use Prim.Native.Nat.{ℕ, zero, suc, ◌+◌, ◌-◌, ◌*◌, ◌/◌, ◌%◌, ◌^◌, ◌≤◌, ◌<◌}
+use native.Mathlib.Nat.{pow-succ', one-le-pow, pow-le-pow_right}
 use native.Mathlib.Omega.{arith}
 use borrow.Author.Tests.{lt-ltb, le-ltb}
-use Rattle·io.specs.Digits.{glyph, digits, Fewest}
-use Rattle·job_report·specs.specs.Lines.{digitsWithin, decimal}
-use Rattle·planner_rules.proofs.Laws.{split}
+use Rattle.io.specs.Digits.{hex_digit_ascii, last_digits, IsDigitCount}
+use Rattle.job_report.specs.Lines.{digits_within, decimal}
+use Rattle.planner_rules.proofs.Laws.{split}
 
-last-digit : (n : ℕ) → glyph (n % 10) ≡ 48 + n % 10
-last-digit n = let h : n % 10 < 10 = omega arith in rw (lt-ltb (n % 10) 10 h)
+last_digit : (n : ℕ) → hex_digit_ascii (n % 10) ≡ 48 + n % 10
+last_digit n = let h : n % 10 < 10 = omega arith in rw (lt-ltb (n % 10) 10 h)
 
 -- a number of one digit, and one of more
-short : (most n : ℕ) → n < 10 → digitsWithin (suc most) n ≡ (48 + n % 10) ∷ []
-unfolding digitsWithin
+short : (most n : ℕ) → n < 10 → digits_within (suc most) n ≡ (48 + n % 10) ∷ []
+unfolding digits_within
 short most n h = rw (lt-ltb n 10 h)
 
-long : (most n : ℕ) → 10 ≤ n → digitsWithin (suc most) n ≡ digitsWithin most (n / 10) ++ ((48 + n % 10) ∷ [])
-unfolding digitsWithin
+long : (most n : ℕ) → 10 ≤ n → digits_within (suc most) n ≡ digits_within most (n / 10) ++ ((48 + n % 10) ∷ [])
+unfolding digits_within
 long most n h = rw (le-ltb n 10 h)
 
 -- without its last digit a number has one digit less
-one-less : (n k : ℕ) → Fewest 10 1 n (suc (suc k)) → (10 ≤ n) × Fewest 10 1 (n / 10) (suc k)
-one-less n k f =
+one_less : (n k : ℕ) → IsDigitCount 10 1 n (suc (suc k)) → (10 ≤ n) × IsDigitCount 10 1 (n / 10) (suc k)
+one_less n k f =
     let p = one-le-pow k 10 (omega arith) in
     let e : suc (suc k) - 1 ≡ suc k = omega arith in
-    let low : 10 ^ suc k ≤ n = rw e at (f .2 (omega arith)) in
+    let low : 10 ^ suc k ≤ n = rw e at (f.2 (omega arith)) in
     let a : 10 * 10 ^ k ≤ n = rw pow-succ' at low in
-    let high : n < 10 ^ suc (suc k) = f .1 in
+    let high : n < 10 ^ suc (suc k) = f.1 in
     let b : n < 10 * 10 ^ suc k = rw (pow-succ' 10 (suc k)) at high in
     let d : suc k - 1 ≡ k = omega arith in
     let c : 10 ^ k ≤ n / 10 = omega arith in
     (omega arith, (omega arith, omega arith, λ _. rw d c))
 
-fewest-within : (k most n : ℕ) → n < most → Fewest 10 1 n k → digits 10 k n ≡ digitsWithin most n
-fewest-within zero most n h f = absurd (omega (arith, f .0))
-fewest-within (suc zero) zero n h f = absurd (omega arith)
-fewest-within (suc zero) (suc most) n h f = rw (last-digit n) (sym (short most n (omega (arith, f .1))))
-fewest-within (suc (suc k)) zero n h f = absurd (omega arith)
-fewest-within (suc (suc k)) (suc most) n h f =
-    let g = one-less n k f in
-    let ten = g .0 in
-    rw (last-digit n, long most n ten, ← (fewest-within (suc k) most (n / 10) (omega arith) (g .1)))
+fewest_within : (k most n : ℕ) → n < most → IsDigitCount 10 1 n k → last_digits 10 k n ≡ digits_within most n
+fewest_within zero most n h f = absurd (omega (arith, f.0))
+fewest_within (suc zero) zero n h f = absurd (omega arith)
+fewest_within (suc zero) (suc most) n h f = rw (last_digit n) (sym (short most n (omega (arith, f.1))))
+fewest_within (suc (suc k)) zero n h f = absurd (omega arith)
+fewest_within (suc (suc k)) (suc most) n h f =
+    let g = one_less n k f in
+    let ten = g.0 in
+    rw (last_digit n, long most n ten, ← (fewest_within (suc k) most (n / 10) (omega arith) g.1))
 
-pub fewest-decimal : (n k : ℕ) → Fewest 10 1 n k → digits 10 k n ≡ decimal n
+pub fewest_decimal : (n k : ℕ) → IsDigitCount 10 1 n k → last_digits 10 k n ≡ decimal n
 unfolding decimal
-fewest-decimal n k f = fewest-within k (suc n) n (omega arith) f
+fewest_decimal n k f = fewest_within k (suc n) n (omega arith) f
 
 -- and they are no more than 20 for a number of 64 bits
-pub fewest-twenty : (n k : ℕ) → n < 2 ^ 64 → Fewest 10 1 n k → k ≤ 20
-fewest-twenty n k h f =
+pub fewest_twenty : (n k : ℕ) → n < 2 ^ 64 → IsDigitCount 10 1 n k → k ≤ 20
+fewest_twenty n k h f =
     split k 20 (λ w. w)
     (λ w.
-    let p = f .2 (omega arith) in
-    let q : 10 ^ 20 ≤ 10 ^ (k - 1) = pow-le-pow-right (omega arith) {i = 20} {j = k - 1} (omega arith) in
+    let p = f.2 (omega arith) in
+    let q : 10 ^ 20 ≤ 10 ^ (k - 1) = pow-le-pow_right (omega arith) {i = 20} {j = k - 1} (omega arith) in
     absurd (omega arith))

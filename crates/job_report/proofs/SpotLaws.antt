@@ -1,81 +1,81 @@
 -- Where a page stands in a plan: which area, and which of the area's own pages. Assumes nothing.
-use mathlib.Core.Path.{_≡_, refl, sym, ap, _∙_}
-use mathlib.Core.Bool.{Bool, true, false, cond, _&&_}
-use mathlib.Core.List.{List, [], _∷_}
-use Prim.Native.Nat.{ℕ, zero, suc, _+_, _-_, _≤_, _<_}
+use mathlib.Core.Path.{◌≡◌, refl, sym, ap, ◌∙◌}
+use mathlib.Core.Bool.{Bool, true, false, cond, ◌&&◌}
+use mathlib.Core.List.{List, [], ◌∷◌}
+use Prim.Native.Nat.{ℕ, zero, suc, ◌+◌, ◌-◌, ◌≤◌, ◌<◌}
 use native.Mathlib.Omega.{arith}
 use lib.Dec.{leb, ltb}
-use lib.ListN.{length, getD, take, drop, length-take}
-use lib.Seq.{getD-take}
+use lib.ListN.{length, get_or, take, drop, length-take}
+use lib.Seq.{get_or-take}
 use borrow.Author.Tests.{leb-true, lt-ltb, le-ltb}
-use Rattle·planner_rules.specs.declared.pages.AreaPlan.{AreaPlan}
-use Rattle·planner_rules.specs.declared.pages.Plan.{Plan}
-use Rattle·planner_rules.specs.declared.pages.Spot.{Spot}
-use Rattle·planner_rules.specs.declared.pages.Found.{Found}
-use Rattle·planner_rules.specs.declared.pages.Found.the-variants.{At, Nothing}
-use Rattle·planner_rules.specs.Areas.{eightPlans, plansIn, noPlan}
-use Rattle·planner_rules.specs.Pages.{pagesIn, spotFrom, spotOf}
-use Rattle·planner_rules.proofs.Laws.{split}
-use Rattle·planner_rules.proofs.QuestionLaws.{both}
-use Rattle·job_report·specs.specs.Blocks.{areaOf}
+use Rattle.planner_rules.specs.declared.pages.AreaPlan.{AreaPlan}
+use Rattle.planner_rules.specs.declared.pages.Plan.{Plan}
+use Rattle.planner_rules.specs.declared.pages.Spot.{Spot}
+use Rattle.planner_rules.specs.declared.pages.Found.{Found}
+use Rattle.planner_rules.specs.declared.pages.Found.TheVariants.{At, Nothing}
+use Rattle.planner_rules.specs.Areas.{eight_plans, plans_in, no_plan}
+use Rattle.planner_rules.specs.Pages.{pages_in, spot_from, spot_of}
+use Rattle.planner_rules.proofs.Laws.{split}
+use Rattle.planner_rules.proofs.QuestionLaws.{both}
+use Rattle.job_report.specs.Blocks.{area_of}
 
-pub no-spot : {X : Type 0} (s : Spot) → Nothing ≡ At s → X
-no-spot s e = let z : _≡_ {A = ℕ} 0 1 = cc in absurd (omega arith)
+pub no_spot : {X : Type 0} (s : Spot) → Nothing ≡ At s → X
+no_spot s e = let z : ◌≡◌ {A = ℕ} 0 1 = cc in absurd (omega arith)
 
 -- a spot among the areas from the k-th on, of a page that has so many pages before it
 pub record Within (areas : List AreaPlan) (k before : ℕ) (s : Spot) : Type 0 where
-  pub from-first : k ≤ s .area
-  pub to-last : s .area < k + length areas
-  pub not-later : s .before ≤ before
-  pub own : s .before < pagesIn (getD areas (s .area - k) noPlan)
+  pub from_first : k ≤ s.area
+  pub to_last : s.area < k + length areas
+  pub not_later : s.before ≤ before
+  pub own : s.before < pages_in (get_or areas (s.area - k) no_plan)
 
-pub spot-within : (areas : List AreaPlan) (k before : ℕ) (s : Spot) → spotFrom k before areas ≡ At s → Within areas k before s
-unfolding spotFrom
-spot-within [] k before s e = no-spot s e
-spot-within (a ∷ areas) k before s e =
-    split (suc before) (pagesIn a)
+pub spot_within : (areas : List AreaPlan) (k before : ℕ) (s : Spot) → spot_from k before areas ≡ At s → Within areas k before s
+unfolding spot_from
+spot_within [] k before s e = no_spot s e
+spot_within (a ∷ areas) k before s e =
+    split (suc before) (pages_in a)
     (λ h.
-    let is : At (record { area = k; before = before }) ≡ At s = rw (lt-ltb before (pagesIn a) h) at e in
+    let is : At (record { area = k; before = before }) ≡ At s = rw (lt-ltb before (pages_in a) h) at e in
     let same : record { area = k; before = before } ≡ s = cc in
     let none : k - k ≡ 0 = omega arith in
-    rw (← same) (record { from-first = omega arith; to-last = omega arith; not-later = omega arith; own = rw none h }))
+    rw (← same) (record { from_first = omega arith; to_last = omega arith; not_later = omega arith; own = rw none h }))
     (λ h.
-    let later = rw (le-ltb before (pagesIn a) (omega arith)) at e in
-    let w = spot-within areas (k + 1) (before - pagesIn a) s later in
-    let low = w .from-first in
-    let one : s .area - k ≡ suc (s .area - (k + 1)) = omega arith in
-    record { from-first = omega arith; to-last = omega (arith, w .to-last); not-later = omega (arith, w .not-later); own = rw one (w .own) })
+    let later = rw (le-ltb before (pages_in a) (omega arith)) at e in
+    let w = spot_within areas (k + 1) (before - pages_in a) s later in
+    let low = w.from_first in
+    let one : s.area - k ≡ suc (s.area - (k + 1)) = omega arith in
+    record { from_first = omega arith; to_last = omega (arith, w.to_last); not_later = omega (arith, w.not_later); own = rw one w.own })
 
 -- a page of a plan that is there: its number, and its spot
 pub record Placed (p : Plan) (n : ℕ) (s : Spot) : Type 0 where
-  pub from-one : 1 ≤ n
-  pub to-count : n ≤ p .pages
-  pub is : spotFrom 0 (n - 1) (plansIn (p .areas)) ≡ At s
-  pub within : Within (plansIn (p .areas)) 0 (n - 1) s
-  pub area-is : areaOf p s ≡ getD (eightPlans (p .areas)) (s .area) noPlan
+  pub from_one : 1 ≤ n
+  pub to_count : n ≤ p.pages
+  pub is : spot_from 0 (n - 1) (plans_in p.areas) ≡ At s
+  pub within : Within (plans_in p.areas) 0 (n - 1) s
+  pub area_is : area_of p s ≡ get_or (eight_plans p.areas) s.area no_plan
 
-pub placed : (p : Plan) (n : ℕ) (s : Spot) → spotOf p n ≡ At s → Placed p n s
-unfolding spotOf
-placed p n s e = go (leb 1 n && leb n (p .pages)) refl e
+pub placed : (p : Plan) (n : ℕ) (s : Spot) → spot_of p n ≡ At s → Placed p n s
+unfolding spot_of
+placed p n s e = go (leb 1 n && leb n p.pages) refl e
   where
-    go : (b : Bool) → (leb 1 n && leb n (p .pages)) ≡ b → cond b (spotFrom 0 (n - 1) (plansIn (p .areas))) Nothing ≡ At s → Placed p n s
-    go false i j = no-spot s j
+    go : (b : Bool) → (leb 1 n && leb n p.pages) ≡ b → cond b (spot_from 0 (n - 1) (plans_in p.areas)) Nothing ≡ At s → Placed p n s
+    go false i j = no_spot s j
     go true i j =
-        let asked = both (leb 1 n) (leb n (p .pages)) i in
-        let w = spot-within (plansIn (p .areas)) 0 (n - 1) s j in
+        let asked = both (leb 1 n) (leb n p.pages) i in
+        let w = spot_within (plans_in p.areas) 0 (n - 1) s j in
         record {
-          from-one = leb-true 1 n (asked .0);
-          to-count = leb-true n (p .pages) (asked .1);
+          from_one = leb-true 1 n asked.0;
+          to_count = leb-true n p.pages asked.1;
           is = j;
           within = w;
-          area-is = getD-take (p .areas .count) (eightPlans (p .areas)) (s .area) noPlan
-              (omega (arith, w .to-last, length-take (p .areas .count) (eightPlans (p .areas))));
+          area_is = get_or-take p.areas.count (eight_plans p.areas) s.area no_plan
+              (omega (arith, w.to_last, length-take p.areas.count (eight_plans p.areas)));
         }
 
 -- an area's own page
-pub own-page : (p : Plan) (n : ℕ) (s : Spot) → spotOf p n ≡ At s → s .before < pagesIn (areaOf p s)
-own-page p n s e = let none : s .area - 0 ≡ s .area = omega arith in rw none at (placed p n s e .within .own)
+pub own_page : (p : Plan) (n : ℕ) (s : Spot) → spot_of p n ≡ At s → s.before < pages_in (area_of p s)
+own_page p n s e = let none : s.area - 0 ≡ s.area = omega arith in rw none at (placed p n s e).within.own
 
 -- one of eight
-pub spot-eight : (p : Plan) (n : ℕ) (s : Spot) → spotOf p n ≡ At s → s .area < 8
-spot-eight p n s e = omega (arith, placed p n s e .within .to-last, length-take (p .areas .count) (eightPlans (p .areas)))
+pub spot_eight : (p : Plan) (n : ℕ) (s : Spot) → spot_of p n ≡ At s → s.area < 8
+spot_eight p n s e = omega (arith, (placed p n s e).within.to_last, length-take p.areas.count (eight_plans p.areas))

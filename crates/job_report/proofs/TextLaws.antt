@@ -1,137 +1,137 @@
 -- Text that is put from a place on. Assumes nothing.
-use mathlib.Core.Path.{_≡_, refl, sym, ap, ap₂, _∙_}
-use mathlib.Core.List.{List, [], _∷_, _++_, append-assoc, append-nil}
-use Prim.Native.Nat.{ℕ, suc, _+_, _*_, _≤_, _<_}
+use mathlib.Core.Path.{◌≡◌, refl, sym, ap, ap₂, ◌∙◌}
+use mathlib.Core.List.{List, [], ◌∷◌, ◌++◌, append_assoc, append-nil}
+use Prim.Native.Nat.{ℕ, suc, ◌+◌, ◌*◌, ◌≤◌, ◌<◌}
 use native.Mathlib.Numerals.{add-one}
 use native.Mathlib.Omega.{arith}
-use lib.ListN.{length, getD, take, drop, set, length-set, length-append, take-append-drop}
-use lib.Seq.{take-suc, take-all, length-take-le, set-split, take-at, drop-at, drop-drop}
-use Rattle·io.specs.Counts.{Counts}
-use Rattle·io.specs.Digits.{digits, Fewest}
-use Rattle·planner_rules.specs.Slots.{written}
-use Rattle·job_report·specs.specs.Lines.{decimal, numbers, line, put, PutAt, LinesPut}
-use Rattle·job_report·proofs.proofs.DecimalLaws.{fewest-decimal}
+use lib.ListN.{length, get_or, take, drop, set, length-set, length-append, take-append-drop}
+use lib.Seq.{take-suc, take_all, length-take-le, set_split, take_at, drop_at, drop-drop}
+use Rattle.io.specs.Counts.{IsPrefixLen}
+use Rattle.io.specs.Digits.{last_digits, IsDigitCount}
+use Rattle.planner_rules.specs.Slots.{written}
+use Rattle.job_report.specs.Lines.{decimal, numbers, line, put, PutAt, LinesPut}
+use Rattle.job_report.proofs.DecimalLaws.{fewest_decimal}
 
 -- ---- one text after another
 
 -- what is put after a text, onto what putting that text left, is put with it
-put-then : (at : ℕ) (a b old : List ℕ) → at + length a ≤ length old → put (at + length a) b (put at a old) ≡ put at (a ++ b) old
-put-then at a b old h =
+put_then : (at : ℕ) (a b old : List ℕ) → at + length a ≤ length old → put (at + length a) b (put at a old) ≡ put at (a ++ b) old
+put_then at a b old h =
     let start = take at old in
     let rest = drop at old in
     let front : length (start ++ a) ≡ at + length a = length-append start a ∙ ap (λ (n : ℕ). n + length a) (length-take-le at old (omega arith)) in
-    let whole : put at a old ≡ (start ++ a) ++ drop (length a) rest = sym (append-assoc start a (drop (length a) rest)) in
-    let before : take (at + length a) (put at a old) ≡ start ++ a = ap (take (at + length a)) whole ∙ take-at (start ++ a) _ _ front in
-    let behind : drop (at + length a) (put at a old) ≡ drop (length a) rest = ap (drop (at + length a)) whole ∙ drop-at (start ++ a) _ _ front in
+    let whole : put at a old ≡ (start ++ a) ++ drop (length a) rest = sym (append_assoc start a (drop (length a) rest)) in
+    let before : take (at + length a) (put at a old) ≡ start ++ a = ap (take (at + length a)) whole ∙ take_at (start ++ a) _ _ front in
+    let behind : drop (at + length a) (put at a old) ≡ drop (length a) rest = ap (drop (at + length a)) whole ∙ drop_at (start ++ a) _ _ front in
     let left : drop (length b) (drop (length a) rest) ≡ drop (length (a ++ b)) rest = rw length-append (drop-drop (length b) (length a) rest) in
     ap₂ (λ (x y : List ℕ). x ++ written b y) before behind
-    ∙ append-assoc start a (b ++ drop (length b) (drop (length a) rest))
-    ∙ ap (λ (l : List ℕ). start ++ l) (sym (append-assoc a b _) ∙ ap (λ (l : List ℕ). (a ++ b) ++ l) left)
+    ∙ append_assoc start a (b ++ drop (length b) (drop (length a) rest))
+    ∙ ap (λ (l : List ℕ). start ++ l) (sym (append_assoc a b _) ∙ ap (λ (l : List ℕ). (a ++ b) ++ l) left)
 
-pub and-then : {a b : List ℕ} {at r s : ℕ} {old one two : List ℕ} → r ≤ length old → PutAt a at r old one → PutAt b r s one two → PutAt (a ++ b) at s old two
-and-then {a} {b} {at} {old = old} h p q =
-    let e = p .after in
+pub and_then_lem : {a b : List ℕ} {at r s : ℕ} {old one two : List ℕ} → r ≤ length old → PutAt a at r old one → PutAt b r s one two → PutAt (a ++ b) at s old two
+and_then_lem {a} {b} {at} {old = old} h p q =
+    let e = p.after in
     record {
-      after = omega (arith, q .after, length-append a b);
-      array-is = q .array-is ∙ ap₂ (λ (n : ℕ) (l : List ℕ). put n b l) e (p .array-is) ∙ put-then at a b old (omega arith);
+      after = omega (arith, q.after, length-append a b);
+      array_is = q.array_is ∙ ap₂ (λ (n : ℕ) (l : List ℕ). put n b l) e p.array_is ∙ put_then at a b old (omega arith);
     }
 
 -- nothing is put
-pub put-none : (at : ℕ) (old : List ℕ) → PutAt [] at at old old
-put-none at old = record { after = omega arith; array-is = sym (take-append-drop at old) }
+pub put_none : (at : ℕ) (old : List ℕ) → PutAt [] at at old old
+put_none at old = record { after = omega arith; array_is = sym (take-append-drop at old) }
 
 -- a byte
-pub put-byte : (old : List ℕ) (at b : ℕ) → at < length old → PutAt (b ∷ []) at (at + 1) old (set old at b)
-put-byte old at b h =
+pub put_byte : (old : List ℕ) (at b : ℕ) → at < length old → PutAt (b ∷ []) at (at + 1) old (set old at b)
+put_byte old at b h =
     let rest : drop 1 (drop at old) ≡ drop (suc at) old = rw (← (add-one at)) (drop-drop 1 at old) in
-    record { after = refl; array-is = rw rest (set-split old at b h) }
+    record { after = refl; array_is = rw rest (set_split old at b h) }
 
 -- ---- a loop over bytes
 
 -- i bytes stand from the place `at` on
 pub record Copied (old : List ℕ) (at : ℕ) (bytes new : List ℕ) (i : ℕ) : Type 0 where
-  pub so-far : PutAt (take i bytes) at (at + i) old new
+  pub so_far : PutAt (take i bytes) at (at + i) old new
   pub within : i ≤ length bytes
   pub same : length new ≡ length old
 
-pub copied-none : (old : List ℕ) (at : ℕ) (bytes : List ℕ) → Copied old at bytes old 0
-copied-none old at bytes = record { so-far = let e : at + 0 ≡ at = omega arith in rw e (put-none at old); within = omega arith; same = refl }
+pub copied_none : (old : List ℕ) (at : ℕ) (bytes : List ℕ) → Copied old at bytes old 0
+copied_none old at bytes = record { so_far = let e : at + 0 ≡ at = omega arith in rw e (put_none at old); within = omega arith; same = refl }
 
-pub copied-more : (old : List ℕ) (at : ℕ) (bytes new : List ℕ) (i : ℕ) → at + length bytes ≤ length old → i < length bytes → Copied old at bytes new i
-    → Copied old at bytes (set new (at + i) (getD bytes i 0)) (i + 1)
-copied-more old at bytes new i room h w =
-    let s = w .same in
+pub copied_more : (old : List ℕ) (at : ℕ) (bytes new : List ℕ) (i : ℕ) → at + length bytes ≤ length old → i < length bytes → Copied old at bytes new i
+    → Copied old at bytes (set new (at + i) (get_or bytes i 0)) (i + 1)
+copied_more old at bytes new i room h w =
+    let s = w.same in
     let e : at + (i + 1) ≡ at + i + 1 = omega arith in
-    let more : take (i + 1) bytes ≡ take i bytes ++ (getD bytes i 0 ∷ []) = rw add-one (take-suc bytes i 0 h) in
+    let more : take (i + 1) bytes ≡ take i bytes ++ (get_or bytes i 0 ∷ []) = rw add-one (take-suc bytes i 0 h) in
     record {
-      so-far = rw (e, more) (and-then (omega arith) (w .so-far) (put-byte new (at + i) (getD bytes i 0) (omega arith)));
+      so_far = rw (e, more) (and_then_lem (omega arith) w.so_far (put_byte new (at + i) (get_or bytes i 0) (omega arith)));
       within = omega arith;
-      same = length-set new (at + i) (getD bytes i 0) ∙ s;
+      same = length-set new (at + i) (get_or bytes i 0) ∙ s;
     }
 
-pub copied-all : (old : List ℕ) (at : ℕ) (bytes new : List ℕ) (i : ℕ) → length bytes ≤ i → Copied old at bytes new i → PutAt bytes at (at + i) old new
-copied-all old at bytes new i h w = rw (take-all i bytes h) at (w .so-far)
+pub copied_all : (old : List ℕ) (at : ℕ) (bytes new : List ℕ) (i : ℕ) → length bytes ≤ i → Copied old at bytes new i → PutAt bytes at (at + i) old new
+copied_all old at bytes new i h w = rw (take_all i bytes h) at w.so_far
 
 -- ---- a number
 
 -- a space, then the fewest digits
-pub number-put : {old one two : List ℕ} {at a b : ℕ} (n k : ℕ) (spelt : List ℕ) → a ≤ length old → Fewest 10 1 n k × (take k spelt ≡ digits 10 k n)
+pub number_put : {old one two : List ℕ} {at a b : ℕ} (n k : ℕ) (spelt : List ℕ) → a ≤ length old → IsDigitCount 10 1 n k × (take k spelt ≡ last_digits 10 k n)
     → PutAt (32 ∷ []) at a old one → PutAt (take k spelt) a b one two → PutAt (32 ∷ decimal n) at b old two
-number-put n k spelt h d p q = rw (d .1 ∙ fewest-decimal n k (d .0)) at (and-then h p q)
+number_put n k spelt h d p q = rw (d.1 ∙ fewest_decimal n k d.0) at (and_then_lem h p q)
 
 -- ---- a loop over numbers
 
 numbers-append : (ms ns : List ℕ) → numbers (ms ++ ns) ≡ numbers ms ++ numbers ns
 unfolding numbers
 numbers-append [] ns = refl
-numbers-append (m ∷ ms) ns = rw (numbers-append ms ns) (ap (λ (l : List ℕ). 32 ∷ l) (sym (append-assoc (decimal m) (numbers ms) (numbers ns))))
+numbers-append (m ∷ ms) ns = rw (numbers-append ms ns) (ap (λ (l : List ℕ). 32 ∷ l) (sym (append_assoc (decimal m) (numbers ms) (numbers ns))))
 
-one-number : (n : ℕ) → numbers (n ∷ []) ≡ 32 ∷ decimal n
+one_number : (n : ℕ) → numbers (n ∷ []) ≡ 32 ∷ decimal n
 unfolding numbers
-one-number n = ap (λ (l : List ℕ). 32 ∷ l) (append-nil (decimal n))
+one_number n = ap (λ (l : List ℕ). 32 ∷ l) (append-nil (decimal n))
 
 -- i numbers stand from the place `at` on, up to the place `next`
 pub record Told (old : List ℕ) (at : ℕ) (list new : List ℕ) (next i : ℕ) : Type 0 where
-  pub so-far : PutAt (numbers (take i list)) at next old new
+  pub so_far : PutAt (numbers (take i list)) at next old new
   pub within : i ≤ length list
   pub short : next ≤ at + 21 * i
   pub same : length new ≡ length old
 
-pub told-none : (old : List ℕ) (at : ℕ) (list : List ℕ) → Told old at list old at 0
+pub told_none : (old : List ℕ) (at : ℕ) (list : List ℕ) → Told old at list old at 0
 unfolding numbers
-told-none old at list = record { so-far = put-none at old; within = omega arith; short = omega arith; same = refl }
+told_none old at list = record { so_far = put_none at old; within = omega arith; short = omega arith; same = refl }
 
-pub told-more : {old : List ℕ} {at : ℕ} {list new newer : List ℕ} {next later i : ℕ} → i < length list → next ≤ length old → Told old at list new next i
-    → PutAt (32 ∷ decimal (getD list i 0)) next later new newer → later ≤ next + 21 → length newer ≡ length new → Told old at list newer later (i + 1)
-told-more {list = list} {i = i} h room w e l s =
-    let b = w .short in
-    let more : numbers (take (i + 1) list) ≡ numbers (take i list) ++ (32 ∷ decimal (getD list i 0)) =
+pub told_more : {old : List ℕ} {at : ℕ} {list new newer : List ℕ} {next later i : ℕ} → i < length list → next ≤ length old → Told old at list new next i
+    → PutAt (32 ∷ decimal (get_or list i 0)) next later new newer → later ≤ next + 21 → length newer ≡ length new → Told old at list newer later (i + 1)
+told_more {list = list} {i = i} h room w e l s =
+    let b = w.short in
+    let more : numbers (take (i + 1) list) ≡ numbers (take i list) ++ (32 ∷ decimal (get_or list i 0)) =
     ap numbers (rw add-one (take-suc list i 0 h))
-    ∙ numbers-append (take i list) (getD list i 0 ∷ [])
-    ∙ ap (λ (t : List ℕ). numbers (take i list) ++ t) (one-number (getD list i 0)) in
-    record { so-far = rw more (and-then room (w .so-far) e); within = omega arith; short = omega arith; same = s ∙ w .same }
+    ∙ numbers-append (take i list) (get_or list i 0 ∷ [])
+    ∙ ap (λ (t : List ℕ). numbers (take i list) ++ t) (one_number (get_or list i 0)) in
+    record { so_far = rw more (and_then_lem room w.so_far e); within = omega arith; short = omega arith; same = s ∙ w.same }
 
-pub told-all : {old : List ℕ} {at : ℕ} {list new : List ℕ} {next i : ℕ} → length list ≤ i → Told old at list new next i
+pub told_all : {old : List ℕ} {at : ℕ} {list new : List ℕ} {next i : ℕ} → length list ≤ i → Told old at list new next i
     → PutAt (numbers list) at next old new × (next ≤ at + 21 * length list)
-told-all {list = list} {i = i} h w =
-    let l = w .within in
-    let b = w .short in
-    (rw (take-all i list h) at (w .so-far), omega arith)
+told_all {list = list} {i = i} h w =
+    let l = w.within in
+    let b = w.short in
+    (rw (take_all i list h) at w.so_far, omega arith)
 
 -- ---- a line
 
-pub line-put : {old one two three : List ℕ} {at a b c : ℕ} {word : List ℕ} (list : List ℕ) → b ≤ length old → a ≤ b → PutAt word at a old one
+pub line_put : {old one two three : List ℕ} {at a b c : ℕ} {word : List ℕ} (list : List ℕ) → b ≤ length old → a ≤ b → PutAt word at a old one
     → PutAt (numbers list) a b one two → PutAt (10 ∷ []) b c two three → PutAt (line word list) at c old three
 unfolding line
-line-put list h l p q r = and-then h (and-then (omega arith) p q) r
+line_put list h l p q r = and_then_lem h (and_then_lem (omega arith) p q) r
 
 -- ---- lines at the start of an array
 
-pub at-start : {lines : List ℕ} {r : ℕ} {old new : List ℕ} → PutAt lines 0 r old new → LinesPut lines r old new
-at-start w = record { count = omega (arith, w .after); array-is = w .array-is }
+pub at_start : {lines : List ℕ} {r : ℕ} {old new : List ℕ} → PutAt lines 0 r old new → LinesPut lines r old new
+at_start w = record { count = omega (arith, w.after); array_is = w.array_is }
 
 -- they are no more bytes than the array has
-pub lines-within : (lines : List ℕ) (r : ℕ) (old new : List ℕ) → LinesPut lines r old new → Counts r new
-lines-within lines r old new w =
-    let h : r ≤ length new = omega (arith, w .count, ap length (w .array-is), length-append lines (drop (length lines) old)) in
+pub lines_within : (lines : List ℕ) (r : ℕ) (old new : List ℕ) → LinesPut lines r old new → IsPrefixLen r new
+lines_within lines r old new w =
+    let h : r ≤ length new = omega (arith, w.count, ap length w.array_is, length-append lines (drop (length lines) old)) in
     (h, sym (length-take-le r new h))

@@ -1,25 +1,24 @@
 // Blocks of page lines (document 01, section "Jobs"), for a program that writes many at a time. A block has pages of one area.
+ghost use Rattle.job_report.specs.Blocks as section;
+
 use crate::lines::page_at;
 use planner_areas::plan_at;
-use planner_pages::area_page;
-use planner_pages::page_spot;
-use planner_rules::Found;
-use planner_rules::PageAnswer;
-use planner_rules::Plan;
-use planner_rules::Spot;
-ghost use Rattle·job_report·specs.specs.Blocks as section;
+use planner_pages::{area_page, page_spot};
+use planner_rules::{Found, PageAnswer, Plan, Spot};
 
 // The last place at which 256 bytes of a block are left.
 const LAST: usize = 65_280;
 
 // A block: how many pages have their lines in it, and how many bytes the lines are. (A count, and not the next number: the number after the
 // last page of 2^64 - 1 is no u64.)
+#[derive(Drop)]
 pub struct Block {
     pub pages: u64,
     pub bytes: usize,
 }
 
 // What `area_block` answers: the block, or a refusal with its number.
+#[derive(Drop)]
 pub enum BlockAnswer {
     Value(Block),
     Refused(u8),
@@ -34,11 +33,9 @@ fn lines_held(
     column_runs: &[u64],
     out: &mut [u8; 65536],
 ) -> Block
-    requires { ⌜ section.There plan from spot (now «row_runs») (now «column_runs») ⌝ }
-    ensures { λ r. ⌜
-        section.LinesHeld from (section.pagesOn plan (now («row_runs» .entry)) (now («column_runs» .entry)) from spot) r
-        (now (out .entry)) (now (out .exit))
-        ⌝ }
+    requires { section.There plan from spot row_runs.now column_runs.now }
+    ensures { section.LinesHeld from (section.pages_on plan row_runs.now column_runs.now from spot) result
+        out.old out.new }
 {
     let order = plan.order;
     let area = plan_at(plan.areas, spot.area);
@@ -66,10 +63,8 @@ pub fn area_block(
     column_runs: &[u64],
     out: &mut [u8; 65536],
 ) -> BlockAnswer
-    ensures { λ r. ⌜
-        section.BlockPut (section.blockPages plan (now («row_runs» .entry)) (now («column_runs» .entry)) from) from r
-        (now (out .entry)) (now (out .exit))
-        ⌝ }
+    ensures { section.BlockPut (section.block_pages plan row_runs.now column_runs.now from) from result
+        out.old out.new }
 {
     let found = page_spot(plan, from);
     let Found::At(spot) = found else {

@@ -3,9 +3,5 @@ mod blocks;
 mod lines;
 mod text;
 
-pub use blocks::Block;
-pub use blocks::BlockAnswer;
-pub use blocks::area_block;
-pub use lines::area_line;
-pub use lines::head_lines;
-pub use lines::page_line;
+pub use blocks::{Block, BlockAnswer, area_block};
+pub use lines::{area_line, head_lines, page_line};

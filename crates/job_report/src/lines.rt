@@ -1,18 +1,14 @@
 // The lines of a plan: document 01, section "Jobs", and document 02, T-02. Each private function puts its line from the place `at` on, and returns the place after it.
+ghost use Rattle.std.specs.Prelude.{◌≡◌, ◌+◌, ◌≤◌, length};
+ghost use Rattle.planner_rules.specs.Plan.{plan_outcome};
+ghost use Rattle.job_report.specs.Lines as section;
+
 use crate::text::line;
-use planner_rules::Notes;
-use planner_rules::Page;
-use planner_rules::Plan;
-use planner_rules::Planning;
-ghost use mathlib.Core.Path.{_≡_};
-ghost use Prim.Native.Nat.{_+_, _≤_};
-ghost use lib.ListN.{length};
-ghost use Rattle·planner_rules.specs.Plan.{planOutcome};
-ghost use Rattle·job_report·specs.specs.Lines as section;
+use planner_rules::{Notes, Page, Plan, Planning};
 
 // The first area's permille; 0 where there is no area.
 fn first_permille(plan: Plan) -> u16
-    ensures { λ r. ⌜ r ≡ section.firstPermille plan ⌝ }
+    ensures { result ≡ section.first_permille plan }
 {
     let areas = plan.areas;
     if areas.count == 0 {
@@ -24,9 +20,9 @@ fn first_permille(plan: Plan) -> u16
 
 // The first area's permille and the pages.
 fn plan_line(out: &mut [u8], at: usize, plan: Plan) -> usize
-    requires { ⌜ at + 47 ≤ length (now out) ⌝ }
-    ensures { λ r. ⌜ section.PutAt (section.planLine plan) at r (now (out .entry)) (now (out .exit)) ⌝ }
-    ensures { λ r. ⌜ r ≤ at + 47 ⌝ }
+    requires { at + 47 ≤ length out.old }
+    ensures put_at { section.PutAt (section.plan_line plan) at result out.old out.new }
+    ensures upper_bound { result ≤ at + 47 }
 {
     let list = [first_permille(plan) as u64, plan.pages];
     line(out, at, b"plan", &list)
@@ -34,9 +30,9 @@ fn plan_line(out: &mut [u8], at: usize, plan: Plan) -> usize
 
 // The nine notes in order.
 fn notes_line(out: &mut [u8], at: usize, notes: Notes) -> usize
-    requires { ⌜ at + 195 ≤ length (now out) ⌝ }
-    ensures { λ r. ⌜ section.PutAt (section.notesLine notes) at r (now (out .entry)) (now (out .exit)) ⌝ }
-    ensures { λ r. ⌜ r ≤ at + 195 ⌝ }
+    requires { at + 195 ≤ length out.old }
+    ensures put_at { section.PutAt (section.notes_line notes) at result out.old out.new }
+    ensures upper_bound { result ≤ at + 195 }
 {
     let list = [
         notes.unknown_paper,
@@ -54,9 +50,9 @@ fn notes_line(out: &mut [u8], at: usize, notes: Notes) -> usize
 
 // The number of a refusal.
 fn refusal_line(out: &mut [u8], at: usize, number: u8) -> usize
-    requires { ⌜ at + 24 ≤ length (now out) ⌝ }
-    ensures { λ r. ⌜ section.PutAt (section.refusalLine number) at r (now (out .entry)) (now (out .exit)) ⌝ }
-    ensures { λ r. ⌜ r ≤ at + 24 ⌝ }
+    requires { at + 24 ≤ length out.old }
+    ensures put_at { section.PutAt (section.refusal_line number) at result out.old out.new }
+    ensures upper_bound { result ≤ at + 24 }
 {
     let list = [number as u64];
     line(out, at, b"no", &list)
@@ -64,9 +60,9 @@ fn refusal_line(out: &mut [u8], at: usize, number: u8) -> usize
 
 // The number of an area, from 1, and its permille.
 fn area_at(out: &mut [u8], at: usize, number: u64, permille: u16) -> usize
-    requires { ⌜ at + 47 ≤ length (now out) ⌝ }
-    ensures { λ r. ⌜ section.PutAt (section.areaLine number permille) at r (now (out .entry)) (now (out .exit)) ⌝ }
-    ensures { λ r. ⌜ r ≤ at + 47 ⌝ }
+    requires { at + 47 ≤ length out.old }
+    ensures put_at { section.PutAt (section.area_line number permille) at result out.old out.new }
+    ensures upper_bound { result ≤ at + 47 }
 {
     let list = [number, permille as u64];
     line(out, at, b"area", &list)
@@ -74,9 +70,9 @@ fn area_at(out: &mut [u8], at: usize, number: u64, permille: u16) -> usize
 
 // A page and its number.
 pub(crate) fn page_at(out: &mut [u8], at: usize, number: u64, page: Page) -> usize
-    requires { ⌜ at + 194 ≤ length (now out) ⌝ }
-    ensures { λ r. ⌜ section.PutAt (section.pageLine number page) at r (now (out .entry)) (now (out .exit)) ⌝ }
-    ensures { λ r. ⌜ r ≤ at + 194 ⌝ }
+    requires { at + 194 ≤ length out.old }
+    ensures put_at { section.PutAt (section.page_line number page) at result out.old out.new }
+    ensures upper_bound { result ≤ at + 194 }
 {
     let rows = page.rows;
     let columns = page.columns;
@@ -96,7 +92,7 @@ pub(crate) fn page_at(out: &mut [u8], at: usize, number: u64, page: Page) -> usi
 
 // The first lines of what a plan is told by, or the line of a refusal, at the start of `out`; it answers how many bytes.
 pub fn head_lines(planning: Planning, out: &mut [u8; 256]) -> usize
-    ensures { λ r. ⌜ section.LinesPut (section.headLines (planOutcome planning)) r (now (out .entry)) (now (out .exit)) ⌝ }
+    ensures { section.LinesPut (section.head_lines (plan_outcome planning)) result out.old out.new }
 {
     match planning {
         Planning::Value(plan) => {
@@ -110,14 +106,14 @@ pub fn head_lines(planning: Planning, out: &mut [u8; 256]) -> usize
 
 // The line before the pages of a later area, at the start of `out`; it answers how many bytes.
 pub fn area_line(number: u64, permille: u16, out: &mut [u8; 256]) -> usize
-    ensures { λ r. ⌜ section.LinesPut (section.areaLine number permille) r (now (out .entry)) (now (out .exit)) ⌝ }
+    ensures { section.LinesPut (section.area_line number permille) result out.old out.new }
 {
     area_at(out, 0, number, permille)
 }
 
 // The line of a page, at the start of `out`; it answers how many bytes.
 pub fn page_line(number: u64, page: Page, out: &mut [u8; 256]) -> usize
-    ensures { λ r. ⌜ section.LinesPut (section.pageLine number page) r (now (out .entry)) (now (out .exit)) ⌝ }
+    ensures { section.LinesPut (section.page_line number page) result out.old out.new }
 {
     page_at(out, 0, number, page)
 }

@@ -1,13 +1,11 @@
 // Text in ASCII. Each function puts its text from the place `at` on, and returns the place after it.
-ghost use mathlib.Core.List.{[], _∷_};
-ghost use Prim.Native.Nat.{_+_, _*_, _≤_, _<_};
-ghost use lib.ListN.{length};
-ghost use Rattle·job_report·specs.specs.Lines as section;
+ghost use Rattle.std.specs.Prelude.{[], ◌∷◌, ◌+◌, ◌*◌, ◌≤◌, ◌<◌, length};
+ghost use Rattle.job_report.specs.Lines as section;
 
 // One byte.
 fn byte(out: &mut [u8], at: usize, b: u8) -> usize
-    requires { ⌜ at < length (now out) ⌝ }
-    ensures { λ r. ⌜ section.PutAt (b ∷ []) at r (now (out .entry)) (now (out .exit)) ⌝ }
+    requires { at < length out.old }
+    ensures { section.PutAt (b ∷ []) at result out.old out.new }
 {
     out[at] = b;
     at + 1
@@ -15,8 +13,8 @@ fn byte(out: &mut [u8], at: usize, b: u8) -> usize
 
 // Some bytes.
 fn text(out: &mut [u8], at: usize, bytes: &[u8]) -> usize
-    requires { ⌜ at + length (now bytes) ≤ length (now out) ⌝ }
-    ensures { λ r. ⌜ section.PutAt (now (bytes .entry)) at r (now (out .entry)) (now (out .exit)) ⌝ }
+    requires { at + length bytes.now ≤ length out.old }
+    ensures { section.PutAt bytes.now at result out.old out.new }
 {
     let mut i = 0;
     while i < bytes.len() {
@@ -28,9 +26,9 @@ fn text(out: &mut [u8], at: usize, bytes: &[u8]) -> usize
 
 // A number after a space.
 fn number(out: &mut [u8], at: usize, n: u64) -> usize
-    requires { ⌜ at + 21 ≤ length (now out) ⌝ }
-    ensures { λ r. ⌜ section.PutAt (32 ∷ section.decimal n) at r (now (out .entry)) (now (out .exit)) ⌝ }
-    ensures { λ r. ⌜ r ≤ at + 21 ⌝ }
+    requires { at + 21 ≤ length out.old }
+    ensures put_at { section.PutAt (32 ∷ section.decimal n) at result out.old out.new }
+    ensures upper_bound { result ≤ at + 21 }
 {
     let mut digits = [0u8; 20];
     let k = io::decimal(n, &mut digits);
@@ -40,9 +38,9 @@ fn number(out: &mut [u8], at: usize, n: u64) -> usize
 
 // Each number after a space.
 fn numbers(out: &mut [u8], at: usize, list: &[u64]) -> usize
-    requires { ⌜ at + 21 * length (now list) ≤ length (now out) ⌝ }
-    ensures { λ r. ⌜ section.PutAt (section.numbers (now (list .entry))) at r (now (out .entry)) (now (out .exit)) ⌝ }
-    ensures { λ r. ⌜ r ≤ at + 21 * length (now (list .entry)) ⌝ }
+    requires { at + 21 * length list.now ≤ length out.old }
+    ensures put_at { section.PutAt (section.numbers list.now) at result out.old out.new }
+    ensures upper_bound { result ≤ at + 21 * length list.now }
 {
     let mut next = at;
     let mut i = 0;
@@ -55,9 +53,9 @@ fn numbers(out: &mut [u8], at: usize, list: &[u64]) -> usize
 
 // A word, its numbers, and a line end.
 pub(crate) fn line(out: &mut [u8], at: usize, word: &[u8], list: &[u64]) -> usize
-    requires { ⌜ at + length (now word) + 21 * length (now list) + 1 ≤ length (now out) ⌝ }
-    ensures { λ r. ⌜ section.PutAt (section.line (now (word .entry)) (now (list .entry))) at r (now (out .entry)) (now (out .exit)) ⌝ }
-    ensures { λ r. ⌜ r ≤ at + length (now (word .entry)) + 21 * length (now (list .entry)) + 1 ⌝ }
+    requires { at + length word.now + 21 * length list.now + 1 ≤ length out.old }
+    ensures put_at { section.PutAt (section.line word.now list.now) at result out.old out.new }
+    ensures upper_bound { result ≤ at + length word.now + 21 * length list.now + 1 }
 {
     let after_word = text(out, at, word);
     let after_numbers = numbers(out, after_word, list);

@@ -1,37 +1,32 @@
 // What the settings of a job mean, also where their records are absent: document 01, section "Jobs".
-use geometry::MarginSetting;
-use geometry::Margins;
-use geometry::Setting;
-use job_records::JobAreas;
-use job_records::MarginBits;
-use job_records::Range;
-use job_records::float;
-use planner_rules::Areas;
-use planner_rules::CellLimit;
-use planner_rules::PageOrder;
-use planner_rules::PrintRange;
-use planner_rules::Settings;
-use planner_rules::Title;
-ghost use mathlib.Core.Path.{_≡_};
-ghost use Rattle·job_settings·specs.specs.Meaning as section;
+ghost use Rattle.std.specs.Prelude.{◌≡◌};
+ghost use Rattle.job_settings.specs.Meaning as section;
+
+use geometry::{MarginSetting, Margins, Setting};
+use job_records::{JobAreas, MarginBits, Range, float};
+use planner_rules::{Areas, CellLimit, PageOrder, PrintRange, Settings, Title};
 
 // The six margins as they stand in the record.
+#[derive(Drop)]
 pub enum MarginsRead {
     Absent,
     Given(MarginBits),
 }
 
+#[derive(Drop)]
 pub enum FlagSetting {
     Absent,
     Given(u8),
 }
 
+#[derive(Drop)]
 pub enum LimitSetting {
     Absent,
     Given(u64),
 }
 
 // The settings of a job, in the order of their records.
+#[derive(Drop)]
 pub struct JobSettings {
     pub paper: Setting,
     pub landscape: bool,
@@ -50,7 +45,7 @@ pub struct JobSettings {
 }
 
 fn is_given(setting: Setting) -> bool
-    ensures { λ r. ⌜ r ≡ section.isGiven setting ⌝ }
+    ensures { result ≡ section.is_given setting }
 {
     match setting {
         Setting::Absent => false,
@@ -60,7 +55,7 @@ fn is_given(setting: Setting) -> bool
 
 // Whether the pages are fitted: by FT, or, where it is absent, by whether a target is there.
 pub fn fit_on(fit: FlagSetting, fit_width: Setting, fit_height: Setting) -> bool
-    ensures { λ r. ⌜ r ≡ section.fitOn fit «fit_width» «fit_height» ⌝ }
+    ensures { result ≡ section.fit_on fit fit_width fit_height }
 {
     match fit {
         FlagSetting::Absent => is_given(fit_width) | is_given(fit_height),
@@ -70,7 +65,7 @@ pub fn fit_on(fit: FlagSetting, fit_width: Setting, fit_height: Setting) -> bool
 
 // Whether pages go over, then down.
 pub fn over_then_down(order: FlagSetting) -> bool
-    ensures { λ r. ⌜ r ≡ section.overThenDown order ⌝ }
+    ensures { result ≡ section.over_then_down order }
 {
     match order {
         FlagSetting::Absent => false,
@@ -83,7 +78,7 @@ const DEFAULT_PAGE_LIMIT: u64 = 10_000;
 
 // The most pages that a plan may have.
 pub fn page_limit(limit: LimitSetting) -> u64
-    ensures { λ r. ⌜ r ≡ section.limitOf limit ⌝ }
+    ensures { result ≡ section.limit_of limit }
 {
     match limit {
         LimitSetting::Absent => DEFAULT_PAGE_LIMIT,
@@ -93,7 +88,7 @@ pub fn page_limit(limit: LimitSetting) -> u64
 
 // The six margins as floats, for content geometry.
 pub fn margin_setting(margins: MarginsRead) -> MarginSetting
-    ensures { λ r. ⌜ r ≡ section.marginSetting margins ⌝ }
+    ensures { result ≡ section.margin_setting margins }
 {
     let MarginsRead::Given(bits) = margins else {
         return MarginSetting::Absent;
@@ -109,7 +104,7 @@ pub fn margin_setting(margins: MarginsRead) -> MarginSetting
 }
 
 fn order_for(order: FlagSetting) -> PageOrder
-    ensures { λ r. ⌜ r ≡ section.orderFor order ⌝ }
+    ensures { result ≡ section.order_for order }
 {
     if over_then_down(order) {
         PageOrder::OverThenDown
@@ -120,7 +115,7 @@ fn order_for(order: FlagSetting) -> PageOrder
 
 // The settings as the planner takes them.
 pub fn settings_for(read: JobSettings) -> Settings
-    ensures { λ r. ⌜ r ≡ section.settingsFor read ⌝ }
+    ensures { result ≡ section.settings_for read }
 {
     let paper = read.paper;
     let margins = read.margins;
@@ -148,7 +143,7 @@ pub fn settings_for(read: JobSettings) -> Settings
 
 // A range as the planner takes it.
 pub fn range_for(cells: Range) -> PrintRange
-    ensures { λ r. ⌜ r ≡ section.rangeFor cells ⌝ }
+    ensures { result ≡ section.range_for cells }
 {
     PrintRange {
         first_row: cells.first_row,
@@ -160,7 +155,7 @@ pub fn range_for(cells: Range) -> PrintRange
 
 // The areas as the planner takes them.
 pub fn areas_for(read: JobAreas) -> Areas
-    ensures { λ r. ⌜ r ≡ section.areasFor read ⌝ }
+    ensures { result ≡ section.areas_for read }
 {
     let first = read.first;
     let second = read.second;

@@ -1,91 +1,91 @@
 -- Laws for the loops that walk the records of a job. Assumes nothing.
-use mathlib.Core.Path.{_≡_, refl, sym, ap, ap₂, _∙_}
+use mathlib.Core.Path.{◌≡◌, refl, sym, ap, ap₂, ◌∙◌}
 use mathlib.Core.Bool.{Bool, true, false, not, cond}
-use mathlib.Core.List.{List, [], _∷_}
-use Prim.Native.Nat.{ℕ, zero, suc, _-_, _≤_, _<_}
-use native.Mathlib.Decide.{decLe}
-use native.Mathlib.Nat.{lt-of-not-le}
+use mathlib.Core.List.{List, [], ◌∷◌}
+use Prim.Native.Nat.{ℕ, zero, suc, ◌-◌, ◌≤◌, ◌<◌}
+use native.Mathlib.Decide.{dec_le}
+use native.Mathlib.Nat.{lt_of_not-le}
 use native.Mathlib.Omega.{arith}
 use lib.Dec.{ltb, eqb}
-use lib.ListN.{length, take, drop, length-take, drop-of-length-le}
-use lib.Seq.{drop-nil, take-all}
-use borrow.Author.Tests.{eq-eqb, ne-eqb, eqb-true, lt-ltb, le-ltb}
-use Rattle·job_records.specs.declared.records.Record.{Record}
-use Rattle·job_records.specs.declared.records.Step.{Step}
-use Rattle·job_records.specs.declared.records.Step.the-variants.{Read, Nothing}
-use Rattle·job_walk·specs.specs.declared.Next.{Next}
-use Rattle·job_walk·specs.specs.declared.Next.the-variants.{Kind, Stop}
-use Rattle·job_walk·specs.specs.declared.Lookup.{Lookup}
-use Rattle·job_walk·specs.specs.declared.Lookup.the-variants.{Found, Missing}
-use Rattle·job_records.specs.Records.{AR, headRecord, stepOutcome, step, rank, isEnd, goesOn, records, marked}
-use Rattle·job_walk·specs.specs.Areas.{nowhere, rangeFrom, areasHeld, areasFrom}
-use Rattle·job_walk·specs.specs.Walk.{before, firstOf, inPlace, Sorted}
-use Rattle·job_records.proofs.RecordLaws.{records-more, records-stop, step-is, step-used, part, length-part}
+use lib.ListN.{length, take, drop, length-take, drop_of_length-le}
+use lib.Seq.{drop-nil, take_all}
+use borrow.Author.Tests.{eq-eqb, ne_eqb, eqb-true, lt-ltb, le-ltb}
+use Rattle.job_records.specs.declared.records.Record.{Record}
+use Rattle.job_records.specs.declared.records.Step.{Step}
+use Rattle.job_records.specs.declared.records.Step.TheVariants.{Read, Nothing}
+use Rattle.job_walk.specs.declared.Next.{Next}
+use Rattle.job_walk.specs.declared.Next.TheVariants.{Kind, Stop}
+use Rattle.job_walk.specs.declared.Lookup.{Lookup}
+use Rattle.job_walk.specs.declared.Lookup.TheVariants.{Found, Missing}
+use Rattle.job_records.specs.Records.{AR, head_record, step_outcome, step, rank, is_end, goes_on, records, marked}
+use Rattle.job_walk.specs.Areas.{nowhere, range_from, areas_held, areas_from}
+use Rattle.job_walk.specs.Walk.{before, first_of, in_place, Sorted}
+use Rattle.job_records.proofs.RecordLaws.{records_more, records_stop, step_is, step_used, part, length_part}
 
 -- ---- marks that never fall
 
-pub sorted-less : (i j : ℕ) (rs : List Record) → i ≤ j → Sorted j rs → Sorted i rs
-sorted-less i j [] h w = tt
-sorted-less i j (r ∷ rs) h w = (omega (arith, w .0), w .1)
+pub sorted_less : (i j : ℕ) (rs : List Record) → i ≤ j → Sorted j rs → Sorted i rs
+sorted_less i j [] h w = tt
+sorted_less i j (r ∷ rs) h w = (omega (arith, w.0), w.1)
 
-pub sorted-above : (k j : ℕ) (rs : List Record) → k < j → Sorted j rs → marked k rs ≡ []
+pub sorted_above : (k j : ℕ) (rs : List Record) → k < j → Sorted j rs → marked k rs ≡ []
 unfolding marked
-sorted-above k j [] h w = refl
-sorted-above k j (r ∷ rs) h w =
-    rw (ne-eqb (rank r) k (λ q. omega (arith, w .0))) (sorted-above k (rank r) rs (omega (arith, w .0)) (w .1))
+sorted_above k j [] h w = refl
+sorted_above k j (r ∷ rs) h w =
+    rw (ne_eqb (rank r) k (λ q. omega (arith, w.0))) (sorted_above k (rank r) rs (omega (arith, w.0)) w.1)
 
 -- then all records with a mark are in place
-pub in-place : (j k : ℕ) (rs : List Record) → Sorted j rs → inPlace k rs ≡ marked k rs
-unfolding inPlace marked
-in-place j k [] w = refl
-in-place j k (r ∷ rs) w =
-    elim (decLe (rank r) k) [
-      | yes h ↦ rw (le-ltb k (rank r) h) (ap (λ (l : List Record). cond (eqb (rank r) k) (r ∷ l) l) (in-place (rank r) k rs (w .1)))
+pub in_place : (j k : ℕ) (rs : List Record) → Sorted j rs → in_place k rs ≡ marked k rs
+unfolding in_place marked
+in_place j k [] w = refl
+in_place j k (r ∷ rs) w =
+    elim (dec_le (rank r) k) [
+      | yes h ↦ rw (le-ltb k (rank r) h) (ap (λ (l : List Record). cond (eqb (rank r) k) (r ∷ l) l) (in_place (rank r) k rs w.1))
       | no h ↦
-          rw (lt-ltb k (rank r) (lt-of-not-le h))
-          (sym (sorted-above k (rank r) (r ∷ rs) (lt-of-not-le h) (omega arith, w .1)))
+          rw (lt-ltb k (rank r) (lt_of_not-le h))
+          (sym (sorted_above k (rank r) (r ∷ rs) (lt_of_not-le h) (omega arith, w.1)))
     ]
 
 -- ---- the next record
 
-module _ (s : List ℕ) (f : Step) (o : stepOutcome f ≡ headRecord s) where
-  at-head : f ≡ step s
-  at-head = step-is s f o
+module _ (s : List ℕ) (f : Step) (o : step_outcome f ≡ head_record s) where
+  at_head : f ≡ step s
+  at_head = step_is s f o
 
-  pub next-nothing : f ≡ Nothing → Stop ≡ before (step s)
+  pub next_nothing : f ≡ Nothing → Stop ≡ before (step s)
   unfolding before
-  next-nothing k = sym (ap before (sym at-head ∙ k))
+  next_nothing k = sym (ap before (sym at_head ∙ k))
 
   module _ {r : Record} {n x : ℕ} (k : f ≡ Read r n) (i : x ≡ rank r) where
-    pub next-end : x ≡ 20 → Stop ≡ before (step s)
+    pub next_end : x ≡ 20 → Stop ≡ before (step s)
     unfolding before
-    next-end h = rw (← at-head, k, eq-eqb (rank r) 20 (sym i ∙ h))
+    next_end h = rw (← at_head, k, eq-eqb (rank r) 20 (sym i ∙ h))
 
-    pub next-kind : (x ≡ 20 → ⊥) → Kind r n ≡ before (step s)
+    pub next_kind : (x ≡ 20 → ⊥) → Kind r n ≡ before (step s)
     unfolding before
-    next-kind h = rw (← at-head, k, ne-eqb (rank r) 20 (λ q. h (i ∙ q)))
+    next_kind h = rw (← at_head, k, ne_eqb (rank r) 20 (λ q. h (i ∙ q)))
 
 -- what it tells of a step
-stops : (f : Step) → before f ≡ Stop → goesOn f ≡ false
-unfolding before goesOn
+stops : (f : Step) → before f ≡ Stop → goes_on f ≡ false
+unfolding before goes_on
 stops Nothing k = refl
-stops (Read r n) k = go (isEnd r) k
+stops (Read r n) k = go (is_end r) k
   where
     go : (b : Bool) → cond b Stop (Kind r n) ≡ Stop → not b ≡ false
     go true k = refl
-    go false k = let z : _≡_ {A = ℕ} 0 1 = cc in absurd (omega arith)
+    go false k = let z : ◌≡◌ {A = ℕ} 0 1 = cc in absurd (omega arith)
 
-goes : (f : Step) (r : Record) (n : ℕ) → before f ≡ Kind r n → (f ≡ Read r n) × (isEnd r ≡ false)
+goes : (f : Step) (r : Record) (n : ℕ) → before f ≡ Kind r n → (f ≡ Read r n) × (is_end r ≡ false)
 unfolding before
-goes Nothing r n k = let z : _≡_ {A = ℕ} 0 1 = cc in absurd (omega arith)
-goes (Read q m) r n k = go (isEnd q) refl k
+goes Nothing r n k = let z : ◌≡◌ {A = ℕ} 0 1 = cc in absurd (omega arith)
+goes (Read q m) r n k = go (is_end q) refl k
   where
-    go : (b : Bool) → isEnd q ≡ b → cond b Stop (Kind q m) ≡ Kind r n → (Read q m ≡ Read r n) × (isEnd r ≡ false)
-    go true g k = let z : _≡_ {A = ℕ} 0 1 = cc in absurd (omega arith)
+    go : (b : Bool) → is_end q ≡ b → cond b Stop (Kind q m) ≡ Kind r n → (Read q m ≡ Read r n) × (is_end r ≡ false)
+    go true g k = let z : ◌≡◌ {A = ℕ} 0 1 = cc in absurd (omega arith)
     go false g k =
         let i : q ≡ r = cc in
         let j : m ≡ n = cc in
-        (ap₂ Read i j, ap isEnd (sym i) ∙ g)
+        (ap₂ Read i j, ap is_end (sym i) ∙ g)
 
 -- a record that was read has n bytes of s
 pub record Used (s : List ℕ) (n : ℕ) : Type 0 where
@@ -95,40 +95,40 @@ pub record Used (s : List ℕ) (n : ℕ) : Type 0 where
 
 -- a turn of a loop over s: f is what comes next
 module _ (s : List ℕ) {f : Next} (e : f ≡ before (step s)) where
-  pub walk-end : f ≡ Stop → records s ≡ []
-  walk-end k = records-stop s (stops (step s) (sym e ∙ k))
+  pub walk_end : f ≡ Stop → records s ≡ []
+  walk_end k = records_stop s (stops (step s) (sym e ∙ k))
 
   module _ {r : Record} {n : ℕ} (k : f ≡ Kind r n) where
-    pub walk-used : Used s n
-    walk-used =
-        let u = step-used s (step s) r n refl (goes (step s) r n (sym e ∙ k) .0) in
-        record { some = u .0; within = u .1; less = omega (arith, length-part n s) }
+    pub walk_used : Used s n
+    walk_used =
+        let u = step_used s (step s) r n refl (goes (step s) r n (sym e ∙ k)).0 in
+        record { some = u.0; within = u.1; less = omega (arith, length_part n s) }
 
-    pub walk-on : records s ≡ r ∷ records (take (length s - n) (drop n s))
-    walk-on =
+    pub walk_on : records s ≡ r ∷ records (take (length s - n) (drop n s))
+    walk_on =
         let g = goes (step s) r n (sym e ∙ k) in
-        rw (part n s) (records-more s r n (g .0) (walk-used .some) (walk-used .within) (g .1))
+        rw (part n s) (records_more s r n g.0 walk_used.some walk_used.within g.1)
 
-    pub walk-yes : (j : ℕ) → rank r ≡ j → marked j (records s) ≡ r ∷ marked j (records (take (length s - n) (drop n s)))
+    pub walk_yes : (j : ℕ) → rank r ≡ j → marked j (records s) ≡ r ∷ marked j (records (take (length s - n) (drop n s)))
     unfolding marked
-    walk-yes j h = rw (walk-on, eq-eqb (rank r) j h)
+    walk_yes j h = rw (walk_on, eq-eqb (rank r) j h)
 
-    pub walk-no : (j : ℕ) → (rank r ≡ j → ⊥) → marked j (records s) ≡ marked j (records (take (length s - n) (drop n s)))
+    pub walk_no : (j : ℕ) → (rank r ≡ j → ⊥) → marked j (records s) ≡ marked j (records (take (length s - n) (drop n s)))
     unfolding marked
-    walk-no j h = rw (walk-on, ne-eqb (rank r) j h)
+    walk_no j h = rw (walk_on, ne_eqb (rank r) j h)
 
-    pub walk-sorted : (j : ℕ) → Sorted j (records s) → (j ≤ rank r) × Sorted (rank r) (records (take (length s - n) (drop n s)))
-    walk-sorted j w = rw walk-on at w
+    pub walk_sorted : (j : ℕ) → Sorted j (records s) → (j ≤ rank r) × Sorted (rank r) (records (take (length s - n) (drop n s)))
+    walk_sorted j w = rw walk_on at w
 
 -- ---- the loop that looks for a record
 
 -- the record with the mark k that has n of them before it
 abbrev pub looked : ℕ → ℕ → List ℕ → Lookup
-looked k n s = firstOf (drop n (inPlace k (records s)))
+looked k n s = first_of (drop n (in_place k (records s)))
 
-first-after : (n : ℕ) → (n ≡ 0 → ⊥) → (r : Record) (rs : List Record) → firstOf (drop (n - 1) rs) ≡ firstOf (drop n (r ∷ rs))
-first-after zero z r rs = absurd (z refl)
-first-after (suc n) z r rs = let j : suc n - 1 ≡ n = omega arith in ap (λ (i : ℕ). firstOf (drop i rs)) j
+first_after : (n : ℕ) → (n ≡ 0 → ⊥) → (r : Record) (rs : List Record) → first_of (drop (n - 1) rs) ≡ first_of (drop n (r ∷ rs))
+first_after zero z r rs = absurd (z refl)
+first_after (suc n) z r rs = let j : suc n - 1 ≡ n = omega arith in ap (λ (i : ℕ). first_of (drop i rs)) j
 
 -- r is the next record in s, with m bytes and the rank x: none comes, or it is the one, or the look goes on after it
 pub record Seen (k n : ℕ) (s : List ℕ) (r : Record) (m x : ℕ) : Type 0 where
@@ -139,87 +139,87 @@ pub record Seen (k n : ℕ) (s : List ℕ) (r : Record) (m x : ℕ) : Type 0 whe
   pub on : x ≤ k → (x ≡ k → ⊥) → looked k n (take (length s - m) (drop m s)) ≡ looked k n s
 
 module _ (k n : ℕ) (s : List ℕ) {f : Next} (e : f ≡ before (step s)) where
-  pub look-end : f ≡ Stop → Missing ≡ looked k n s
-  unfolding inPlace
-  look-end h = rw (walk-end s e h, drop-nil n)
+  pub look_end : f ≡ Stop → Missing ≡ looked k n s
+  unfolding in_place
+  look_end h = rw (walk_end s e h, drop-nil n)
 
-  pub look-next : {r : Record} {m x : ℕ} → f ≡ Kind r m → x ≡ rank r → Seen k n s r m x
-  unfolding inPlace
-  look-next {r} {m} {x} h i = record {
-    used = walk-used s e h;
-    past = λ j. rw (walk-on s e h, lt-ltb k (rank r) (omega arith), drop-nil n);
-    here = λ j z. rw (walk-on s e h, le-ltb k (rank r) (omega arith), eq-eqb (rank r) k (sym i ∙ j), z);
+  pub look_next : {r : Record} {m x : ℕ} → f ≡ Kind r m → x ≡ rank r → Seen k n s r m x
+  unfolding in_place
+  look_next {r} {m} {x} h i = record {
+    used = walk_used s e h;
+    past = λ j. rw (walk_on s e h, lt-ltb k (rank r) (omega arith), drop-nil n);
+    here = λ j z. rw (walk_on s e h, le-ltb k (rank r) (omega arith), eq-eqb (rank r) k (sym i ∙ j), z);
     after = λ j z.
-        rw (walk-on s e h, le-ltb k (rank r) (omega arith), eq-eqb (rank r) k (sym i ∙ j))
-        (first-after n z r (inPlace k (records (take (length s - m) (drop m s)))));
-    on = λ l j. rw (walk-on s e h, le-ltb k (rank r) (omega arith), ne-eqb (rank r) k (λ q. j (i ∙ q)));
+        rw (walk_on s e h, le-ltb k (rank r) (omega arith), eq-eqb (rank r) k (sym i ∙ j))
+        (first_after n z r (in_place k (records (take (length s - m) (drop m s)))));
+    on = λ l j. rw (walk_on s e h, le-ltb k (rank r) (omega arith), ne_eqb (rank r) k (λ q. j (i ∙ q)));
   }
 
 -- ---- the record that was found
 
-found-none : {X : Type 0} (n : ℕ) (r : Record) → firstOf (drop n []) ≡ Found r → X
-found-none n r h =
+found_none : {X : Type 0} (n : ℕ) (r : Record) → first_of (drop n []) ≡ Found r → X
+found_none n r h =
     let i : Missing ≡ Found r = rw (drop-nil n) at h in
-    let z : _≡_ {A = ℕ} 0 1 = cc in
+    let z : ◌≡◌ {A = ℕ} 0 1 = cc in
     absurd (omega arith)
 
-looked-rank : (k n : ℕ) (rs : List Record) (r : Record) → firstOf (drop n (inPlace k rs)) ≡ Found r → rank r ≡ k
-unfolding inPlace
-looked-rank k n [] r h = found-none n r h
-looked-rank k n (q ∷ qs) r h = go (ltb k (rank q)) (eqb (rank q) k) refl n h (λ m. looked-rank k m qs r)
+looked_rank : (k n : ℕ) (rs : List Record) (r : Record) → first_of (drop n (in_place k rs)) ≡ Found r → rank r ≡ k
+unfolding in_place
+looked_rank k n [] r h = found_none n r h
+looked_rank k n (q ∷ qs) r h = go (ltb k (rank q)) (eqb (rank q) k) refl n h (λ m. looked_rank k m qs r)
   where
-    go : (a b : Bool) → eqb (rank q) k ≡ b → (n : ℕ) → firstOf (drop n (cond a [] (cond b (q ∷ inPlace k qs) (inPlace k qs)))) ≡ Found r
-        → ((m : ℕ) → firstOf (drop m (inPlace k qs)) ≡ Found r → rank r ≡ k) → rank r ≡ k
-    go true b i n h later = found-none n r h
+    go : (a b : Bool) → eqb (rank q) k ≡ b → (n : ℕ) → first_of (drop n (cond a [] (cond b (q ∷ in_place k qs) (in_place k qs)))) ≡ Found r
+        → ((m : ℕ) → first_of (drop m (in_place k qs)) ≡ Found r → rank r ≡ k) → rank r ≡ k
+    go true b i n h later = found_none n r h
     go false true i zero h later = let j : q ≡ r = cc in ap rank (sym j) ∙ eqb-true (rank q) k i
     go false true i (suc n) h later = later n h
     go false false i n h later = later n h
 
 -- f is the first of the records l, which have the mark k, or that there is none
 pub record Looked (k : ℕ) (l : List Record) (f : Lookup) : Type 0 where
-  pub is : f ≡ firstOf l
+  pub is : f ≡ first_of l
   pub ranked : (r : Record) → f ≡ Found r → rank r ≡ k
 
-pub looked-in-place : (k n : ℕ) (s : List ℕ) {f : Lookup} → f ≡ looked k n s → Looked k (drop n (inPlace k (records s))) f
-looked-in-place k n s e = record { is = e; ranked = λ r h. looked-rank k n (records s) r (sym e ∙ h) }
+pub looked_in_place : (k n : ℕ) (s : List ℕ) {f : Lookup} → f ≡ looked k n s → Looked k (drop n (in_place k (records s))) f
+looked_in_place k n s e = record { is = e; ranked = λ r h. looked_rank k n (records s) r (sym e ∙ h) }
 
-pub looked-marked : (k : ℕ) (s : List ℕ) {f : Lookup} → Sorted 0 (records s) → f ≡ looked k 0 s → Looked k (marked k (records s)) f
-looked-marked k s w e = record { is = e ∙ ap firstOf (in-place 0 k (records s) w); ranked = looked-in-place k 0 s e .ranked }
+pub looked_marked : (k : ℕ) (s : List ℕ) {f : Lookup} → Sorted 0 (records s) → f ≡ looked k 0 s → Looked k (marked k (records s)) f
+looked_marked k s w e = record { is = e ∙ ap first_of (in_place 0 k (records s) w); ranked = (looked_in_place k 0 s e).ranked }
 
 module _ {k : ℕ} {l : List Record} {f : Lookup} (w : Looked k l f) where
   -- what is made of the records, where there is none and where there is one
-  pub from-none : {X : Type 0} (g : List Record → X) {v : X} → f ≡ Missing → g [] ≡ v → v ≡ g l
-  from-none {X} g {v} h p = go l (sym (w .is) ∙ h)
+  pub from_none : {X : Type 0} (g : List Record → X) {v : X} → f ≡ Missing → g [] ≡ v → v ≡ g l
+  from_none {X} g {v} h p = go l (sym w.is ∙ h)
     where
-      go : (l : List Record) → firstOf l ≡ Missing → v ≡ g l
+      go : (l : List Record) → first_of l ≡ Missing → v ≡ g l
       go [] h = sym p
-      go (r ∷ l) h = let z : _≡_ {A = ℕ} 0 1 = cc in absurd (omega arith)
+      go (r ∷ l) h = let z : ◌≡◌ {A = ℕ} 0 1 = cc in absurd (omega arith)
 
-  pub from-one : {X : Type 0} (g : List Record → X) {v : X} {r q : Record} → f ≡ Found r → r ≡ q → ((t : List Record) → g (q ∷ t) ≡ v) → v ≡ g l
-  from-one {X} g {v} {r} {q} h i p = go l (sym (w .is) ∙ h)
+  pub from_one : {X : Type 0} (g : List Record → X) {v : X} {r q : Record} → f ≡ Found r → r ≡ q → ((t : List Record) → g (q ∷ t) ≡ v) → v ≡ g l
+  from_one {X} g {v} {r} {q} h i p = go l (sym w.is ∙ h)
     where
-      go : (l : List Record) → firstOf l ≡ Found r → v ≡ g l
-      go [] h = let z : _≡_ {A = ℕ} 0 1 = cc in absurd (omega arith)
+      go : (l : List Record) → first_of l ≡ Found r → v ≡ g l
+      go [] h = let z : ◌≡◌ {A = ℕ} 0 1 = cc in absurd (omega arith)
       go (o ∷ t) h = let j : o ≡ q = cc in sym (ap (λ (y : Record). g (y ∷ t)) j ∙ p t)
 
 -- ---- the first so many areas
 
 -- one of them stands where it stands among all
-pub among-counted : (before count : ℕ) (rs : List Record) → before < count → rangeFrom (drop before rs) ≡ rangeFrom (drop before (take count rs))
-among-counted before zero rs h = absurd (omega arith)
-among-counted zero (suc count) [] h = refl
-among-counted zero (suc count) (r ∷ rs) h = refl
-among-counted (suc before) (suc count) [] h = refl
-among-counted (suc before) (suc count) (r ∷ rs) h = among-counted before count rs (omega arith)
+pub among_counted : (before count : ℕ) (rs : List Record) → before < count → range_from (drop before rs) ≡ range_from (drop before (take count rs))
+among_counted before zero rs h = absurd (omega arith)
+among_counted zero (suc count) [] h = refl
+among_counted zero (suc count) (r ∷ rs) h = refl
+among_counted (suc before) (suc count) [] h = refl
+among_counted (suc before) (suc count) (r ∷ rs) h = among_counted before count rs (omega arith)
 
 -- past them there is none
-pub past-counted : (before count : ℕ) (rs : List Record) → count ≤ before → nowhere ≡ rangeFrom (drop before (take count rs))
-past-counted before count rs h = rw (drop-of-length-le (take count rs) {i = before} (omega (arith, length-take count rs)))
+pub past_counted : (before count : ℕ) (rs : List Record) → count ≤ before → nowhere ≡ range_from (drop before (take count rs))
+past_counted before count rs h = rw (drop_of_length-le (take count rs) {i = before} (omega (arith, length-take count rs)))
 
 -- in order, as many as there are, they are the areas of the job
-pub all-areas : (count : ℕ) (rs : List Record) → Sorted 0 rs → count ≡ length (marked AR rs)
-    → areasHeld count (take count (inPlace AR rs)) ≡ areasFrom (marked AR rs)
-all-areas count rs s e =
-    ap (λ (xs : List Record). areasHeld count (take count xs)) (in-place 0 AR rs s)
-    ∙ ap (λ (xs : List Record). areasHeld count xs) (take-all count (marked AR rs) (omega arith))
-    ∙ ap (λ (n : ℕ). areasHeld n (marked AR rs)) e
+pub all_areas : (count : ℕ) (rs : List Record) → Sorted 0 rs → count ≡ length (marked AR rs)
+    → areas_held count (take count (in_place AR rs)) ≡ areas_from (marked AR rs)
+all_areas count rs s e =
+    ap (λ (xs : List Record). areas_held count (take count xs)) (in_place 0 AR rs s)
+    ∙ ap (λ (xs : List Record). areas_held count xs) (take_all count (marked AR rs) (omega arith))
+    ∙ ap (λ (n : ℕ). areas_held n (marked AR rs)) e

@@ -1,42 +1,40 @@
 -- The areas of a job and the limit of their cells, from the records with their marks (document 02, T-02). Assumes nothing.
-use mathlib.Core.List.{List, [], _∷_}
-use Prim.Native.Nat.{ℕ}
-use lib.ListN.{length, drop}
-use Rattle·planner_rules.specs.declared.planning.CellLimit.{CellLimit}
-use Rattle·planner_rules.specs.declared.planning.CellLimit.the-variants.{Absent, Given}
-use Rattle·job_records.specs.Records.{field}
-use Rattle·job_records.specs.declared.records.Range.{Range}
-use Rattle·job_records.specs.declared.records.JobAreas.{JobAreas}
-use Rattle·job_records.specs.declared.records.Record.{Record}
+use Rattle.std.specs.Prelude.{List, [], ◌∷◌, ℕ, length, drop}
+use Rattle.planner_rules.specs.declared.planning.CellLimit.{CellLimit}
+use Rattle.planner_rules.specs.declared.planning.CellLimit.TheVariants.{Absent, Given}
+use Rattle.job_records.specs.Records.{field}
+use Rattle.job_records.specs.declared.records.Range.{Range}
+use Rattle.job_records.specs.declared.records.JobAreas.{JobAreas}
+use Rattle.job_records.specs.declared.records.Record.{Record}
 
 -- "UC, u64 ..; absent means no limit"
-abbrev pub cellLimitFrom : List Record → CellLimit
-cellLimitFrom [] = Absent
-cellLimitFrom (r ∷ rs) = Given (field 0 r)
+abbrev pub cell_limit_from : List Record → CellLimit
+cell_limit_from [] = Absent
+cell_limit_from (r ∷ rs) = Given (field 0 r)
 
 -- what stands for a range that is not there
 abbrev pub nowhere : Range
-nowhere = record { «first_row» = 0; «first_column» = 0; «last_row» = 0; «last_column» = 0 }
+nowhere = record { first_row = 0; first_column = 0; last_row = 0; last_column = 0 }
 
 -- "AR range u32, u16, u32, u16 as first row, first column, last row, last column"
-abbrev pub rangeFrom : List Record → Range
-rangeFrom [] = nowhere
-rangeFrom (r ∷ rs) = record { «first_row» = field 0 r; «first_column» = field 1 r; «last_row» = field 2 r; «last_column» = field 3 r }
+abbrev pub range_from : List Record → Range
+range_from [] = nowhere
+range_from (r ∷ rs) = record { first_row = field 0 r; first_column = field 1 r; last_row = field 2 r; last_column = field 3 r }
 
 -- the first eight, and a count
-abbrev pub areasHeld : ℕ → List Record → JobAreas
-areasHeld n rs = record {
+abbrev pub areas_held : ℕ → List Record → JobAreas
+areas_held n rs = record {
   count = n;
-  first = rangeFrom rs;
-  second = rangeFrom (drop 1 rs);
-  third = rangeFrom (drop 2 rs);
-  fourth = rangeFrom (drop 3 rs);
-  fifth = rangeFrom (drop 4 rs);
-  sixth = rangeFrom (drop 5 rs);
-  seventh = rangeFrom (drop 6 rs);
-  eighth = rangeFrom (drop 7 rs);
+  first = range_from rs;
+  second = range_from (drop 1 rs);
+  third = range_from (drop 2 rs);
+  fourth = range_from (drop 3 rs);
+  fifth = range_from (drop 4 rs);
+  sixth = range_from (drop 5 rs);
+  seventh = range_from (drop 6 rs);
+  eighth = range_from (drop 7 rs);
 }
 
 -- "AR may stand up to eight times"; "in job order"
-abbrev pub areasFrom : List Record → JobAreas
-areasFrom rs = areasHeld (length rs) rs
+abbrev pub areas_from : List Record → JobAreas
+areas_from rs = areas_held (length rs) rs

@@ -1,34 +1,29 @@
 // The records of a job one by one, those that are looked for by their mark, the limit of cells and the areas: document 01, section "Jobs".
-use job_records::JobAreas;
-use job_records::Range;
-use job_records::Record;
-use job_records::Step;
-use job_records::rank_of;
-use job_records::ranks::CELL_LIMIT;
-use job_records::ranks::END;
-use job_records::ranks::RANGE;
-use job_records::read_record;
+ghost use Rattle.std.specs.Prelude.{◌≡◌, take, drop};
+ghost use Rattle.job_records.specs.Records.{step, records, UC, AR};
+ghost use Rattle.job_walk.specs.Walk as walk;
+ghost use Rattle.job_walk.specs.Areas as section;
+
+use job_records::ranks::{CELL_LIMIT, END, RANGE};
+use job_records::{JobAreas, Range, Record, Step, rank_of, read_record};
 use planner_rules::CellLimit;
-ghost use mathlib.Core.Path.{_≡_};
-ghost use lib.ListN.{take, drop};
-ghost use Rattle·job_records.specs.Records.{step, records, UC, AR};
-ghost use Rattle·job_walk·specs.specs.Walk as walk;
-ghost use Rattle·job_walk·specs.specs.Areas as section;
 
 // The next record before the EN and how many bytes it has, or none.
+#[derive(Drop)]
 pub enum Next {
     Kind(Record, usize),
     Stop,
 }
 
 // A record that was looked for, if it is there.
+#[derive(Drop)]
 pub enum Lookup {
     Found(Record),
     Missing,
 }
 
 pub fn next_record(s: &[u8]) -> Next
-    ensures { λ r. ⌜ r ≡ walk.before (step (now (s .entry))) ⌝ }
+    ensures { result ≡ walk.before (step s.now) }
 {
     let Step::Read(found, used) = read_record(s) else {
         return Next::Stop;
@@ -41,7 +36,7 @@ pub fn next_record(s: &[u8]) -> Next
 
 // The record with the rank `wanted` that has so many of them before it. The first record with a later rank ends the search.
 pub fn find_record(bytes: &[u8], wanted: u8, before: usize) -> Lookup
-    ensures { λ r. ⌜ r ≡ walk.firstOf (drop before (walk.inPlace wanted (records (now (bytes .entry))))) ⌝ }
+    ensures { result ≡ walk.first_of (drop before (walk.in_place wanted (records bytes.now))) }
 {
     let mut s = bytes;
     let mut left = before;
@@ -64,7 +59,7 @@ pub fn find_record(bytes: &[u8], wanted: u8, before: usize) -> Lookup
 }
 
 pub fn cell_limit_of(bytes: &[u8]) -> CellLimit
-    ensures { λ r. ⌜ r ≡ section.cellLimitFrom (walk.inPlace UC (records (now (bytes .entry)))) ⌝ }
+    ensures { result ≡ section.cell_limit_from (walk.in_place UC (records bytes.now)) }
 {
     let Lookup::Found(found) = find_record(bytes, CELL_LIMIT, 0) else {
         return CellLimit::Absent;
@@ -76,7 +71,7 @@ pub fn cell_limit_of(bytes: &[u8]) -> CellLimit
 }
 
 fn nowhere() -> Range
-    ensures { λ r. ⌜ r ≡ section.nowhere ⌝ }
+    ensures { result ≡ section.nowhere }
 {
     Range {
         first_row: 0,
@@ -88,7 +83,7 @@ fn nowhere() -> Range
 
 // The area that has so many before it.
 fn area_of(bytes: &[u8], before: usize) -> Range
-    ensures { λ r. ⌜ r ≡ section.rangeFrom (drop before (walk.inPlace AR (records (now (bytes .entry))))) ⌝ }
+    ensures { result ≡ section.range_from (drop before (walk.in_place AR (records bytes.now))) }
 {
     let Lookup::Found(found) = find_record(bytes, RANGE, before) else {
         return nowhere();
@@ -101,7 +96,7 @@ fn area_of(bytes: &[u8], before: usize) -> Range
 
 // The same of the first so many areas: past them nothing is looked for.
 fn counted_area(bytes: &[u8], before: usize, count: usize) -> Range
-    ensures { λ r. ⌜ r ≡ section.rangeFrom (drop before (take count (walk.inPlace AR (records (now (bytes .entry)))))) ⌝ }
+    ensures { result ≡ section.range_from (drop before (take count (walk.in_place AR (records bytes.now)))) }
 {
     if before >= count {
         return nowhere();
@@ -111,7 +106,7 @@ fn counted_area(bytes: &[u8], before: usize, count: usize) -> Range
 
 // The first so many areas, at most eight, and that count.
 pub fn areas_of(bytes: &[u8], count: usize) -> JobAreas
-    ensures { λ r. ⌜ r ≡ section.areasHeld count (take count (walk.inPlace AR (records (now (bytes .entry))))) ⌝ }
+    ensures { result ≡ section.areas_held count (take count (walk.in_place AR (records bytes.now))) }
 {
     JobAreas {
         count,

@@ -4,11 +4,11 @@ mod standard;
 
 use geometry::Setting;
 use libc::STDOUT_FILENO;
-use standard::SIZES;
-use standard::Size;
+use standard::{SIZES, Size};
 use units::Length;
 
 // A paper's sides in units; both are 0 where a list lacks the code.
+#[derive(Drop)]
 struct Sides {
     width: u64,
     height: u64,

@@ -1,23 +1,14 @@
 // Plans the job on standard input and prints the plan, or `no` and the number of a refusal: document 01, section "Jobs", and document 02, T-02.
 // It counts all pages first, then plans area by area in the same lists. What could not be read or written is said on standard error.
-use job::count_job;
-use job::write_job_area;
+ghost use Rattle.std.specs.Prelude.{◌+◌, ◌≤◌, ◌<◌};
+
+use job::{count_job, write_job_area};
 use job_questions::MOST_BYTES;
-use job_report::BlockAnswer;
-use job_report::area_block;
-use job_report::area_line;
-use job_report::head_lines;
-use libc::STDERR_FILENO;
-use libc::STDIN_FILENO;
-use libc::STDOUT_FILENO;
+use job_report::{BlockAnswer, area_block, area_line, head_lines};
+use libc::{STDERR_FILENO, STDIN_FILENO, STDOUT_FILENO};
 use planner_areas::plan_at;
 use planner_pages::page_spot;
-use planner_rules::Found;
-use planner_rules::Plan;
-use planner_rules::Planning;
-use planner_rules::RUN_NUMBERS;
-use planner_rules::Writing;
-ghost use Prim.Native.Nat.{_+_, _≤_, _<_};
+use planner_rules::{Found, Plan, Planning, RUN_NUMBERS, Writing};
 
 // One byte more than a job may have: whoever sends so many has sent too many, and no more are read.
 const MOST: usize = MOST_BYTES + 1;
@@ -73,7 +64,7 @@ fn begin_area(
     row_runs: &mut [u64; NUMBERS],
     column_runs: &mut [u64; NUMBERS],
 ) -> bool
-    requires { ⌜ at < 8 ⌝ }
+    requires { at < 8 }
 {
     let area = plan_at(plan.areas, at);
     let permille = area.permille;
@@ -95,8 +86,8 @@ fn print_block(
     row_runs: &[u64; NUMBERS],
     column_runs: &[u64; NUMBERS],
 ) -> u64
-    requires { ⌜ from ≤ plan .pages ⌝ }
-    ensures { λ r. ⌜ from + r ≤ plan .pages + 1 ⌝ }
+    requires { from ≤ plan.pages }
+    ensures { from + result ≤ plan.pages + 1 }
 {
     let mut out = [0u8; 65536];
     let answer = area_block(plan, from, row_runs, column_runs, &mut out);

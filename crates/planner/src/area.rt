@@ -1,42 +1,25 @@
 // One area: ready to be cut, its scale, counted and written. Document 01, sections "Scale" and "Pages", and document 02, T-02.
-use crate::cut::count_cut;
-use crate::cut::write_cut;
+ghost use Rattle.std.specs.Prelude.{◌≡◌, cond, ◌&&◌, []};
+ghost use Rattle.planner_rules.specs.Scale.{fixed_scale, fit_scale, scale_of, fit_passes};
+ghost use Rattle.planner_rules.specs.Plan as call;
+ghost use Rattle.planner_rules.specs.Steps as step;
+
+use crate::cut::{count_cut, write_cut};
 use crate::places::place_of;
 use crate::scale::fit_scale;
-use planner_compare::longer;
-use planner_compare::wide;
-use planner_rules::AreaNotes;
-use planner_rules::AreaPlan;
-use planner_rules::AxisRange;
-use planner_rules::ChosenScale;
-use planner_rules::CountedArea;
-use planner_rules::FinalCut;
-use planner_rules::Fit;
-use planner_rules::PageSide;
-use planner_rules::PrintRange;
-use planner_rules::Ready;
-use planner_rules::ReadyArea;
-use planner_rules::ReadyTitle;
-use planner_rules::Settings;
-use planner_rules::Shared;
-use planner_rules::Stretch;
-use planner_setup::column_range;
-use planner_setup::fixed_scale;
-use planner_setup::looked_at;
-use planner_setup::row_range;
+use planner_compare::{longer, wide};
+use planner_rules::{
+    AreaNotes, AreaPlan, AxisRange, ChosenScale, CountedArea, FinalCut, Fit, PageSide, PrintRange,
+    Ready, ReadyArea, ReadyTitle, Settings, Shared, Stretch,
+};
+use planner_setup::{column_range, fixed_scale, looked_at, row_range};
 use planner_titles::body_start;
 use units::Fixed;
-ghost use mathlib.Core.Path.{_≡_};
-ghost use mathlib.Core.Bool.{cond, _&&_};
-ghost use mathlib.Core.List.{[]};
-ghost use Rattle·planner_rules.specs.Scale.{fixedScale, fitScale, scaleOf, fitPasses};
-ghost use Rattle·planner_rules.specs.Plan as call;
-ghost use Rattle·planner_rules.specs.Steps as step;
 
 // Finds the body of an axis beside its title.
 fn ready_axis(axis: AxisRange, side: Fixed, title: ReadyTitle, indexes: &[u32]) -> Ready
-    requires { ⌜ step.Startable (now indexes) title (axis .first) ⌝ }
-    ensures { λ r. ⌜ r ≡ step.readyFrom side title (call.axisFor axis (now (indexes .entry)) [] [] [] []) ⌝ }
+    requires { step.Startable indexes.now title axis.first }
+    ensures { result ≡ step.ready_from side title (call.axis_for axis indexes.now [] [] [] []) }
 {
     let widened = title.title;
     let start = body_start(widened, axis.first);
@@ -68,9 +51,9 @@ pub(crate) fn ready_area(
     row_indexes: &[u32],
     column_indexes: &[u32],
 ) -> ReadyArea
-    requires { ⌜ step.Startable (now «row_indexes») (shared .rows) (range .«first_row») ⌝ }
-    requires { ⌜ step.Startable (now «column_indexes») (shared .columns) (range .«first_column») ⌝ }
-    ensures { λ r. ⌜ r ≡ step.readyIn shared range (now («row_indexes» .entry)) (now («column_indexes» .entry)) ⌝ }
+    requires startable { step.Startable row_indexes.now shared.rows range.first_row }
+    requires startable_2 { step.Startable column_indexes.now shared.columns range.first_column }
+    ensures { result ≡ step.ready_in shared range row_indexes.now column_indexes.now }
 {
     let settings = shared.settings;
     let sides = shared.sides;
@@ -101,17 +84,15 @@ fn choose_scale(
     merge_last_rows: &[u32],
     merge_last_columns: &[u32],
 ) -> ChosenScale
-    requires { ⌜ call.Cuttable (ready .rows) (now «row_indexes») (now «row_sizes») ⌝ }
-    requires { ⌜ call.Cuttable (ready .columns) (now «column_indexes») (now «column_sizes») ⌝ }
-    ensures { λ r. ⌜
-        scaleOf r ≡ cond (settings .fit)
-        (fitScale
-        (λ p. fitPasses (ready .rows .fit) (now («merge_first_rows» .entry)) (now («merge_last_rows» .entry))
-        (call.within (ready .rows) (now («row_indexes» .entry))) (call.within (ready .rows) (now («row_sizes» .entry))) p && fitPasses
-        (ready .columns .fit) (now («merge_first_columns» .entry)) (now («merge_last_columns» .entry))
-        (call.within (ready .columns) (now («column_indexes» .entry))) (call.within (ready .columns) (now («column_sizes» .entry))) p))
-        (fixedScale (settings .percent))
-        ⌝ }
+    requires cuttable { call.Cuttable ready.rows row_indexes.now row_sizes.now }
+    requires cuttable_2 { call.Cuttable ready.columns column_indexes.now column_sizes.now }
+    ensures { scale_of result ≡ cond settings.fit
+        (fit_scale
+        (λ p. fit_passes ready.rows.fit merge_first_rows.now merge_last_rows.now
+        (call.within ready.rows row_indexes.now) (call.within ready.rows row_sizes.now) p && fit_passes
+        ready.columns.fit merge_first_columns.now merge_last_columns.now
+        (call.within ready.columns column_indexes.now) (call.within ready.columns column_sizes.now) p))
+        (fixed_scale settings.percent) }
 {
     if settings.fit {
         let rows = ready.rows;
@@ -141,8 +122,8 @@ fn choose_scale(
 
 // What an area comes to by its final cuts.
 fn area_from(scale: ChosenScale, rows: FinalCut, columns: FinalCut) -> CountedArea
-    requires { ⌜ step.Addable rows columns ⌝ }
-    ensures { λ r. ⌜ r ≡ step.areaFrom rows columns (scaleOf scale) ⌝ }
+    requires { step.Addable rows columns }
+    ensures { result ≡ step.area_from rows columns (scale_of scale) }
 {
     CountedArea {
         area: AreaPlan {
@@ -179,16 +160,14 @@ pub(crate) fn count_at(
     row_breaks: &[u32],
     column_breaks: &[u32],
 ) -> CountedArea
-    requires { ⌜ call.Cuttable (ready .rows) (now «row_indexes») (now «row_sizes») ⌝ }
-    requires { ⌜ call.Cuttable (ready .columns) (now «column_indexes») (now «column_sizes») ⌝ }
-    ensures { λ r. ⌜
-        (let rows = step.readyCut (ready .rows) (scale .permille) (now («row_indexes» .entry)) (now («row_sizes» .entry))
-        (now («merge_first_rows» .entry)) (now («merge_last_rows» .entry)) (call.lookedAt fit (now («row_breaks» .entry))) in
-        let columns = step.readyCut (ready .columns) (scale .permille) (now («column_indexes» .entry)) (now («column_sizes» .entry))
-        (now («merge_first_columns» .entry)) (now («merge_last_columns» .entry)) (call.lookedAt fit (now («column_breaks» .entry))) in
-        r ≡ step.areaFrom rows columns (scaleOf scale))
-        ⌝ }
-    ensures { λ r. ⌜ step.FewCut r ⌝ }
+    requires cuttable { call.Cuttable ready.rows row_indexes.now row_sizes.now }
+    requires cuttable_2 { call.Cuttable ready.columns column_indexes.now column_sizes.now }
+    ensures result_value { let rows = step.ready_cut ready.rows scale.permille row_indexes.now row_sizes.now
+        merge_first_rows.now merge_last_rows.now (call.looked_at fit row_breaks.now) in
+        let columns = step.ready_cut ready.columns scale.permille column_indexes.now column_sizes.now
+        merge_first_columns.now merge_last_columns.now (call.looked_at fit column_breaks.now) in
+        result ≡ step.area_from rows columns (scale_of scale) }
+    ensures few_cut { step.FewCut result }
 {
     let rows = ready.rows;
     let columns = ready.columns;
@@ -231,19 +210,15 @@ pub(crate) fn count_area(
     row_breaks: &[u32],
     column_breaks: &[u32],
 ) -> CountedArea
-    requires { ⌜
-        (let sheet = step.sheetBy shared (now «row_indexes») (now «row_sizes») (now «column_indexes») (now «column_sizes») (now «merge_first_rows»)
-        (now «merge_first_columns») (now «merge_last_rows») (now «merge_last_columns») (now «row_breaks») (now «column_breaks») in
-        step.Settled shared sheet)
-        ⌝ }
-    requires { ⌜ step.FineArea range ⌝ }
-    ensures { λ r. ⌜
-        (let sheet = step.sheetBy shared (now («row_indexes» .entry)) (now («row_sizes» .entry)) (now («column_indexes» .entry))
-        (now («column_sizes» .entry)) (now («merge_first_rows» .entry)) (now («merge_first_columns» .entry)) (now («merge_last_rows» .entry))
-        (now («merge_last_columns» .entry)) (now («row_breaks» .entry)) (now («column_breaks» .entry)) in
-        r ≡ call.areaLayout (step.sidesIn shared) sheet range .counted)
-        ⌝ }
-    ensures { λ r. ⌜ step.Few r ⌝ }
+    requires fact { let sheet = step.sheet_by shared row_indexes.now row_sizes.now column_indexes.now column_sizes.now merge_first_rows.now
+        merge_first_columns.now merge_last_rows.now merge_last_columns.now row_breaks.now column_breaks.now in
+        step.Settled shared sheet }
+    requires fine_area { step.FineArea range }
+    ensures result_value { let sheet = step.sheet_by shared row_indexes.now row_sizes.now column_indexes.now
+        column_sizes.now merge_first_rows.now merge_first_columns.now merge_last_rows.now
+        merge_last_columns.now row_breaks.now column_breaks.now in
+        result ≡ (call.area_layout (step.sides_in shared) sheet range).counted }
+    ensures few { step.Few result }
 {
     let settings = shared.settings;
     let ready = ready_area(shared, range, row_indexes, column_indexes);
@@ -296,19 +271,15 @@ pub(crate) fn write_area_runs(
     row_runs: &mut [u64],
     column_runs: &mut [u64],
 )
-    requires { ⌜
-        (let sheet = step.sheetBy shared (now «row_indexes») (now «row_sizes») (now «column_indexes») (now «column_sizes») (now «merge_first_rows»)
-        (now «merge_first_columns») (now «merge_last_rows») (now «merge_last_columns») (now «row_breaks») (now «column_breaks») in
-        step.Settled shared sheet × step.Writable shared sheet range area «row_at» «column_at» (now «row_runs») (now «column_runs»))
-        ⌝ }
-    requires { ⌜ step.FineArea range ⌝ }
-    ensures { λ _. ⌜
-        (let sheet = step.sheetBy shared (now («row_indexes» .entry)) (now («row_sizes» .entry)) (now («column_indexes» .entry))
-        (now («column_sizes» .entry)) (now («merge_first_rows» .entry)) (now («merge_first_columns» .entry)) (now («merge_last_rows» .entry))
-        (now («merge_last_columns» .entry)) (now («row_breaks» .entry)) (now («column_breaks» .entry)) in
-        (now («row_runs» .exit) ≡ step.putAt (step.rowsAt shared sheet range (area .permille)) «row_at» (now («row_runs» .entry)))
-        × (now («column_runs» .exit) ≡ step.putAt (step.columnsAt shared sheet range (area .permille)) «column_at» (now («column_runs» .entry))))
-        ⌝ }
+    requires fact { let sheet = step.sheet_by shared row_indexes.now row_sizes.now column_indexes.now column_sizes.now merge_first_rows.now
+        merge_first_columns.now merge_last_rows.now merge_last_columns.now row_breaks.now column_breaks.now in
+        step.Settled shared sheet × step.Writable shared sheet range area row_at column_at row_runs.old column_runs.old }
+    requires fine_area { step.FineArea range }
+    ensures { let sheet = step.sheet_by shared row_indexes.now row_sizes.now column_indexes.now
+        column_sizes.now merge_first_rows.now merge_first_columns.now merge_last_rows.now
+        merge_last_columns.now row_breaks.now column_breaks.now in
+        (row_runs.new ≡ step.put_at (step.rows_at shared sheet range area.permille) row_at row_runs.old)
+        × (column_runs.new ≡ step.put_at (step.columns_at shared sheet range area.permille) column_at column_runs.old) }
 {
     let settings = shared.settings;
     let ready = ready_area(shared, range, row_indexes, column_indexes);

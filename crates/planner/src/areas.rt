@@ -1,31 +1,22 @@
 // All areas, one after another: counted, then written. Document 02, T-02.
-use crate::area::count_area;
-use crate::area::write_area_runs;
-use planner_areas::area_at;
-use planner_areas::plan_at;
-use planner_areas::with_plan;
-use planner_rules::AreaNotes;
-use planner_rules::AreaPlan;
-use planner_rules::AreaPlans;
-use planner_rules::Areas;
-use planner_rules::CountedArea;
-use planner_rules::CountedAreas;
-use planner_rules::RUN_NUMBERS;
-use planner_rules::Shared;
-ghost use mathlib.Core.Path.{_≡_};
-ghost use mathlib.Core.List.{[], map};
-ghost use Prim.Native.Nat.{_+_, _<_};
-ghost use Rattle·planner_rules.specs.Slots.{written};
-ghost use Rattle·planner_rules.specs.Areas.{areasIn, heldPlans};
-ghost use Rattle·planner_rules.specs.Lent.{flat};
-ghost use Rattle·planner_rules.specs.Plan as call;
-ghost use Rattle·planner_rules.specs.Steps as step;
+ghost use Rattle.std.specs.Prelude.{◌≡◌, [], map, ◌+◌, ◌<◌};
+ghost use Rattle.planner_rules.specs.Slots.{written};
+ghost use Rattle.planner_rules.specs.Areas.{areas_in, held_plans};
+ghost use Rattle.planner_rules.specs.Lent.{flat};
+ghost use Rattle.planner_rules.specs.Plan as call;
+ghost use Rattle.planner_rules.specs.Steps as step;
+
+use crate::area::{count_area, write_area_runs};
+use planner_areas::{area_at, plan_at, with_plan};
+use planner_rules::{
+    AreaNotes, AreaPlan, AreaPlans, Areas, CountedArea, CountedAreas, RUN_NUMBERS, Shared,
+};
 
 const MOST: u64 = 18_446_744_073_709_551_615;
 
 // A sum that no u64 holds counts as the largest that one holds.
 fn counted_sum(a: u64, b: u64) -> u64
-    ensures { λ r. ⌜ r ≡ call.asCount (a + b) ⌝ }
+    ensures { result ≡ call.as_count (a + b) }
 {
     if b > MOST - a {
         return MOST;
@@ -35,7 +26,7 @@ fn counted_sum(a: u64, b: u64) -> u64
 
 // No area, yet.
 fn no_areas() -> CountedAreas
-    ensures { λ r. ⌜ r ≡ step.countedOf [] ⌝ }
+    ensures { result ≡ step.counted_of [] }
 {
     let none = AreaPlan {
         permille: 0,
@@ -72,10 +63,10 @@ fn no_areas() -> CountedAreas
 
 // The counted areas and one more, which has so many before it.
 fn add_area(all: CountedAreas, at: usize, counted: CountedArea) -> CountedAreas
-    requires { ⌜ at < 8 ⌝ }
-    requires { ⌜ step.FewAll all at × step.Few counted ⌝ }
-    ensures { λ r. ⌜ step.Added r all at counted ⌝ }
-    ensures { λ r. ⌜ step.FewAll r (at + 1) ⌝ }
+    requires at_bound { at < 8 }
+    requires few_all { step.FewAll all at × step.Few counted }
+    ensures added { step.Added result all at counted }
+    ensures few_all_2 { step.FewAll result (at + 1) }
 {
     let area = counted.area;
     let notes = counted.notes;
@@ -113,18 +104,14 @@ pub(crate) fn count_areas(
     row_breaks: &[u32],
     column_breaks: &[u32],
 ) -> CountedAreas
-    requires { ⌜
-        (let sheet = step.sheetBy shared (now «row_indexes») (now «row_sizes») (now «column_indexes») (now «column_sizes») (now «merge_first_rows»)
-        (now «merge_first_columns») (now «merge_last_rows») (now «merge_last_columns») (now «row_breaks») (now «column_breaks») in
-        step.Settled shared sheet)
-        ⌝ }
-    requires { ⌜ step.FineAreas areas ⌝ }
-    ensures { λ r. ⌜
-        (let sheet = step.sheetBy shared (now («row_indexes» .entry)) (now («row_sizes» .entry)) (now («column_indexes» .entry))
-        (now («column_sizes» .entry)) (now («merge_first_rows» .entry)) (now («merge_first_columns» .entry)) (now («merge_last_rows» .entry))
-        (now («merge_last_columns» .entry)) (now («row_breaks» .entry)) (now («column_breaks» .entry)) in
-        r ≡ step.countedOf (call.layoutsOf (step.sidesIn shared) sheet (areasIn areas)))
-        ⌝ }
+    requires fact { let sheet = step.sheet_by shared row_indexes.now row_sizes.now column_indexes.now column_sizes.now merge_first_rows.now
+        merge_first_columns.now merge_last_rows.now merge_last_columns.now row_breaks.now column_breaks.now in
+        step.Settled shared sheet }
+    requires fine_areas { step.FineAreas areas }
+    ensures { let sheet = step.sheet_by shared row_indexes.now row_sizes.now column_indexes.now
+        column_sizes.now merge_first_rows.now merge_first_columns.now merge_last_rows.now
+        merge_last_columns.now row_breaks.now column_breaks.now in
+        result ≡ step.counted_of (call.layouts_of (step.sides_in shared) sheet (areas_in areas)) }
 {
     let mut all = no_areas();
     let mut i = 0;
@@ -168,21 +155,17 @@ pub(crate) fn write_areas(
     row_runs: &mut [u64],
     column_runs: &mut [u64],
 )
-    requires { ⌜
-        (let sheet = step.sheetBy shared (now «row_indexes») (now «row_sizes») (now «column_indexes») (now «column_sizes») (now «merge_first_rows»)
-        (now «merge_first_columns») (now «merge_last_rows») (now «merge_last_columns») (now «row_breaks») (now «column_breaks») in
-        let layouts = call.layoutsOf (step.sidesIn shared) sheet (areasIn areas) in
-        step.Settled shared sheet × (plans ≡ heldPlans (map call.planIn layouts)) × step.RoomForAll layouts (now «row_runs») (now «column_runs»))
-        ⌝ }
-    requires { ⌜ step.FineAreas areas ⌝ }
-    ensures { λ _. ⌜
-        (let sheet = step.sheetBy shared (now («row_indexes» .entry)) (now («row_sizes» .entry)) (now («column_indexes» .entry))
-        (now («column_sizes» .entry)) (now («merge_first_rows» .entry)) (now («merge_first_columns» .entry)) (now («merge_last_rows» .entry))
-        (now («merge_last_columns» .entry)) (now («row_breaks» .entry)) (now («column_breaks» .entry)) in
-        let layouts = call.layoutsOf (step.sidesIn shared) sheet (areasIn areas) in
-        (now («row_runs» .exit) ≡ written (flat (call.rowRunsOf layouts)) (now («row_runs» .entry)))
-        × (now («column_runs» .exit) ≡ written (flat (call.columnRunsOf layouts)) (now («column_runs» .entry))))
-        ⌝ }
+    requires fact { let sheet = step.sheet_by shared row_indexes.now row_sizes.now column_indexes.now column_sizes.now merge_first_rows.now
+        merge_first_columns.now merge_last_rows.now merge_last_columns.now row_breaks.now column_breaks.now in
+        let layouts = call.layouts_of (step.sides_in shared) sheet (areas_in areas) in
+        step.Settled shared sheet × (plans ≡ held_plans (map call.plan_in layouts)) × step.RoomForAll layouts row_runs.old column_runs.old }
+    requires fine_areas { step.FineAreas areas }
+    ensures { let sheet = step.sheet_by shared row_indexes.now row_sizes.now column_indexes.now
+        column_sizes.now merge_first_rows.now merge_first_columns.now merge_last_rows.now
+        merge_last_columns.now row_breaks.now column_breaks.now in
+        let layouts = call.layouts_of (step.sides_in shared) sheet (areas_in areas) in
+        (row_runs.new ≡ written (flat (call.row_runs_of layouts)) row_runs.old)
+        × (column_runs.new ≡ written (flat (call.column_runs_of layouts)) column_runs.old) }
 {
     let mut row_at = 0;
     let mut column_at = 0;

@@ -1,32 +1,22 @@
 // The final cut of an axis, counted and written: document 01, sections "Runs" and "Pages".
-use crate::runs::count_axis;
-use crate::runs::write_axis;
-use crate::runs::write_empty;
-use crate::scale::empty_fits;
-use crate::scale::excess;
-use crate::scale::frame_at;
+ghost use Rattle.std.specs.Prelude.{◌≡◌, cond, ◌+◌, ◌≤◌, ◌^◌, max, ltb, length};
+ghost use Rattle.planner_rules.specs.Slots.{Slots, written};
+ghost use Rattle.planner_rules.specs.Runs.{axis_runs};
+ghost use Rattle.planner_rules.specs.Lent.{Room, flat};
+ghost use Rattle.planner_rules.specs.Scale.{fits_side, space_of, Low};
+ghost use Rattle.planner_rules.specs.Pages.{none, or_empty};
+ghost use Rattle.planner_rules.specs.Plan as call;
+
+use crate::runs::{count_axis, write_axis, write_empty};
+use crate::scale::{empty_fits, excess, frame_at};
 use planner_cuts::final_cut;
-use planner_rules::FinalCut;
-use planner_rules::Frame;
-use planner_rules::PageSide;
-use planner_rules::Ready;
-ghost use mathlib.Core.Path.{_≡_};
-ghost use mathlib.Core.Bool.{cond};
-ghost use Prim.Native.Nat.{_+_, _≤_, _^_, max};
-ghost use lib.Dec.{ltb};
-ghost use lib.ListN.{length};
-ghost use Rattle·planner_rules.specs.Slots.{Slots, written};
-ghost use Rattle·planner_rules.specs.Runs.{axisRuns};
-ghost use Rattle·planner_rules.specs.Lent.{Room, flat};
-ghost use Rattle·planner_rules.specs.Scale.{fitsSide, spaceOf, Low};
-ghost use Rattle·planner_rules.specs.Pages.{none, orEmpty};
-ghost use Rattle·planner_rules.specs.Plan as call;
+use planner_rules::{FinalCut, Frame, PageSide, Ready};
 
 // How many runs of the final cut overflow, of what was counted: an axis without runs gets one, which does where titles plus headings do not fit.
 fn cut_overflows(page: PageSide, permille: u16, runs: usize, overflows: u64) -> u64
-    requires { ⌜ Low page ⌝ }
-    ensures { λ r. ⌜ r ≡ cond (ltb 0 runs) overflows (cond (fitsSide (spaceOf page) permille (page .titles + page .headings)) 0 1) ⌝ }
-    ensures { λ r. ⌜ r ≤ max overflows 1 ⌝ }
+    requires { Low page }
+    ensures value { result ≡ cond (ltb 0 runs) overflows (cond (fits_side (space_of page) permille (page.titles + page.headings)) 0 1) }
+    ensures upper_bound { result ≤ max overflows 1 }
 {
     if runs > 0 {
         return overflows;
@@ -44,16 +34,14 @@ pub(crate) fn count_cut(
     indexes: &[u32],
     sizes: &[u64],
 ) -> FinalCut
-    requires { ⌜ call.Cuttable ready (now indexes) (now sizes) ⌝ }
-    ensures { λ r. ⌜
-        (let is = now (indexes .entry) in
-        let firsts = now («merge_firsts» .entry) in
-        let lasts = now («merge_lasts» .entry) in
-        let bs = now (breaks .entry) in
-        let runs = call.readyRuns ready permille is (now (sizes .entry)) firsts lasts bs in
-        r ≡ call.cutOf runs (call.readyShifts ready permille is firsts lasts bs) (call.readyOverflows ready permille runs))
-        ⌝ }
-    ensures { λ r. ⌜ (r .runs ≤ 2 ^ 20) × (r .expansions ≤ 2 ^ 20) × (r .shifts ≤ length (now (breaks .entry))) × (r .overflows ≤ 2 ^ 20) ⌝ }
+    requires { call.Cuttable ready indexes.now sizes.now }
+    ensures result_value { let is = indexes.now in
+        let firsts = merge_firsts.now in
+        let lasts = merge_lasts.now in
+        let bs = breaks.now in
+        let runs = call.ready_runs ready permille is sizes.now firsts lasts bs in
+        result ≡ call.cut_of runs (call.ready_shifts ready permille is firsts lasts bs) (call.ready_overflows ready permille runs) }
+    ensures runs_bound { (result.runs ≤ 2 ^ 20) × (result.expansions ≤ 2 ^ 20) × (result.shifts ≤ length breaks.now) × (result.overflows ≤ 2 ^ 20) }
 {
     let fit = ready.fit;
     let page = fit.page;
@@ -87,16 +75,12 @@ fn write_page_runs(
     sizes: &[u64],
     list: &mut [u64],
 )
-    requires { ⌜ Slots (now indexes) (now sizes) ⌝ }
-    requires { ⌜
-        (let runs = axisRuns frame (now «merge_firsts») (now «merge_lasts») (now indexes) (now sizes) 0 (now breaks) in
-        (empty ≡ none runs) × Room (orEmpty first runs) (now list))
-        ⌝ }
-    ensures { λ _. ⌜
-        (let runs = axisRuns frame (now («merge_firsts» .entry)) (now («merge_lasts» .entry)) (now (indexes .entry))
-        (now (sizes .entry)) 0 (now (breaks .entry)) in
-        now (list .exit) ≡ written (flat (orEmpty first runs)) (now (list .entry)))
-        ⌝ }
+    requires slots { Slots indexes.now sizes.now }
+    requires fact { let runs = axis_runs frame merge_firsts.now merge_lasts.now indexes.now sizes.now 0 breaks.now in
+        (empty ≡ none runs) × Room (or_empty first runs) list.old }
+    ensures { let runs = axis_runs frame merge_firsts.now merge_lasts.now indexes.now
+        sizes.now 0 breaks.now in
+        list.new ≡ written (flat (or_empty first runs)) list.old }
 {
     if empty {
         write_empty(first, list);
@@ -126,16 +110,12 @@ pub(crate) fn write_cut(
     sizes: &[u64],
     list: &mut [u64],
 )
-    requires { ⌜ call.Cuttable ready (now indexes) (now sizes) ⌝ }
-    requires { ⌜
-        (let runs = call.readyRuns ready permille (now indexes) (now sizes) (now «merge_firsts») (now «merge_lasts») (now breaks) in
-        (empty ≡ none runs) × Room (orEmpty first runs) (now list))
-        ⌝ }
-    ensures { λ _. ⌜
-        (let runs = call.readyRuns ready permille (now (indexes .entry)) (now (sizes .entry)) (now («merge_firsts» .entry))
-        (now («merge_lasts» .entry)) (now (breaks .entry)) in
-        now (list .exit) ≡ written (flat (orEmpty first runs)) (now (list .entry)))
-        ⌝ }
+    requires cuttable { call.Cuttable ready indexes.now sizes.now }
+    requires fact { let runs = call.ready_runs ready permille indexes.now sizes.now merge_firsts.now merge_lasts.now breaks.now in
+        (empty ≡ none runs) × Room (or_empty first runs) list.old }
+    ensures { let runs = call.ready_runs ready permille indexes.now sizes.now merge_firsts.now
+        merge_lasts.now breaks.now in
+        list.new ≡ written (flat (or_empty first runs)) list.old }
 {
     let fit = ready.fit;
     let from = ready.from;

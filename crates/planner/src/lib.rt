@@ -11,6 +11,4 @@ mod scale;
 mod title;
 
 pub use partition::partition_axis_with_breaks;
-pub use plan::count_pages;
-pub use plan::plan_pages;
-pub use plan::write_area;
+pub use plan::{count_pages, plan_pages, write_area};

@@ -1,23 +1,17 @@
 // The call that cuts an axis into a lent list: document 01, sections "Titles" and "Runs".
+ghost use Rattle.planner_rules.specs.Slots.{Slots};
+ghost use Rattle.planner_rules.specs.Titles.{limit_of};
+ghost use Rattle.planner_rules.specs.Runs.{axis_runs, axis_tally};
+ghost use Rattle.planner_rules.specs.Lent.{room_in};
+ghost use Rattle.planner_rules.specs.Partition as call;
+
 use crate::places::place_of;
-use crate::runs::count_axis;
-use crate::runs::write_axis;
+use crate::runs::{count_axis, write_axis};
 use planner_compare::wide;
-use planner_questions::partition_refusal;
-use planner_questions::room_in;
-use planner_rules::Axis;
-use planner_rules::AxisSetup;
-use planner_rules::Frame;
-use planner_rules::PageSide;
-use planner_rules::Partition;
-use planner_rules::Tally;
+use planner_questions::{partition_refusal, room_in};
+use planner_rules::{Axis, AxisSetup, Frame, PageSide, Partition, Tally};
 use planner_titles::body_start;
 use units::Fixed;
-ghost use Rattle·planner_rules.specs.Slots.{Slots};
-ghost use Rattle·planner_rules.specs.Titles.{limitOf};
-ghost use Rattle·planner_rules.specs.Runs.{axisRuns, axisTally};
-ghost use Rattle·planner_rules.specs.Lent.{roomIn};
-ghost use Rattle·planner_rules.specs.Partition as call;
 
 // Cuts slots into runs, counted before any is written.
 fn partition_slots(
@@ -29,17 +23,15 @@ fn partition_slots(
     sizes: &[u64],
     list: &mut [u64],
 ) -> Partition
-    requires { ⌜ Slots (now indexes) (now sizes) ⌝ }
-    ensures { λ r. ⌜
-        (let firsts = now («merge_firsts» .entry) in
-        let lasts = now («merge_lasts» .entry) in
-        let is = now (indexes .entry) in
-        let ss = now (sizes .entry) in
-        let bs = now (breaks .entry) in
-        let runs = axisRuns frame firsts lasts is ss 0 bs in
-        call.Answered (call.roomFor runs (axisTally frame firsts lasts is ss bs) (roomIn (now (list .entry)))) runs r
-        (now (list .entry)) (now (list .exit)))
-        ⌝ }
+    requires { Slots indexes.now sizes.now }
+    ensures { let firsts = merge_firsts.now in
+        let lasts = merge_lasts.now in
+        let is = indexes.now in
+        let ss = sizes.now in
+        let bs = breaks.now in
+        let runs = axis_runs frame firsts lasts is ss 0 bs in
+        call.Answered (call.room_for runs (axis_tally frame firsts lasts is ss bs) (room_in list.old)) runs result
+        list.old list.new }
 {
     // how many runs overflow is not answered, so that any page serves
     let page = PageSide {
@@ -83,16 +75,14 @@ fn partition_body(
     breaks: &[u32],
     list: &mut [u64],
 ) -> Partition
-    requires { ⌜ Slots (now indexes) (now sizes) ⌝ }
-    ensures { λ r. ⌜
-        (let firsts = now («merge_firsts» .entry) in
-        let lasts = now («merge_lasts» .entry) in
-        let is = now (indexes .entry) in
-        let ss = now (sizes .entry) in
-        let bs = now (breaks .entry) in
-        call.Answered (call.fits setup is ss firsts lasts bs (roomIn (now (list .entry)))) (call.bodyRuns setup is ss firsts lasts bs) r
-        (now (list .entry)) (now (list .exit)))
-        ⌝ }
+    requires { Slots indexes.now sizes.now }
+    ensures { let firsts = merge_firsts.now in
+        let lasts = merge_lasts.now in
+        let is = indexes.now in
+        let ss = sizes.now in
+        let bs = breaks.now in
+        call.Answered (call.fits setup is ss firsts lasts bs (room_in list.old)) (call.body_runs setup is ss firsts lasts bs) result
+        list.old list.new }
 {
     let first = setup.first;
     let last = setup.last;
@@ -137,15 +127,13 @@ pub fn partition_axis_with_breaks(
     breaks: &[u32],
     list: &mut [u64],
 ) -> Partition
-    ensures { λ r. ⌜
-        (let firsts = now («merge_firsts» .entry) in
-        let lasts = now («merge_lasts» .entry) in
-        let is = now (indexes .entry) in
-        let ss = now (sizes .entry) in
-        let bs = now (breaks .entry) in
-        call.Answered (call.partition (limitOf axis) setup is ss firsts lasts bs (now (list .entry)))
-        (call.bodyRuns setup is ss firsts lasts bs) r (now (list .entry)) (now (list .exit)))
-        ⌝ }
+    ensures { let firsts = merge_firsts.now in
+        let lasts = merge_lasts.now in
+        let is = indexes.now in
+        let ss = sizes.now in
+        let bs = breaks.now in
+        call.Answered (call.partition (limit_of axis) setup is ss firsts lasts bs list.old)
+        (call.body_runs setup is ss firsts lasts bs) result list.old list.new }
 {
     let limit = axis.limit();
     let refusal = partition_refusal(limit, setup, indexes, sizes, merge_firsts, merge_lasts);

@@ -1,18 +1,16 @@
 // Places among the slots of an axis, whose indexes rise: searches by halving, as the Rust's. Document 01, section "Runs".
+ghost use Rattle.std.specs.Prelude.{◌≡◌, ◌≤◌, length};
+ghost use Rattle.planner_rules.specs.Slots.{Rising, below};
+ghost use Rattle.planner_rules.specs.Runs.{moved};
+
 use planner_compare::wide;
-use planner_rules::Cut;
-use planner_rules::Held;
-ghost use mathlib.Core.Path.{_≡_};
-ghost use Prim.Native.Nat.{_≤_};
-ghost use lib.ListN.{length};
-ghost use Rattle·planner_rules.specs.Slots.{Rising, below};
-ghost use Rattle·planner_rules.specs.Runs.{moved};
+use planner_rules::{Cut, Held};
 
 // How many slots have an index below the limit.
 pub(crate) fn place_of(indexes: &[u32], limit: u64) -> usize
-    requires { ⌜ Rising (now indexes) ⌝ }
-    ensures { λ r. ⌜ r ≡ below limit (now (indexes .entry)) ⌝ }
-    ensures { λ r. ⌜ r ≤ length (now (indexes .entry)) ⌝ }
+    requires { Rising indexes.now }
+    ensures value { result ≡ below limit indexes.now }
+    ensures upper_bound { result ≤ length indexes.now }
 {
     let mut low = 0;
     let mut size = indexes.len();
@@ -34,8 +32,8 @@ pub(crate) fn place_of(indexes: &[u32], limit: u64) -> usize
 
 // The cut of a break at the place p, whose boundary `held` holds.
 pub(crate) fn moved_cut(held: Held, prev: usize, p: usize, indexes: &[u32]) -> Cut
-    requires { ⌜ Rising (now indexes) ⌝ }
-    ensures { λ r. ⌜ r ≡ moved held prev p (now (indexes .entry)) ⌝ }
+    requires { Rising indexes.now }
+    ensures { result ≡ moved held prev p indexes.now }
 {
     let Held::By(first, last) = held else {
         return Cut {

@@ -1,39 +1,22 @@
 // The plan calls: questions, then all areas counted and written, or one written. Document 01, sections "Pages" and "Questions in order", and
 // document 02, T-02.
-use crate::area::count_at;
-use crate::area::ready_area;
-use crate::area::write_area_runs;
-use crate::areas::count_areas;
-use crate::areas::write_areas;
+ghost use Rattle.std.specs.Prelude.{◌≡◌, List, ℕ};
+ghost use Rattle.planner_rules.specs.Lent.{room_in};
+ghost use Rattle.planner_rules.specs.Areas.{areas_in};
+ghost use Rattle.planner_rules.specs.Demand.{CoversPairs, FewestPlan, LargestPlan};
+ghost use Rattle.planner_rules.specs.Plan as call;
+ghost use Rattle.planner_rules.specs.Steps as step;
+
+use crate::area::{count_at, ready_area, write_area_runs};
+use crate::areas::{count_areas, write_areas};
 use crate::title::ready_title;
 use planner_areas::area_at;
-use planner_questions::plan_refusal;
-use planner_questions::room_in;
-use planner_questions::room_refusal;
-use planner_rules::Areas;
-use planner_rules::Axis;
-use planner_rules::ChosenScale;
-use planner_rules::CountedAreas;
-use planner_rules::Notes;
-use planner_rules::Plan;
-use planner_rules::Planning;
-use planner_rules::Prepared;
-use planner_rules::PrintRange;
-use planner_rules::RunCounts;
-use planner_rules::Settings;
-use planner_rules::Shared;
-use planner_rules::SidesFound;
-use planner_rules::Title;
-use planner_rules::Writing;
+use planner_questions::{plan_refusal, room_in, room_refusal};
+use planner_rules::{
+    Areas, Axis, ChosenScale, CountedAreas, Notes, Plan, Planning, Prepared, PrintRange, RunCounts,
+    Settings, Shared, SidesFound, Title, Writing,
+};
 use planner_setup::content_sides;
-ghost use mathlib.Core.Path.{_≡_};
-ghost use mathlib.Core.List.{List};
-ghost use Prim.Native.Nat.{ℕ};
-ghost use Rattle·planner_rules.specs.Lent.{roomIn};
-ghost use Rattle·planner_rules.specs.Areas.{areasIn};
-ghost use Rattle·planner_rules.specs.Demand.{CoversPairs, FewestPlan, LargestPlan};
-ghost use Rattle·planner_rules.specs.Plan as call;
-ghost use Rattle·planner_rules.specs.Steps as step;
 
 // Asks the questions 4 to 10, and makes the titles ready, once for all areas.
 fn prepare(
@@ -50,13 +33,11 @@ fn prepare(
     merge_last_rows: &[u32],
     merge_last_columns: &[u32],
 ) -> Prepared
-    ensures { λ r. ⌜
-        ((rb cb : List ℕ) →
-        step.IsPrepared r
-        (call.sheetOf settings «row_title» «column_title» (now («row_indexes» .entry)) (now («row_sizes» .entry)) (now («column_indexes» .entry))
-        (now («column_sizes» .entry)) (now («merge_first_rows» .entry)) (now («merge_first_columns» .entry)) (now («merge_last_rows» .entry))
-        (now («merge_last_columns» .entry)) rb cb) areas)
-        ⌝ }
+    ensures { (rb cb : List ℕ) →
+        step.IsPrepared result
+        (call.sheet_of settings row_title column_title row_indexes.now row_sizes.now column_indexes.now
+        column_sizes.now merge_first_rows.now merge_first_columns.now merge_last_rows.now
+        merge_last_columns.now rb cb) areas }
 {
     let refusal = plan_refusal(
         settings,
@@ -102,8 +83,8 @@ fn prepare(
 
 // The plan of counted areas. Paper, margin and title notes count once.
 fn plan_of(shared: Shared, counted: CountedAreas) -> Plan
-    requires { ⌜ step.TitlesFew shared ⌝ }
-    ensures { λ r. ⌜ r ≡ step.planFrom shared counted ⌝ }
+    requires { step.TitlesFew shared }
+    ensures { result ≡ step.plan_from shared counted }
 {
     let settings = shared.settings;
     let sides = shared.sides;
@@ -147,20 +128,16 @@ fn plan_areas(
     row_runs: &mut [u64],
     column_runs: &mut [u64],
 ) -> Planning
-    requires { ⌜
-        (let sheet = step.sheetBy shared (now «row_indexes») (now «row_sizes») (now «column_indexes») (now «column_sizes») (now «merge_first_rows»)
-        (now «merge_first_columns») (now «merge_last_rows») (now «merge_last_columns») (now «row_breaks») (now «column_breaks») in
-        step.Settled shared sheet)
-        ⌝ }
-    requires { ⌜ step.FineAreas areas ⌝ }
-    ensures { λ r. ⌜
-        (let sheet = step.sheetBy shared (now («row_indexes» .entry)) (now («row_sizes» .entry)) (now («column_indexes» .entry))
-        (now («column_sizes» .entry)) (now («merge_first_rows» .entry)) (now («merge_first_columns» .entry)) (now («merge_last_rows» .entry))
-        (now («merge_last_columns» .entry)) (now («row_breaks» .entry)) (now («column_breaks» .entry)) in
-        let layout = call.layout (step.sidesIn shared) sheet (areasIn areas) in
-        call.Planned (call.roomFor sheet layout (roomIn (now («row_runs» .entry))) (roomIn (now («column_runs» .entry)))) r
-        (now («row_runs» .entry)) (now («column_runs» .entry)) (now («row_runs» .exit)) (now («column_runs» .exit)))
-        ⌝ }
+    requires fact { let sheet = step.sheet_by shared row_indexes.now row_sizes.now column_indexes.now column_sizes.now merge_first_rows.now
+        merge_first_columns.now merge_last_rows.now merge_last_columns.now row_breaks.now column_breaks.now in
+        step.Settled shared sheet }
+    requires fine_areas { step.FineAreas areas }
+    ensures { let sheet = step.sheet_by shared row_indexes.now row_sizes.now column_indexes.now
+        column_sizes.now merge_first_rows.now merge_first_columns.now merge_last_rows.now
+        merge_last_columns.now row_breaks.now column_breaks.now in
+        let layout = call.layout (step.sides_in shared) sheet (areas_in areas) in
+        call.Planned (call.room_for sheet layout (room_in row_runs.old) (room_in column_runs.old)) result
+        row_runs.old column_runs.old row_runs.new column_runs.new }
 {
     let settings = shared.settings;
     let counted = count_areas(
@@ -229,31 +206,23 @@ pub fn plan_pages(
     row_runs: &mut [u64],
     column_runs: &mut [u64],
 ) -> Planning
-    ensures planned { λ r. ⌜
-        (let sheet = call.sheetOf settings «row_title» «column_title» (now («row_indexes» .entry)) (now («row_sizes» .entry))
-        (now («column_indexes» .entry)) (now («column_sizes» .entry)) (now («merge_first_rows» .entry)) (now («merge_first_columns» .entry))
-        (now («merge_last_rows» .entry)) (now («merge_last_columns» .entry)) (now («row_breaks» .entry)) (now («column_breaks» .entry)) in
-        call.Planned (call.planned sheet areas (now («row_runs» .entry)) (now («column_runs» .entry))) r
-        (now («row_runs» .entry)) (now («column_runs» .entry)) (now («row_runs» .exit)) (now («column_runs» .exit)))
-        ⌝ }
-    ensures covered { λ r. ⌜
-        (let sheet = call.sheetOf settings «row_title» «column_title» (now («row_indexes» .entry)) (now («row_sizes» .entry))
-        (now («column_indexes» .entry)) (now («column_sizes» .entry)) (now («merge_first_rows» .entry)) (now («merge_first_columns» .entry))
-        (now («merge_last_rows» .entry)) (now («merge_last_columns» .entry)) (now («row_breaks» .entry)) (now («column_breaks» .entry)) in
-        CoversPairs r sheet areas (now («row_runs» .exit)) (now («column_runs» .exit)))
-        ⌝ }
-    ensures fewest { λ r. ⌜
-        (let sheet = call.sheetOf settings «row_title» «column_title» (now («row_indexes» .entry)) (now («row_sizes» .entry))
-        (now («column_indexes» .entry)) (now («column_sizes» .entry)) (now («merge_first_rows» .entry)) (now («merge_first_columns» .entry))
-        (now («merge_last_rows» .entry)) (now («merge_last_columns» .entry)) (now («row_breaks» .entry)) (now («column_breaks» .entry)) in
-        FewestPlan r sheet areas (now («row_runs» .exit)) (now («column_runs» .exit)))
-        ⌝ }
-    ensures largest { λ r. ⌜
-        (let sheet = call.sheetOf settings «row_title» «column_title» (now («row_indexes» .entry)) (now («row_sizes» .entry))
-        (now («column_indexes» .entry)) (now («column_sizes» .entry)) (now («merge_first_rows» .entry)) (now («merge_first_columns» .entry))
-        (now («merge_last_rows» .entry)) (now («merge_last_columns» .entry)) (now («row_breaks» .entry)) (now («column_breaks» .entry)) in
-        LargestPlan r sheet areas)
-        ⌝ }
+    ensures planned { let sheet = call.sheet_of settings row_title column_title row_indexes.now row_sizes.now
+        column_indexes.now column_sizes.now merge_first_rows.now merge_first_columns.now
+        merge_last_rows.now merge_last_columns.now row_breaks.now column_breaks.now in
+        call.Planned (call.planned sheet areas row_runs.old column_runs.old) result
+        row_runs.old column_runs.old row_runs.new column_runs.new }
+    ensures covered { let sheet = call.sheet_of settings row_title column_title row_indexes.now row_sizes.now
+        column_indexes.now column_sizes.now merge_first_rows.now merge_first_columns.now
+        merge_last_rows.now merge_last_columns.now row_breaks.now column_breaks.now in
+        CoversPairs result sheet areas row_runs.new column_runs.new }
+    ensures fewest { let sheet = call.sheet_of settings row_title column_title row_indexes.now row_sizes.now
+        column_indexes.now column_sizes.now merge_first_rows.now merge_first_columns.now
+        merge_last_rows.now merge_last_columns.now row_breaks.now column_breaks.now in
+        FewestPlan result sheet areas row_runs.new column_runs.new }
+    ensures largest { let sheet = call.sheet_of settings row_title column_title row_indexes.now row_sizes.now
+        column_indexes.now column_sizes.now merge_first_rows.now merge_first_columns.now
+        merge_last_rows.now merge_last_columns.now row_breaks.now column_breaks.now in
+        LargestPlan result sheet areas }
 {
     let prepared = prepare(
         settings,
@@ -305,18 +274,14 @@ fn counted_plan(
     row_breaks: &[u32],
     column_breaks: &[u32],
 ) -> Planning
-    requires { ⌜
-        (let sheet = step.sheetBy shared (now «row_indexes») (now «row_sizes») (now «column_indexes») (now «column_sizes») (now «merge_first_rows»)
-        (now «merge_first_columns») (now «merge_last_rows») (now «merge_last_columns») (now «row_breaks») (now «column_breaks») in
-        step.Settled shared sheet)
-        ⌝ }
-    requires { ⌜ step.FineAreas areas ⌝ }
-    ensures { λ r. ⌜
-        (let sheet = step.sheetBy shared (now («row_indexes» .entry)) (now («row_sizes» .entry)) (now («column_indexes» .entry))
-        (now («column_sizes» .entry)) (now («merge_first_rows» .entry)) (now («merge_first_columns» .entry)) (now («merge_last_rows» .entry))
-        (now («merge_last_columns» .entry)) (now («row_breaks» .entry)) (now («column_breaks» .entry)) in
-        call.Counted (call.withinLimit sheet (call.layout (step.sidesIn shared) sheet (areasIn areas))) r)
-        ⌝ }
+    requires fact { let sheet = step.sheet_by shared row_indexes.now row_sizes.now column_indexes.now column_sizes.now merge_first_rows.now
+        merge_first_columns.now merge_last_rows.now merge_last_columns.now row_breaks.now column_breaks.now in
+        step.Settled shared sheet }
+    requires fine_areas { step.FineAreas areas }
+    ensures { let sheet = step.sheet_by shared row_indexes.now row_sizes.now column_indexes.now
+        column_sizes.now merge_first_rows.now merge_first_columns.now merge_last_rows.now
+        merge_last_columns.now row_breaks.now column_breaks.now in
+        call.Counted (call.within_limit sheet (call.layout (step.sides_in shared) sheet (areas_in areas))) result }
 {
     let settings = shared.settings;
     let counted = count_areas(
@@ -356,12 +321,10 @@ pub fn count_pages(
     row_breaks: &[u32],
     column_breaks: &[u32],
 ) -> Planning
-    ensures { λ r. ⌜
-        (let sheet = call.sheetOf settings «row_title» «column_title» (now («row_indexes» .entry)) (now («row_sizes» .entry))
-        (now («column_indexes» .entry)) (now («column_sizes» .entry)) (now («merge_first_rows» .entry)) (now («merge_first_columns» .entry))
-        (now («merge_last_rows» .entry)) (now («merge_last_columns» .entry)) (now («row_breaks» .entry)) (now («column_breaks» .entry)) in
-        call.Counted (call.counted sheet areas) r)
-        ⌝ }
+    ensures { let sheet = call.sheet_of settings row_title column_title row_indexes.now row_sizes.now
+        column_indexes.now column_sizes.now merge_first_rows.now merge_first_columns.now
+        merge_last_rows.now merge_last_columns.now row_breaks.now column_breaks.now in
+        call.Counted (call.counted sheet areas) result }
 {
     let prepared = prepare(
         settings,
@@ -414,20 +377,16 @@ fn write_range(
     row_runs: &mut [u64],
     column_runs: &mut [u64],
 ) -> Writing
-    requires { ⌜
-        (let sheet = step.sheetBy shared (now «row_indexes») (now «row_sizes») (now «column_indexes») (now «column_sizes») (now «merge_first_rows»)
-        (now «merge_first_columns») (now «merge_last_rows») (now «merge_last_columns») (now «row_breaks») (now «column_breaks») in
-        step.Settled shared sheet)
-        ⌝ }
-    requires { ⌜ step.FineArea range ⌝ }
-    ensures { λ r. ⌜
-        (let sheet = step.sheetBy shared (now («row_indexes» .entry)) (now («row_sizes» .entry)) (now («column_indexes» .entry))
-        (now («column_sizes» .entry)) (now («merge_first_rows» .entry)) (now («merge_first_columns» .entry)) (now («merge_last_rows» .entry))
-        (now («merge_last_columns» .entry)) (now («row_breaks» .entry)) (now («column_breaks» .entry)) in
-        let area = call.areaAt (step.sidesIn shared) (call.rowsIn sheet range) (call.columnsIn sheet range) (call.scaleAt permille) in
-        call.AreaWrote (call.areaRoom area (roomIn (now («row_runs» .entry))) (roomIn (now («column_runs» .entry)))) r
-        (now («row_runs» .entry)) (now («column_runs» .entry)) (now («row_runs» .exit)) (now («column_runs» .exit)))
-        ⌝ }
+    requires fact { let sheet = step.sheet_by shared row_indexes.now row_sizes.now column_indexes.now column_sizes.now merge_first_rows.now
+        merge_first_columns.now merge_last_rows.now merge_last_columns.now row_breaks.now column_breaks.now in
+        step.Settled shared sheet }
+    requires fine_area { step.FineArea range }
+    ensures { let sheet = step.sheet_by shared row_indexes.now row_sizes.now column_indexes.now
+        column_sizes.now merge_first_rows.now merge_first_columns.now merge_last_rows.now
+        merge_last_columns.now row_breaks.now column_breaks.now in
+        let area = call.area_at (step.sides_in shared) (call.rows_in sheet range) (call.columns_in sheet range) (call.scale_at permille) in
+        call.AreaWrote (call.area_room area (room_in row_runs.old) (room_in column_runs.old)) result
+        row_runs.old column_runs.old row_runs.new column_runs.new }
 {
     let settings = shared.settings;
     let ready = ready_area(shared, range, row_indexes, column_indexes);
@@ -501,19 +460,15 @@ fn write_numbered(
     row_runs: &mut [u64],
     column_runs: &mut [u64],
 ) -> Writing
-    requires { ⌜
-        (let sheet = step.sheetBy shared (now «row_indexes») (now «row_sizes») (now «column_indexes») (now «column_sizes») (now «merge_first_rows»)
-        (now «merge_first_columns») (now «merge_last_rows») (now «merge_last_columns») (now «row_breaks») (now «column_breaks») in
-        step.Settled shared sheet)
-        ⌝ }
-    requires { ⌜ step.FineAreas areas ⌝ }
-    ensures { λ r. ⌜
-        (let sheet = step.sheetBy shared (now («row_indexes» .entry)) (now («row_sizes» .entry)) (now («column_indexes» .entry))
-        (now («column_sizes» .entry)) (now («merge_first_rows» .entry)) (now («merge_first_columns» .entry)) (now («merge_last_rows» .entry))
-        (now («merge_last_columns» .entry)) (now («row_breaks» .entry)) (now («column_breaks» .entry)) in
-        call.AreaWrote (call.numberedArea (step.sidesIn shared) sheet areas number permille (now («row_runs» .entry)) (now («column_runs» .entry))) r
-        (now («row_runs» .entry)) (now («column_runs» .entry)) (now («row_runs» .exit)) (now («column_runs» .exit)))
-        ⌝ }
+    requires fact { let sheet = step.sheet_by shared row_indexes.now row_sizes.now column_indexes.now column_sizes.now merge_first_rows.now
+        merge_first_columns.now merge_last_rows.now merge_last_columns.now row_breaks.now column_breaks.now in
+        step.Settled shared sheet }
+    requires fine_areas { step.FineAreas areas }
+    ensures { let sheet = step.sheet_by shared row_indexes.now row_sizes.now column_indexes.now
+        column_sizes.now merge_first_rows.now merge_first_columns.now merge_last_rows.now
+        merge_last_columns.now row_breaks.now column_breaks.now in
+        call.AreaWrote (call.numbered_area (step.sides_in shared) sheet areas number permille row_runs.old column_runs.old) result
+        row_runs.old column_runs.old row_runs.new column_runs.new }
 {
     if permille == 0 {
         return Writing::Refused(10);
@@ -565,13 +520,11 @@ pub fn write_area(
     row_runs: &mut [u64],
     column_runs: &mut [u64],
 ) -> Writing
-    ensures { λ r. ⌜
-        (let sheet = call.sheetOf settings «row_title» «column_title» (now («row_indexes» .entry)) (now («row_sizes» .entry))
-        (now («column_indexes» .entry)) (now («column_sizes» .entry)) (now («merge_first_rows» .entry)) (now («merge_first_columns» .entry))
-        (now («merge_last_rows» .entry)) (now («merge_last_columns» .entry)) (now («row_breaks» .entry)) (now («column_breaks» .entry)) in
-        call.AreaWrote (call.areaWritten sheet areas number permille (now («row_runs» .entry)) (now («column_runs» .entry))) r
-        (now («row_runs» .entry)) (now («column_runs» .entry)) (now («row_runs» .exit)) (now («column_runs» .exit)))
-        ⌝ }
+    ensures { let sheet = call.sheet_of settings row_title column_title row_indexes.now row_sizes.now
+        column_indexes.now column_sizes.now merge_first_rows.now merge_first_columns.now
+        merge_last_rows.now merge_last_columns.now row_breaks.now column_breaks.now in
+        call.AreaWrote (call.area_written sheet areas number permille row_runs.old column_runs.old) result
+        row_runs.old column_runs.old row_runs.new column_runs.new }
 {
     let prepared = prepare(
         settings,

@@ -1,37 +1,21 @@
 // Where the slots of an axis are cut into runs: document 01, section "Runs".
-use crate::filling::Filling;
-use crate::filling::natural_fill;
-use crate::filling::total;
-use crate::places::moved_cut;
-use crate::places::place_of;
-use crate::scale::excess;
-use crate::scale::run_fits;
+ghost use Rattle.std.specs.Prelude.{◌≡◌, false, [], ◌∷◌, ◌++◌, ◌+◌, ◌≤◌, ◌<◌, length, take, drop};
+ghost use Rattle.planner_rules.specs.Slots.{Small, Rising, Slots, sum, below, written};
+ghost use Rattle.planner_rules.specs.Runs.{filled, resumed, resumption, taken, merged, ends, run_end, runs, expansions, first_marked};
+ghost use Rattle.planner_rules.specs.Runs.{placed, next_cut, stretch, axis_runs, axis_tally};
+ghost use Rattle.planner_rules.specs.Lent.{Room, Written, RoomAt, WrittenAt, flat};
+ghost use Rattle.planner_rules.specs.Scale.{space_of, Low};
+ghost use Rattle.planner_rules.specs.Pages.{or_empty, overflowing};
+
+use crate::filling::{Filling, natural_fill, total};
+use crate::places::{moved_cut, place_of};
+use crate::scale::{excess, run_fits};
 use planner_compare::wide;
-use planner_cuts::capacity_for;
-use planner_cuts::holding_merge;
-use planner_cuts::mark_of;
-use planner_cuts::merge_step;
-use planner_cuts::title_holds;
-use planner_rules::Cut;
-use planner_rules::Frame;
-use planner_rules::PageSide;
-use planner_rules::RUN_NUMBERS;
-use planner_rules::RunEnd;
-use planner_rules::Tally;
-use planner_rules::Title;
-ghost use mathlib.Core.Path.{_≡_};
-ghost use mathlib.Core.Bool.{false};
-ghost use mathlib.Core.List.{[], _∷_, _++_};
-ghost use Prim.Native.Nat.{_+_, _≤_, _<_};
-ghost use lib.ListN.{length, take, drop};
-ghost use Rattle·planner_rules.specs.Slots.{Small, Rising, Slots, sum, below, written};
-ghost use Rattle·planner_rules.specs.Runs.{filled, resumed, resumption, taken, merged, ends, runEnd, runs, expansions, firstMarked};
-ghost use Rattle·planner_rules.specs.Runs.{placed, nextCut, stretch, axisRuns, axisTally};
-ghost use Rattle·planner_rules.specs.Lent.{Room, Written, RoomAt, WrittenAt, flat};
-ghost use Rattle·planner_rules.specs.Scale.{spaceOf, Low};
-ghost use Rattle·planner_rules.specs.Pages.{orEmpty, overflowing};
+use planner_cuts::{capacity_for, holding_merge, mark_of, merge_step, title_holds};
+use planner_rules::{Cut, Frame, PageSide, RUN_NUMBERS, RunEnd, Tally, Title};
 
 // Where a run ends: how many slots it has, 1 where a merge took it further, and its size.
+#[derive(Drop)]
 pub(crate) struct Reach {
     pub slots: usize,
     pub grown: u64,
@@ -39,6 +23,7 @@ pub(crate) struct Reach {
 }
 
 // How many runs a stretch has, and how many of them a merge took further and exceed their page.
+#[derive(Drop)]
 struct Counted {
     runs: usize,
     grown: u64,
@@ -46,6 +31,7 @@ struct Counted {
 }
 
 // What an axis comes to, and how many of its runs exceed their page.
+#[derive(Drop)]
 pub(crate) struct AxisCount {
     pub tally: Tally,
     pub overflows: u64,
@@ -53,10 +39,10 @@ pub(crate) struct AxisCount {
 
 // How many slots are taken on from a boundary that the title holds.
 fn resumed_fill(indexes: &[u32], sizes: &[u64], capacity: u64, last: u32) -> usize
-    requires { ⌜ Slots (now indexes) (now sizes) ⌝ }
-    requires { ⌜ 0 < length (now sizes) ⌝ }
-    ensures { λ r. ⌜ r ≡ resumed capacity last (now (indexes .entry)) (now (sizes .entry)) ⌝ }
-    ensures { λ r. ⌜ r ≤ length (now (sizes .entry)) ⌝ }
+    requires slots { Slots indexes.now sizes.now }
+    requires sizes_nonzero { 0 < length sizes.now }
+    ensures value { result ≡ resumed capacity last indexes.now sizes.now }
+    ensures upper_bound { result ≤ length sizes.now }
 {
     let mut sum = sizes[0];
     let mut n = 1;
@@ -79,10 +65,10 @@ fn resumed_fill(indexes: &[u32], sizes: &[u64], capacity: u64, last: u32) -> usi
 
 // How many slots a run has after the title's resumption, where filling gave n and slots remain.
 fn title_end(title: Title, capacity: u64, indexes: &[u32], sizes: &[u64], n: usize) -> usize
-    requires { ⌜ Slots (now indexes) (now sizes) ⌝ }
-    requires { ⌜ n < length (now sizes) ⌝ }
-    ensures { λ r. ⌜ r ≡ resumption title capacity n (now (indexes .entry)) (now (sizes .entry)) ⌝ }
-    ensures { λ r. ⌜ (n ≤ r) × (r ≤ length (now (sizes .entry))) ⌝ }
+    requires slots { Slots indexes.now sizes.now }
+    requires n_in_bounds { n < length sizes.now }
+    ensures value { result ≡ resumption title capacity n indexes.now sizes.now }
+    ensures lower_bound { (n ≤ result) × (result ≤ length sizes.now) }
 {
     let Title::Pair(first, last) = title else {
         return n;
@@ -98,10 +84,10 @@ fn title_end(title: Title, capacity: u64, indexes: &[u32], sizes: &[u64], n: usi
 
 // How many slots a run has after the title's resumption, where filling gave n.
 fn taken_slots(k: Frame, indexes: &[u32], sizes: &[u64], n: usize) -> usize
-    requires { ⌜ Slots (now indexes) (now sizes) ⌝ }
-    requires { ⌜ (n ≡ filled k (now indexes) (now sizes)) × (n ≤ length (now sizes)) ⌝ }
-    ensures { λ r. ⌜ r ≡ taken k (now (indexes .entry)) (now (sizes .entry)) ⌝ }
-    ensures { λ r. ⌜ (n ≤ r) × (r ≤ length (now (sizes .entry))) ⌝ }
+    requires slots { Slots indexes.now sizes.now }
+    requires n_value { (n ≡ filled k indexes.now sizes.now) × (n ≤ length sizes.now) }
+    ensures value { result ≡ taken k indexes.now sizes.now }
+    ensures lower_bound { (n ≤ result) × (result ≤ length sizes.now) }
 {
     if n >= indexes.len() {
         return n;
@@ -113,7 +99,7 @@ fn taken_slots(k: Frame, indexes: &[u32], sizes: &[u64], n: usize) -> usize
 
 // The end of a run that filling and the title gave n slots.
 fn merged_end(indexes: &[u32], n: usize, firsts: &[u32], lasts: &[u32], lo: u32, hi: u32) -> RunEnd
-    ensures { λ r. ⌜ r ≡ merged lo hi (now (firsts .entry)) (now (lasts .entry)) n (now (indexes .entry)) ⌝ }
+    ensures { result ≡ merged lo hi firsts.now lasts.now n indexes.now }
 {
     if n >= indexes.len() {
         return RunEnd { slots: n, grown: 0 };
@@ -124,9 +110,9 @@ fn merged_end(indexes: &[u32], n: usize, firsts: &[u32], lasts: &[u32], lo: u32,
 
 // The size of the first n slots, which are often as many as filling took.
 fn size_of(sizes: &[u64], n: usize, filling: Filling) -> u64
-    requires { ⌜ Small (now sizes) ⌝ }
-    requires { ⌜ (n ≤ length (now sizes)) × (filling .sum ≡ sum (take (filling .slots) (now sizes))) ⌝ }
-    ensures { λ r. ⌜ r ≡ sum (take n (now (sizes .entry))) ⌝ }
+    requires small { Small sizes.now }
+    requires n_in_bounds { (n ≤ length sizes.now) × (filling.sum ≡ sum (take filling.slots sizes.now)) }
+    ensures { result ≡ sum (take n sizes.now) }
 {
     if n == filling.slots {
         return filling.sum;
@@ -142,13 +128,11 @@ pub(crate) fn run_end(
     indexes: &[u32],
     sizes: &[u64],
 ) -> Reach
-    requires { ⌜ Slots (now indexes) (now sizes) ⌝ }
-    requires { ⌜ 0 < length (now sizes) ⌝ }
-    ensures { λ r. ⌜
-        (ends (r .slots) (r .grown) ≡ runEnd k (now (firsts .entry)) (now (lasts .entry)) (now (indexes .entry)) (now (sizes .entry)))
-        × (r .size ≡ sum (take (r .slots) (now (sizes .entry))))
-        ⌝ }
-    ensures { λ r. ⌜ (1 ≤ r .slots) × (r .slots ≤ length (now (sizes .entry))) × (r .grown ≤ 1) ⌝ }
+    requires slots { Slots indexes.now sizes.now }
+    requires sizes_nonzero { 0 < length sizes.now }
+    ensures grown_value { (ends result.slots result.grown ≡ run_end k firsts.now lasts.now indexes.now sizes.now)
+        × (result.size ≡ sum (take result.slots sizes.now)) }
+    ensures le_slots { (1 ≤ result.slots) × (result.slots ≤ length sizes.now) × (result.grown ≤ 1) }
 {
     let capacity = capacity_for(k, indexes[0]);
     let filling = natural_fill(sizes, capacity);
@@ -174,13 +158,11 @@ fn count_runs(
     indexes: &[u32],
     sizes: &[u64],
 ) -> Counted
-    requires { ⌜ Low page ⌝ }
-    requires { ⌜ Slots (now indexes) (now sizes) ⌝ }
-    ensures { λ r. ⌜
-        (let rs = runs k (now (mfirsts .entry)) (now (mlasts .entry)) (now (indexes .entry)) (now (sizes .entry)) in
-        (r .runs ≡ length rs) × (r .grown ≡ expansions rs) × (r .overflows ≡ overflowing (spaceOf page) (k .title) permille false rs))
-        ⌝ }
-    ensures { λ r. ⌜ (let n = length (now (sizes .entry)) in (r .runs ≤ n) × (r .grown ≤ n) × (r .overflows ≤ n)) ⌝ }
+    requires low { Low page }
+    requires slots { Slots indexes.now sizes.now }
+    ensures fact { let rs = runs k mfirsts.now mlasts.now indexes.now sizes.now in
+        (result.runs ≡ length rs) × (result.grown ≡ expansions rs) × (result.overflows ≡ overflowing (space_of page) k.title permille false rs) }
+    ensures fact_2 { let n = length sizes.now in (result.runs ≤ n) × (result.grown ≤ n) × (result.overflows ≤ n) }
 {
     let title = k.title;
     let mut is = indexes;
@@ -206,11 +188,9 @@ fn count_runs(
 
 // Writes the numbers of a run to a lent list, from `at` on, and returns the place after them.
 fn put_run(list: &mut [u64], at: usize, first: u32, last: u32, size: u64, mark: u64) -> usize
-    requires { ⌜ at + 4 ≤ length (now list) ⌝ }
-    ensures { λ r. ⌜ r ≡ at + 4 ⌝ }
-    ensures { λ _. ⌜
-        now (list .exit) ≡ take at (now (list .entry)) ++ written (first ∷ last ∷ size ∷ mark ∷ []) (drop at (now (list .entry)))
-        ⌝ }
+    requires { at + 4 ≤ length list.old }
+    ensures value { result ≡ at + 4 }
+    ensures list_after { list.new ≡ take at list.old ++ written (first ∷ last ∷ size ∷ mark ∷ []) (drop at list.old) }
 {
     list[at] = wide(first);
     list[at + 1] = wide(last);
@@ -221,8 +201,8 @@ fn put_run(list: &mut [u64], at: usize, first: u32, last: u32, size: u64, mark: 
 
 // Writes the run of an axis without slots to the front of a lent list: at the range's first, size 0.
 pub(crate) fn write_empty(first: u32, list: &mut [u64])
-    requires { ⌜ Room (orEmpty first []) (now list) ⌝ }
-    ensures { λ _. ⌜ now (list .exit) ≡ written (flat (orEmpty first [])) (now (list .entry)) ⌝ }
+    requires { Room (or_empty first []) list.old }
+    ensures { list.new ≡ written (flat (or_empty first [])) list.old }
 {
     put_run(list, 0, first, first, 0, 0);
 }
@@ -237,12 +217,10 @@ fn write_runs(
     mark: u64,
     list: &mut [u64],
 ) -> usize
-    requires { ⌜ Slots (now indexes) (now sizes) ⌝ }
-    requires { ⌜ Room (firstMarked mark (runs k (now mfirsts) (now mlasts) (now indexes) (now sizes))) (now list) ⌝ }
-    ensures { λ r. ⌜
-        Written (firstMarked mark (runs k (now (mfirsts .entry)) (now (mlasts .entry)) (now (indexes .entry)) (now (sizes .entry))))
-        r (now (list .entry)) (now (list .exit))
-        ⌝ }
+    requires slots { Slots indexes.now sizes.now }
+    requires room { Room (first_marked mark (runs k mfirsts.now mlasts.now indexes.now sizes.now)) list.old }
+    ensures { Written (first_marked mark (runs k mfirsts.now mlasts.now indexes.now sizes.now))
+        result list.old list.new }
 {
     let mut is = indexes;
     let mut ss = sizes;
@@ -268,8 +246,8 @@ fn placed_cut(
     prev: usize,
     p: usize,
 ) -> Cut
-    requires { ⌜ Rising (now indexes) ⌝ }
-    ensures { λ r. ⌜ r ≡ placed k (now (mfirsts .entry)) (now (mlasts .entry)) (now (indexes .entry)) prev p ⌝ }
+    requires { Rising indexes.now }
+    ensures { result ≡ placed k mfirsts.now mlasts.now indexes.now prev p }
 {
     if p == 0 {
         return Cut {
@@ -299,9 +277,9 @@ fn placed_cut(
 
 // How many slots have an index below the break b, which often stands right past the last kept cut.
 fn break_place(indexes: &[u32], prev: usize, b: u32) -> usize
-    requires { ⌜ Rising (now indexes) ⌝ }
-    requires { ⌜ prev ≤ length (now indexes) ⌝ }
-    ensures { λ r. ⌜ r ≡ below b (now (indexes .entry)) ⌝ }
+    requires rising { Rising indexes.now }
+    requires prev_in_bounds { prev ≤ length indexes.now }
+    ensures { result ≡ below b indexes.now }
 {
     let next = prev + 1;
     if next < indexes.len() {
@@ -316,10 +294,10 @@ fn break_place(indexes: &[u32], prev: usize, b: u32) -> usize
 
 // The last kept cut after the break b. Where no merge can move it, a break that is not past the last kept cut is not searched for.
 fn next_cut(k: Frame, mfirsts: &[u32], mlasts: &[u32], indexes: &[u32], prev: usize, b: u32) -> Cut
-    requires { ⌜ Rising (now indexes) ⌝ }
-    requires { ⌜ prev ≤ length (now indexes) ⌝ }
-    ensures { λ r. ⌜ r ≡ nextCut k (now (mfirsts .entry)) (now (mlasts .entry)) (now (indexes .entry)) prev b ⌝ }
-    ensures { λ r. ⌜ (prev ≤ r .place) × (r .place ≤ length (now (indexes .entry))) × (r .shifted ≤ 1) ⌝ }
+    requires rising { Rising indexes.now }
+    requires prev_in_bounds { prev ≤ length indexes.now }
+    ensures value { result ≡ next_cut k mfirsts.now mlasts.now indexes.now prev b }
+    ensures prev_le_place { (prev ≤ result.place) × (result.place ≤ length indexes.now) × (result.shifted ≤ 1) }
 {
     if mfirsts.len() == 0 {
         if prev < indexes.len() {
@@ -357,21 +335,17 @@ pub(crate) fn count_axis(
     indexes: &[u32],
     sizes: &[u64],
 ) -> AxisCount
-    requires { ⌜ Low page ⌝ }
-    requires { ⌜ Slots (now indexes) (now sizes) ⌝ }
-    ensures { λ r. ⌜
-        (let firsts = now (mfirsts .entry) in
-        let lasts = now (mlasts .entry) in
-        let is = now (indexes .entry) in
-        let ss = now (sizes .entry) in
-        let bs = now (breaks .entry) in
-        (r .tally ≡ axisTally k firsts lasts is ss bs)
-        × (r .overflows ≡ overflowing (spaceOf page) (k .title) permille false (axisRuns k firsts lasts is ss 0 bs)))
-        ⌝ }
-    ensures { λ r. ⌜
-        (let n = length (now (sizes .entry)) in
-        (r .tally .runs ≤ n) × (r .tally .expansions ≤ n) × (r .tally .shifts ≤ length (now (breaks .entry))) × (r .overflows ≤ n))
-        ⌝ }
+    requires low { Low page }
+    requires slots { Slots indexes.now sizes.now }
+    ensures fact { let firsts = mfirsts.now in
+        let lasts = mlasts.now in
+        let is = indexes.now in
+        let ss = sizes.now in
+        let bs = breaks.now in
+        (result.tally ≡ axis_tally k firsts lasts is ss bs)
+        × (result.overflows ≡ overflowing (space_of page) k.title permille false (axis_runs k firsts lasts is ss 0 bs)) }
+    ensures fact_2 { let n = length sizes.now in
+        (result.tally.runs ≤ n) × (result.tally.expansions ≤ n) × (result.tally.shifts ≤ length breaks.now) × (result.overflows ≤ n) }
 {
     let end = sizes.len();
     let mut prev = 0;
@@ -430,13 +404,11 @@ fn write_stretch(
     at: usize,
     list: &mut [u64],
 ) -> usize
-    requires { ⌜ Slots (now indexes) (now sizes) ⌝ }
-    requires { ⌜ (a ≤ e) × (e ≤ length (now sizes)) ⌝ }
-    requires { ⌜ RoomAt (stretch k (now mfirsts) (now mlasts) (now indexes) (now sizes) a e) at (now list) ⌝ }
-    ensures { λ r. ⌜
-        WrittenAt (stretch k (now (mfirsts .entry)) (now (mlasts .entry)) (now (indexes .entry)) (now (sizes .entry)) a e) at r
-        (now (list .entry)) (now (list .exit))
-        ⌝ }
+    requires slots { Slots indexes.now sizes.now }
+    requires a_le_e { (a ≤ e) × (e ≤ length sizes.now) }
+    requires room_at { RoomAt (stretch k mfirsts.now mlasts.now indexes.now sizes.now a e) at list.old }
+    ensures { WrittenAt (stretch k mfirsts.now mlasts.now indexes.now sizes.now a e) at result
+        list.old list.new }
 {
     write_runs(
         k,
@@ -459,14 +431,12 @@ pub(crate) fn write_axis(
     sizes: &[u64],
     list: &mut [u64],
 ) -> usize
-    requires { ⌜ Slots (now indexes) (now sizes) ⌝ }
-    requires { ⌜ Room (axisRuns k (now mfirsts) (now mlasts) (now indexes) (now sizes) 0 (now breaks)) (now list) ⌝ }
-    ensures { λ r. ⌜
-        Written
-        (axisRuns k (now (mfirsts .entry)) (now (mlasts .entry)) (now (indexes .entry)) (now (sizes .entry)) 0
-        (now (breaks .entry)))
-        r (now (list .entry)) (now (list .exit))
-        ⌝ }
+    requires slots { Slots indexes.now sizes.now }
+    requires room { Room (axis_runs k mfirsts.now mlasts.now indexes.now sizes.now 0 breaks.now) list.old }
+    ensures { Written
+        (axis_runs k mfirsts.now mlasts.now indexes.now sizes.now 0
+        breaks.now)
+        result list.old list.new }
 {
     let end = sizes.len();
     let mut prev = 0;

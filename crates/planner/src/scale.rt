@@ -1,29 +1,20 @@
 // How large a worksheet is printed: document 01, section "Scale".
+ghost use Rattle.std.specs.Prelude.{◌≡◌, false, cond, ◌&&◌, ◌+◌, ◌≤◌, ◌^◌, pos, length};
+ghost use Rattle.planner_rules.specs.Slots.{Slots};
+ghost use Rattle.planner_rules.specs.Runs.{runs};
+ghost use Rattle.planner_rules.specs.Scale.{capacity_of, fits_side, all_fit, meets, halve, fit_scale, space_of, scale_of, titled, Low, fit_passes, Fitted};
+ghost use Rattle.planner_rules.specs.Plan.{ready_frame};
+ghost use Rattle.planner_rules.specs.Scale as section;
+
 use crate::runs::run_end;
-use planner_rules::ChosenScale;
-use planner_rules::Fit;
-use planner_rules::Frame;
-use planner_rules::PageSide;
-use planner_rules::Title;
-use planner_setup::meets_target;
-use planner_setup::middle_of;
-use units::Fixed;
-use units::Length;
-ghost use mathlib.Core.Path.{_≡_};
-ghost use mathlib.Core.Bool.{false, cond, _&&_};
-ghost use Prim.Native.Nat.{_+_, _≤_, _^_};
-ghost use lib.IntN.{pos};
-ghost use lib.ListN.{length};
-ghost use Rattle·planner_rules.specs.Slots.{Slots};
-ghost use Rattle·planner_rules.specs.Runs.{runs};
-ghost use Rattle·planner_rules.specs.Scale.{capacityOf, fitsSide, allFit, meets, halve, fitScale, spaceOf, scaleOf, titled, Low, fitPasses, Fitted};
-ghost use Rattle·planner_rules.specs.Plan.{readyFrame};
-ghost use Rattle·planner_rules.specs.Scale as section;
+use planner_rules::{ChosenScale, Fit, Frame, PageSide, Title};
+use planner_setup::{meets_target, middle_of};
+use units::{Fixed, Length};
 
 // So many units as a length. No titles, and no headings, are `Fixed::ZERO`, as in the Rust.
 fn length_of(n: u64) -> Fixed
-    requires { ⌜ n ≤ 2 ^ 53 ⌝ }
-    ensures { λ r. ⌜ r .0 ≡ pos n ⌝ }
+    requires { n ≤ 2 ^ 53 }
+    ensures { result.0 ≡ pos n }
 {
     if n == 0 {
         return Fixed::ZERO;
@@ -33,9 +24,9 @@ fn length_of(n: u64) -> Fixed
 
 // The capacity at a permille beside so many units of titles.
 fn capacity_at(page: PageSide, permille: u16, titles: u64) -> u64
-    requires { ⌜ Low page ⌝ }
-    requires { ⌜ titles ≤ 2 ^ 50 ⌝ }
-    ensures { λ r. ⌜ r ≡ capacityOf (spaceOf page) permille titles ⌝ }
+    requires low { Low page }
+    requires titles_bound { titles ≤ 2 ^ 50 }
+    ensures { result ≡ capacity_of (space_of page) permille titles }
 {
     let side = page.side;
     let answer = units::unscaled_capacity(
@@ -52,8 +43,8 @@ fn capacity_at(page: PageSide, permille: u16, titles: u64) -> u64
 
 // Whether a size, scaled and rounded, is at most the side.
 fn fits_side(page: PageSide, permille: u16, size: u64) -> bool
-    requires { ⌜ size ≤ 2 ^ 53 ⌝ }
-    ensures { λ r. ⌜ r ≡ fitsSide (spaceOf page) permille size ⌝ }
+    requires { size ≤ 2 ^ 53 }
+    ensures { result ≡ fits_side (space_of page) permille size }
 {
     let answer = units::scale_fixed(length_of(size), permille);
     match answer {
@@ -64,10 +55,10 @@ fn fits_side(page: PageSide, permille: u16, size: u64) -> bool
 
 // What a run takes of a page: its size and the headings, and the titles where it lies past the title.
 fn printed(page: PageSide, title: Title, first: u32, size: u64) -> u64
-    requires { ⌜ Low page ⌝ }
-    requires { ⌜ size ≤ 2 ^ 50 ⌝ }
-    ensures { λ r. ⌜ r ≡ section.printed (spaceOf page) title false first size ⌝ }
-    ensures { λ r. ⌜ r ≤ 2 ^ 53 ⌝ }
+    requires low { Low page }
+    requires size_bound { size ≤ 2 ^ 50 }
+    ensures value { result ≡ section.printed (space_of page) title false first size }
+    ensures upper_bound { result ≤ 2 ^ 53 }
 {
     let Title::Pair(_, last) = title else {
         return size + page.headings;
@@ -80,9 +71,9 @@ fn printed(page: PageSide, title: Title, first: u32, size: u64) -> u64
 
 // Whether a run that has slots is at most the side.
 pub(crate) fn run_fits(page: PageSide, title: Title, permille: u16, first: u32, size: u64) -> bool
-    requires { ⌜ Low page ⌝ }
-    requires { ⌜ size ≤ 2 ^ 50 ⌝ }
-    ensures { λ r. ⌜ r ≡ fitsSide (spaceOf page) permille (section.printed (spaceOf page) title false first size) ⌝ }
+    requires low { Low page }
+    requires size_bound { size ≤ 2 ^ 50 }
+    ensures { result ≡ fits_side (space_of page) permille (section.printed (space_of page) title false first size) }
 {
     let whole = printed(page, title, first, size);
     fits_side(page, permille, whole)
@@ -90,24 +81,24 @@ pub(crate) fn run_fits(page: PageSide, title: Title, permille: u16, first: u32, 
 
 // Whether the run of an axis without slots is: titles plus headings.
 pub(crate) fn empty_fits(page: PageSide, permille: u16) -> bool
-    requires { ⌜ Low page ⌝ }
-    ensures { λ r. ⌜ r ≡ fitsSide (spaceOf page) permille (page .titles + page .headings) ⌝ }
+    requires { Low page }
+    ensures { result ≡ fits_side (space_of page) permille (page.titles + page.headings) }
 {
     fits_side(page, permille, page.titles + page.headings)
 }
 
 // How many runs one that fits, or does not, adds to those that overflow.
 pub(crate) fn excess(fits: bool) -> u64
-    ensures { λ r. ⌜ r ≡ cond fits 0 1 ⌝ }
-    ensures { λ r. ⌜ r ≤ 1 ⌝ }
+    ensures value { result ≡ cond fits 0 1 }
+    ensures upper_bound { result ≤ 1 }
 {
     if fits { 0 } else { 1 }
 }
 
 // What the runs of an axis go by at a permille.
 pub(crate) fn frame_at(fit: Fit, permille: u16) -> Frame
-    requires { ⌜ Low (fit .page) ⌝ }
-    ensures { λ r. ⌜ r ≡ readyFrame fit permille ⌝ }
+    requires { Low fit.page }
+    ensures { result ≡ ready_frame fit permille }
 {
     let page = fit.page;
     let stretch = fit.stretch;
@@ -132,12 +123,10 @@ fn runs_pass(
     indexes: &[u32],
     sizes: &[u64],
 ) -> bool
-    requires { ⌜ Low page ⌝ }
-    requires { ⌜ Slots (now indexes) (now sizes) ⌝ }
-    ensures { λ r. ⌜
-        (let rs = runs frame (now (mfirsts .entry)) (now (mlasts .entry)) (now (indexes .entry)) (now (sizes .entry)) in
-        r ≡ allFit (spaceOf page) (titled (frame .title)) permille rs && meets target (length rs))
-        ⌝ }
+    requires low { Low page }
+    requires slots { Slots indexes.now sizes.now }
+    ensures { let rs = runs frame mfirsts.now mlasts.now indexes.now sizes.now in
+        result ≡ all_fit (space_of page) (titled frame.title) permille rs && meets target (length rs) }
 {
     let title = frame.title;
     let mut is = indexes;
@@ -168,8 +157,8 @@ fn fit_passes(
     indexes: &[u32],
     sizes: &[u64],
 ) -> bool
-    requires { ⌜ Fitted fit (now indexes) (now sizes) ⌝ }
-    ensures { λ r. ⌜ r ≡ fitPasses fit (now (mfirsts .entry)) (now (mlasts .entry)) (now (indexes .entry)) (now (sizes .entry)) permille ⌝ }
+    requires { Fitted fit indexes.now sizes.now }
+    ensures { result ≡ fit_passes fit mfirsts.now mlasts.now indexes.now sizes.now permille }
 {
     let page = fit.page;
     if sizes.len() == 0 {
@@ -177,14 +166,7 @@ fn fit_passes(
     }
     let frame = frame_at(fit, permille);
     runs_pass(
-        page,
-        frame,
-        fit.target,
-        permille,
-        mfirsts,
-        mlasts,
-        indexes,
-        sizes,
+        page, frame, fit.target, permille, mfirsts, mlasts, indexes, sizes,
     )
 }
 
@@ -202,12 +184,10 @@ fn both_pass(
     cindexes: &[u32],
     csizes: &[u64],
 ) -> bool
-    requires { ⌜ Fitted rows (now rindexes) (now rsizes) ⌝ }
-    requires { ⌜ Fitted columns (now cindexes) (now csizes) ⌝ }
-    ensures { λ r. ⌜
-        r ≡ fitPasses rows (now (rfirsts .entry)) (now (rlasts .entry)) (now (rindexes .entry)) (now (rsizes .entry)) permille &&
-        fitPasses columns (now (cfirsts .entry)) (now (clasts .entry)) (now (cindexes .entry)) (now (csizes .entry)) permille
-        ⌝ }
+    requires fitted { Fitted rows rindexes.now rsizes.now }
+    requires fitted_2 { Fitted columns cindexes.now csizes.now }
+    ensures { result ≡ fit_passes rows rfirsts.now rlasts.now rindexes.now rsizes.now permille &&
+        fit_passes columns cfirsts.now clasts.now cindexes.now csizes.now permille }
 {
     if !fit_passes(rows, permille, rfirsts, rlasts, rindexes, rsizes) {
         return false;
@@ -228,30 +208,19 @@ fn halved_permille(
     cindexes: &[u32],
     csizes: &[u64],
 ) -> u16
-    requires { ⌜ Fitted rows (now rindexes) (now rsizes) ⌝ }
-    requires { ⌜ Fitted columns (now cindexes) (now csizes) ⌝ }
-    ensures { λ r. ⌜
-        r ≡ halve
-        (λ p. fitPasses rows (now (rfirsts .entry)) (now (rlasts .entry)) (now (rindexes .entry)) (now (rsizes .entry)) p &&
-        fitPasses columns (now (cfirsts .entry)) (now (clasts .entry)) (now (cindexes .entry)) (now (csizes .entry)) p)
-        10 100 1000
-        ⌝ }
+    requires fitted { Fitted rows rindexes.now rsizes.now }
+    requires fitted_2 { Fitted columns cindexes.now csizes.now }
+    ensures { result ≡ halve
+        (λ p. fit_passes rows rfirsts.now rlasts.now rindexes.now rsizes.now p &&
+        fit_passes columns cfirsts.now clasts.now cindexes.now csizes.now p)
+        10 100 1000 }
 {
     let mut low: u16 = 100;
     let mut high: u16 = 1000;
     while low < high {
         let middle = middle_of(low, high);
         if both_pass(
-            rows,
-            columns,
-            middle,
-            rfirsts,
-            rlasts,
-            rindexes,
-            rsizes,
-            cfirsts,
-            clasts,
-            cindexes,
+            rows, columns, middle, rfirsts, rlasts, rindexes, rsizes, cfirsts, clasts, cindexes,
             csizes,
         ) {
             low = middle;
@@ -275,26 +244,14 @@ pub(crate) fn fit_scale(
     cindexes: &[u32],
     csizes: &[u64],
 ) -> ChosenScale
-    requires { ⌜ Fitted rows (now rindexes) (now rsizes) ⌝ }
-    requires { ⌜ Fitted columns (now cindexes) (now csizes) ⌝ }
-    ensures { λ r. ⌜
-        scaleOf r ≡ fitScale
-        (λ p. fitPasses rows (now (rfirsts .entry)) (now (rlasts .entry)) (now (rindexes .entry)) (now (rsizes .entry)) p &&
-        fitPasses columns (now (cfirsts .entry)) (now (clasts .entry)) (now (cindexes .entry)) (now (csizes .entry)) p)
-        ⌝ }
+    requires fitted { Fitted rows rindexes.now rsizes.now }
+    requires fitted_2 { Fitted columns cindexes.now csizes.now }
+    ensures { scale_of result ≡ fit_scale
+        (λ p. fit_passes rows rfirsts.now rlasts.now rindexes.now rsizes.now p &&
+        fit_passes columns cfirsts.now clasts.now cindexes.now csizes.now p) }
 {
     if !both_pass(
-        rows,
-        columns,
-        100,
-        rfirsts,
-        rlasts,
-        rindexes,
-        rsizes,
-        cfirsts,
-        clasts,
-        cindexes,
-        csizes,
+        rows, columns, 100, rfirsts, rlasts, rindexes, rsizes, cfirsts, clasts, cindexes, csizes,
     ) {
         return ChosenScale {
             permille: 100,
@@ -304,16 +261,7 @@ pub(crate) fn fit_scale(
     }
     ChosenScale {
         permille: halved_permille(
-            rows,
-            columns,
-            rfirsts,
-            rlasts,
-            rindexes,
-            rsizes,
-            cfirsts,
-            clasts,
-            cindexes,
-            csizes,
+            rows, columns, rfirsts, rlasts, rindexes, rsizes, cfirsts, clasts, cindexes, csizes,
         ),
         clamp: 0,
         unreachable: 0,

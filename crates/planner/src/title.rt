@@ -1,21 +1,20 @@
 // What a title takes of a page: document 01, section "Titles".
+ghost use Rattle.std.specs.Prelude.{◌≡◌, true};
+ghost use Rattle.planner_rules.specs.Slots.{Slots};
+ghost use Rattle.planner_rules.specs.Questions.{all_within};
+ghost use Rattle.planner_rules.specs.Titles.{title_total};
+ghost use Rattle.planner_rules.specs.Steps.{TitleReady};
+
 use crate::filling::total;
 use crate::places::place_of;
 use planner_compare::wide;
-use planner_rules::ReadyTitle;
-use planner_rules::Title;
+use planner_rules::{ReadyTitle, Title};
 use planner_titles::widened_title;
-ghost use mathlib.Core.Path.{_≡_};
-ghost use mathlib.Core.Bool.{true};
-ghost use Rattle·planner_rules.specs.Slots.{Slots};
-ghost use Rattle·planner_rules.specs.Questions.{allWithin};
-ghost use Rattle·planner_rules.specs.Titles.{titleTotal};
-ghost use Rattle·planner_rules.specs.Steps.{TitleReady};
 
 // The sum of the measured slots in the title.
 pub(crate) fn title_total(title: Title, indexes: &[u32], sizes: &[u64]) -> u64
-    requires { ⌜ Slots (now indexes) (now sizes) ⌝ }
-    ensures { λ r. ⌜ r ≡ titleTotal title (now (indexes .entry)) (now (sizes .entry)) ⌝ }
+    requires { Slots indexes.now sizes.now }
+    ensures { result ≡ title_total title indexes.now sizes.now }
 {
     let Title::Pair(first, last) = title else {
         return 0;
@@ -37,12 +36,10 @@ pub(crate) fn ready_title(
     merge_firsts: &[u32],
     merge_lasts: &[u32],
 ) -> ReadyTitle
-    requires { ⌜ Slots (now indexes) (now sizes) ⌝ }
-    requires { ⌜ allWithin limit (now «merge_lasts») ≡ true ⌝ }
-    ensures { λ r. ⌜ r .asked ≡ title ⌝ }
-    ensures { λ r. ⌜
-        TitleReady r limit (now (indexes .entry)) (now (sizes .entry)) (now («merge_firsts» .entry)) (now («merge_lasts» .entry))
-        ⌝ }
+    requires slots { Slots indexes.now sizes.now }
+    requires merge_lasts_value { all_within limit merge_lasts.now ≡ true }
+    ensures asked_value { result.asked ≡ title }
+    ensures title_ready { TitleReady result limit indexes.now sizes.now merge_firsts.now merge_lasts.now }
 {
     let widened = widened_title(limit, title, merge_firsts, merge_lasts);
     let wide_title = widened.title;

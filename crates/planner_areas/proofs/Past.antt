@@ -1,6 +1,6 @@
 -- A number that is none of the first eight. Assumes nothing.
-use mathlib.Core.Path.{_≡_}
-use Prim.Native.Nat.{ℕ, _+_, _≤_}
+use mathlib.Core.Path.{◌≡◌}
+use Prim.Native.Nat.{ℕ, ◌+◌, ◌≤◌}
 use native.Mathlib.Omega.{arith}
 
 -- none of four numbers
@@ -12,5 +12,5 @@ pub past : (n : ℕ)
     → ((((((((Unit {0} × (n ≡ 0 → ⊥)) × (n ≡ 1 → ⊥)) × (n ≡ 2 → ⊥)) × (n ≡ 3 → ⊥)) × (n ≡ 4 → ⊥)) × (n ≡ 5 → ⊥)) × (n ≡ 6 → ⊥)) × (n ≡ 7 → ⊥))
     → 8 ≤ n
 past n h =
-    let low : 4 ≤ n = four n 0 (omega arith) (h .0 .0 .0 .0 .0 .0 .0 .1) (h .0 .0 .0 .0 .0 .0 .1) (h .0 .0 .0 .0 .0 .1) (h .0 .0 .0 .0 .1) in
-    four n 4 low (h .0 .0 .0 .1) (h .0 .0 .1) (h .0 .1) (h .1)
+    let low : 4 ≤ n = four n 0 (omega arith) h.0.0.0.0.0.0.0.1 h.0.0.0.0.0.0.1 h.0.0.0.0.0.1 h.0.0.0.0.1 in
+    four n 4 low h.0.0.0.1 h.0.0.1 h.0.1 h.1

@@ -1,23 +1,19 @@
 // At most eight areas, by their numbers from 0.
+ghost use Rattle.std.specs.Prelude.{◌≡◌, min, get_or, set};
+ghost use Rattle.planner_rules.specs.Areas as held;
+
 use planner_compare::shorter;
-use planner_rules::AreaPlan;
-use planner_rules::AreaPlans;
-use planner_rules::Areas;
-use planner_rules::PrintRange;
-ghost use mathlib.Core.Path.{_≡_};
-ghost use Prim.Native.Nat.{min};
-ghost use lib.ListN.{getD, set};
-ghost use Rattle·planner_rules.specs.Areas as held;
+use planner_rules::{AreaPlan, AreaPlans, Areas, PrintRange};
 
 pub fn at_most_eight(count: usize) -> usize
-    ensures { λ r. ⌜ r ≡ min count 8 ⌝ }
+    ensures { result ≡ min count 8 }
 {
     shorter(count, 8)
 }
 
 // The range of the area with a number; past the eighth there is none.
 pub fn area_at(areas: Areas, at: usize) -> PrintRange
-    ensures { λ r. ⌜ r ≡ getD (held.eightRanges areas) at held.noRange ⌝ }
+    ensures { result ≡ get_or (held.eight_ranges areas) at held.no_range }
 {
     match at {
         0 => areas.first,
@@ -39,7 +35,7 @@ pub fn area_at(areas: Areas, at: usize) -> PrintRange
 
 // What the area with a number came to; past the eighth there is none.
 pub fn plan_at(plans: AreaPlans, at: usize) -> AreaPlan
-    ensures { λ r. ⌜ r ≡ getD (held.eightPlans plans) at held.noPlan ⌝ }
+    ensures { result ≡ get_or (held.eight_plans plans) at held.no_plan }
 {
     match at {
         0 => plans.first,
@@ -63,7 +59,7 @@ pub fn plan_at(plans: AreaPlans, at: usize) -> AreaPlan
 
 // The areas with another one in a place; past the eighth there is none.
 pub fn with_plan(plans: AreaPlans, at: usize, area: AreaPlan) -> AreaPlans
-    ensures { λ r. ⌜ (held.eightPlans r ≡ set (held.eightPlans plans) at area) × (r .count ≡ plans .count) ⌝ }
+    ensures { (held.eight_plans result ≡ set (held.eight_plans plans) at area) × (result.count ≡ plans.count) }
 {
     let mut changed = plans;
     match at {

@@ -2,9 +2,5 @@
 mod eight;
 mod union;
 
-pub use eight::area_at;
-pub use eight::at_most_eight;
-pub use eight::plan_at;
-pub use eight::with_plan;
-pub use union::cells_hold;
-pub use union::union_cells;
+pub use eight::{area_at, at_most_eight, plan_at, with_plan};
+pub use union::{cells_hold, union_cells};

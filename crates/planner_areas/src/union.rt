@@ -1,18 +1,13 @@
 // How many cells lie in at least one area. Between two edges of areas nothing changes, so each stretch from edge to edge is asked once.
-use crate::eight::area_at;
-use crate::eight::at_most_eight;
+ghost use Rattle.std.specs.Prelude.{◌≡◌, ◌+◌, ◌≤◌, ◌<◌};
+ghost use Rattle.planner_rules.specs.Titles.{limit_of};
+ghost use Rattle.planner_rules.specs.Areas.{areas_in};
+ghost use Rattle.planner_rules.specs.Union as definition;
+ghost use Rattle.planner_areas.specs.Edges as edges;
+
+use crate::eight::{area_at, at_most_eight};
 use planner_compare::wide;
-use planner_rules::Areas;
-use planner_rules::Axis;
-use planner_rules::CellLimit;
-use planner_rules::PrintRange;
-use planner_rules::Span;
-ghost use mathlib.Core.Path.{_≡_};
-ghost use Prim.Native.Nat.{_+_, _≤_, _<_};
-ghost use Rattle·planner_rules.specs.Titles.{limitOf};
-ghost use Rattle·planner_rules.specs.Areas.{areasIn};
-ghost use Rattle·planner_rules.specs.Union as definition;
-ghost use Rattle·planner_areas·specs.specs.Edges as edges;
+use planner_rules::{Areas, Axis, CellLimit, PrintRange, Span};
 
 // How many rows and columns the grid has.
 const ROWS: u64 = 1_048_576;
@@ -20,7 +15,7 @@ const ROWS: u64 = 1_048_576;
 const COLUMNS: u64 = 16_384;
 
 fn in_area(range: PrintRange, row: u64, column: u64) -> bool
-    ensures { λ r. ⌜ r ≡ definition.inArea range row column ⌝ }
+    ensures { result ≡ definition.in_area range row column }
 {
     (range.first_row as u64 <= row)
         & (row <= range.last_row as u64)
@@ -28,7 +23,7 @@ fn in_area(range: PrintRange, row: u64, column: u64) -> bool
 }
 
 fn in_some(areas: Areas, row: u64, column: u64) -> bool
-    ensures { λ r. ⌜ r ≡ definition.inSome (areasIn areas) row column ⌝ }
+    ensures { result ≡ definition.in_some (areas_in areas) row column }
 {
     let count = at_most_eight(areas.count);
     let mut i = 0;
@@ -43,7 +38,7 @@ fn in_some(areas: Areas, row: u64, column: u64) -> bool
 
 // An area's rows or its columns.
 fn side_of(axis: Axis, range: PrintRange) -> Span
-    ensures { λ r. ⌜ r ≡ edges.sideOf axis range ⌝ }
+    ensures { result ≡ edges.side_of axis range }
 {
     match axis {
         Axis::Rows => Span {
@@ -59,8 +54,8 @@ fn side_of(axis: Axis, range: PrintRange) -> Span
 
 // The nearest of two edges that is past `from`.
 fn nearer(edge: u64, from: u64, nearest: u64) -> u64
-    requires { ⌜ from < nearest ⌝ }
-    ensures { λ r. ⌜ edges.Nearer edge from nearest r ⌝ }
+    requires { from < nearest }
+    ensures { edges.Nearer edge from nearest result }
 {
     if edge <= from {
         return nearest;
@@ -70,8 +65,8 @@ fn nearer(edge: u64, from: u64, nearest: u64) -> u64
 
 // The nearest place past `from` where an area starts or has ended, or the end of the grid.
 fn next_edge(areas: Areas, axis: Axis, from: u64) -> u64
-    requires { ⌜ from ≤ limitOf axis ⌝ }
-    ensures { λ r. ⌜ edges.Clear (areasIn areas) axis from r ⌝ }
+    requires { from ≤ limit_of axis }
+    ensures { edges.Clear (areas_in areas) axis from result }
 {
     let count = at_most_eight(areas.count);
     let mut nearest = wide(axis.limit()) + 1;
@@ -87,7 +82,7 @@ fn next_edge(areas: Areas, axis: Axis, from: u64) -> u64
 
 // How many cells of a row lie in at least one area.
 fn row_cells(areas: Areas, row: u64) -> u64
-    ensures { λ r. ⌜ (r ≡ edges.rowCells (areasIn areas) row) × (r ≤ 16384) ⌝ }
+    ensures { (result ≡ edges.row_cells (areas_in areas) row) × (result ≤ 16384) }
 {
     let mut cells = 0;
     let mut column = 0;
@@ -103,7 +98,7 @@ fn row_cells(areas: Areas, row: u64) -> u64
 
 // The cells of the grid that lie in at least one area, each counted once.
 pub fn union_cells(areas: Areas) -> u64
-    ensures { λ r. ⌜ r ≡ definition.unionCells (areasIn areas) ⌝ }
+    ensures { result ≡ definition.union_cells (areas_in areas) }
 {
     let mut cells = 0;
     let mut row = 0;
@@ -117,7 +112,7 @@ pub fn union_cells(areas: Areas) -> u64
 
 // 15: no more cells than the limit lie in at least one area. Without a limit none is counted.
 pub fn cells_hold(limit: CellLimit, areas: Areas) -> bool
-    ensures { λ r. ⌜ r ≡ definition.cellsHold limit (areasIn areas) ⌝ }
+    ensures { result ≡ definition.cells_hold limit (areas_in areas) }
 {
     match limit {
         CellLimit::Absent => true,

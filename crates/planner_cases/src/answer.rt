@@ -1,10 +1,7 @@
 // An answer as text, in an array that takes one line. What does not fit is left out.
 use crate::text::word;
-use crate::widths::wide;
-use crate::widths::wider;
-use planner_rules::Partition;
-use planner_rules::Title;
-use planner_rules::Widening;
+use crate::widths::{wide, wider};
+use planner_rules::{Partition, Title, Widening};
 
 // The bytes that a line has room for.
 pub const LINE: usize = 8192;

@@ -1,9 +1,8 @@
 // The areas of a plan: four lists of eight digits, the first rows, first columns, last rows and last columns.
-use crate::lists::MOST;
-use crate::lists::read_numbers;
-use planner_rules::Areas;
-use planner_rules::PrintRange;
-ghost use Prim.Native.Nat.{_<_};
+ghost use Rattle.std.specs.Prelude.{◌<◌};
+
+use crate::lists::{MOST, read_numbers};
+use planner_rules::{Areas, PrintRange};
 
 fn range(
     first_rows: &[u32; MOST],
@@ -12,7 +11,7 @@ fn range(
     last_columns: &[u32; MOST],
     k: usize,
 ) -> PrintRange
-    requires { ⌜ k < 8 ⌝ }
+    requires { k < 8 }
 {
     PrintRange {
         first_row: first_rows[k],

@@ -1,21 +1,10 @@
 // Answers axes. After its head an axis has the indexes (8 digits each), the sizes (16), the merges' firsts, the merges' lasts and the
 // breaks (8).
-use crate::answer;
 use crate::answer::LINE;
-use crate::axis_head as head;
-use crate::axis_head::HEAD;
-use crate::axis_head::length;
-use crate::fields;
-use crate::fields::TEXT;
-use crate::fields::capped;
-use crate::lists::NUMBERS;
-use crate::lists::ROWS;
-use crate::lists::numbers;
-use crate::lists::numbers_from;
-use crate::lists::read_numbers;
-use crate::lists::read_sizes;
-use crate::lists::runs;
-use crate::lists::sizes;
+use crate::axis_head::{HEAD, length};
+use crate::fields::{TEXT, capped};
+use crate::lists::{NUMBERS, ROWS, numbers, numbers_from, read_numbers, read_sizes, runs, sizes};
+use crate::{answer, axis_head as head, fields};
 
 // Reads a title and its merges, and answers it.
 pub(crate) fn read_title(out: &mut [u8; LINE]) -> usize {

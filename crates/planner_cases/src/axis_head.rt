@@ -4,13 +4,11 @@
 //     2   six lengths: indexes, sizes, merges' firsts, merges' lasts, breaks, and the numbers of the lent list of runs
 //     8   the range's first and last, the title's first and last
 //     16  capacity untitled, capacity titled
-use crate::fields::TEXT;
-use crate::fields::field;
+ghost use Rattle.std.specs.Prelude.{◌<◌};
+
+use crate::fields::{TEXT, field};
 use crate::widths::low;
-use planner_rules::Axis;
-use planner_rules::AxisSetup;
-use planner_rules::Title;
-ghost use Prim.Native.Nat.{_<_};
+use planner_rules::{Axis, AxisSetup, Title};
 
 // The bytes of a head.
 pub const HEAD: usize = 94;
@@ -21,14 +19,14 @@ const INDEXES: usize = 24;
 const CAPACITIES: usize = 60;
 
 fn index(head: &[u8; TEXT], k: usize) -> u32
-    requires { ⌜ k < 4 ⌝ }
+    requires { k < 4 }
 {
     low(field(head, INDEXES, 8, k))
 }
 
 // The length of the list with the number k.
 pub(crate) fn length(head: &[u8; TEXT], k: usize) -> usize
-    requires { ⌜ k < 6 ⌝ }
+    requires { k < 6 }
 {
     field(head, 0, 2, k + 2) as usize
 }

@@ -1,14 +1,15 @@
 // Fields of a line, each a space and so many hexadecimal digits.
+ghost use Rattle.std.specs.Prelude.{◌+◌, ◌*◌, ◌<◌, ◌≤◌};
+
 use hexadecimal::bits;
 use libc::STDIN_FILENO;
-ghost use Prim.Native.Nat.{_+_, _*_, _≤_, _<_};
 
 // The bytes of the longest part of a line that is read at once: a list of 24 fields of sixteen digits.
 pub const TEXT: usize = 408;
 
 // Reads so many bytes of a line.
 pub(crate) fn read(bytes: usize) -> [u8; TEXT]
-    requires { ⌜ bytes ≤ 408 ⌝ }
+    requires { bytes ≤ 408 }
 {
     let mut text = [b'0'; TEXT];
     io::read_full(STDIN_FILENO, &mut text[0..bytes]);
@@ -17,7 +18,7 @@ pub(crate) fn read(bytes: usize) -> [u8; TEXT]
 
 // The field with the number k of those of so many digits that start at a place.
 pub(crate) fn field(text: &[u8; TEXT], start: usize, digits: usize, k: usize) -> u64
-    requires { ⌜ start + k * (digits + 1) + digits < 408 ⌝ }
+    requires { start + k * (digits + 1) + digits < 408 }
 {
     let whole = &text[..];
     let at = start + k * (digits + 1) + 1;
@@ -27,7 +28,7 @@ pub(crate) fn field(text: &[u8; TEXT], start: usize, digits: usize, k: usize) ->
 
 // A number, or the most that it may be.
 pub(crate) fn capped(n: usize, most: usize) -> usize
-    ensures { λ r. ⌜ r ≤ most ⌝ }
+    ensures { result ≤ most }
 {
     if n < most { n } else { most }
 }

@@ -1,7 +1,6 @@
 // Lists of a line: read from standard input, or lent with numbers of their own.
 use crate::fields;
-use crate::fields::capped;
-use crate::fields::field;
+use crate::fields::{capped, field};
 use crate::widths::low;
 use planner_rules::RUN_NUMBERS;
 

@@ -1,10 +1,8 @@
 // Answers pages by their number, of plans that are not as they were answered.
 use crate::answer::LINE;
-use crate::fields;
 use crate::lists::runs;
-use crate::page_head as head;
 use crate::page_head::HEAD;
-use crate::page_text;
+use crate::{fields, page_head as head, page_text};
 
 // Reads a plan and a number, and answers the page.
 pub(crate) fn read_page(out: &mut [u8; LINE]) -> usize {

@@ -8,18 +8,12 @@
 //     16  the plan's count of areas, pages, and the number of the page
 //
 // After it each area has 2 rows empty, columns empty, and 16 row runs, column runs; what is not there is 0.
+ghost use Rattle.std.specs.Prelude.{◌<◌};
+
 use crate::fields;
-use crate::fields::TEXT;
-use crate::fields::capped;
-use crate::fields::field;
-use crate::lists::NUMBERS;
-use crate::lists::marked_from;
-use planner_rules::AreaPlan;
-use planner_rules::AreaPlans;
-use planner_rules::Notes;
-use planner_rules::PageOrder;
-use planner_rules::Plan;
-ghost use Prim.Native.Nat.{_<_};
+use crate::fields::{TEXT, capped, field};
+use crate::lists::{NUMBERS, marked_from};
+use planner_rules::{AreaPlan, AreaPlans, Notes, PageOrder, Plan};
 
 // The bytes of a head.
 pub const HEAD: usize = 103;
@@ -31,27 +25,27 @@ const LONG: usize = 18;
 const AREA: usize = 40;
 
 fn short(head: &[u8; TEXT], k: usize) -> u64
-    requires { ⌜ k < 6 ⌝ }
+    requires { k < 6 }
 {
     field(head, 0, 2, k)
 }
 
 fn long(head: &[u8; TEXT], k: usize) -> u64
-    requires { ⌜ k < 5 ⌝ }
+    requires { k < 5 }
 {
     field(head, LONG, 16, k)
 }
 
 // The list of an axis, 0 rows or 1 columns, with as many numbers as a list can have.
 pub(crate) fn list(head: &[u8; TEXT], axis: usize) -> [u64; NUMBERS]
-    requires { ⌜ axis < 2 ⌝ }
+    requires { axis < 2 }
 {
     marked_from(long(head, axis), short(head, axis + 1) as usize)
 }
 
 // How many of these the list has.
 pub(crate) fn length(head: &[u8; TEXT], axis: usize) -> usize
-    requires { ⌜ axis < 2 ⌝ }
+    requires { axis < 2 }
 {
     short(head, axis + 3) as usize
 }
@@ -83,7 +77,7 @@ fn nothing_noted() -> Notes {
 }
 
 fn area(text: &[u8; TEXT], k: usize) -> AreaPlan
-    requires { ⌜ k < 8 ⌝ }
+    requires { k < 8 }
 {
     let at = AREA * k;
     AreaPlan {

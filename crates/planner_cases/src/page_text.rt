@@ -2,24 +2,12 @@
 // permille, whether it is unreachable, the runs of rows and of columns, and whether the rows and the columns are empty; then the two lent lists,
 // each after a `;`; then pages, each after a `;`: the number, and `page`, the vertical and the horizontal number, and both runs, with first, last,
 // size, empty mark and manual mark.
-use crate::answer::LINE;
-use crate::answer::byte;
-use crate::answer::list;
-use crate::answer::number;
-use crate::answer::refusal;
-use crate::answer::text;
+use crate::answer::{LINE, byte, list, number, refusal, text};
 use crate::widths::wide;
-use planner_areas::at_most_eight;
-use planner_areas::plan_at;
-use planner_rules::AreaPlan;
-use planner_rules::AreaPlans;
-use planner_rules::Notes;
-use planner_rules::Page;
-use planner_rules::PageAnswer;
-use planner_rules::PageOrder;
-use planner_rules::PageRun;
-use planner_rules::Plan;
-use planner_rules::Planning;
+use planner_areas::{at_most_eight, plan_at};
+use planner_rules::{
+    AreaPlan, AreaPlans, Notes, Page, PageAnswer, PageOrder, PageRun, Plan, Planning,
+};
 
 // The most pages of which each is asked for.
 const FEW: u64 = 12;

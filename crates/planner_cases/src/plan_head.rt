@@ -6,17 +6,12 @@
 //         columns, row breaks, column breaks, the numbers of the lent lists of row runs and of column runs, and the areas
 //     8   paper, percent, width's target, height's target; the row title's first and last, the column title's first and last
 //     16  the page limit, the cell limit
-use crate::fields::TEXT;
-use crate::fields::field;
-use crate::widths::low;
-use crate::widths::lower;
-use geometry::MarginSetting;
-use geometry::Setting;
-use planner_rules::CellLimit;
-use planner_rules::PageOrder;
-use planner_rules::Settings;
-use planner_rules::Title;
-ghost use Prim.Native.Nat.{_<_};
+ghost use Rattle.std.specs.Prelude.{◌<◌};
+
+use crate::fields::{TEXT, field};
+use crate::widths::{low, lower};
+use geometry::{MarginSetting, Setting};
+use planner_rules::{CellLimit, PageOrder, Settings, Title};
 
 // The bytes of a head.
 pub const HEAD: usize = 181;
@@ -27,20 +22,20 @@ const INDEXES: usize = 75;
 const LIMITS: usize = 147;
 
 fn flag(head: &[u8; TEXT], k: usize) -> bool
-    requires { ⌜ k < 12 ⌝ }
+    requires { k < 12 }
 {
     field(head, 0, 2, k) > 0
 }
 
 fn index(head: &[u8; TEXT], k: usize) -> u32
-    requires { ⌜ k < 8 ⌝ }
+    requires { k < 8 }
 {
     low(field(head, INDEXES, 8, k))
 }
 
 // The length of the list with the number k.
 pub(crate) fn length(head: &[u8; TEXT], k: usize) -> usize
-    requires { ⌜ k < 13 ⌝ }
+    requires { k < 13 }
 {
     field(head, 0, 2, k + 12) as usize
 }
@@ -51,8 +46,8 @@ pub(crate) fn margins_given(head: &[u8; TEXT]) -> bool {
 
 // The setting whose flag and field have these numbers.
 fn setting(head: &[u8; TEXT], given: usize, k: usize) -> Setting
-    requires { ⌜ given < 12 ⌝ }
-    requires { ⌜ k < 8 ⌝ }
+    requires given_bound { given < 12 }
+    requires k_bound { k < 8 }
 {
     if flag(head, given) {
         Setting::Given(lower(index(head, k)))
@@ -95,8 +90,8 @@ pub(crate) fn settings(head: &[u8; TEXT], margins: MarginSetting) -> Settings {
 
 // The title whose flag and first have these numbers.
 fn title(head: &[u8; TEXT], given: usize, k: usize) -> Title
-    requires { ⌜ given < 12 ⌝ }
-    requires { ⌜ k < 7 ⌝ }
+    requires given_bound { given < 12 }
+    requires k_bound { k < 7 }
 {
     if flag(head, given) {
         Title::Pair(index(head, k), index(head, k + 1))

@@ -2,27 +2,15 @@
 // column indexes and sizes, the merges' first rows, first columns, last rows and last columns (8), the row breaks and the column breaks (8).
 use crate::answer::LINE;
 use crate::areas::read_areas;
-use crate::fields;
-use crate::fields::TEXT;
-use crate::fields::capped;
-use crate::lists::COLUMNS;
-use crate::lists::NUMBERS;
-use crate::lists::ROWS;
-use crate::lists::numbers;
-use crate::lists::numbers_from;
-use crate::lists::read_numbers;
-use crate::lists::read_sizes;
-use crate::lists::runs;
-use crate::lists::sizes;
-use crate::page_text;
-use crate::plan_head as head;
-use crate::plan_head::HEAD;
-use crate::plan_head::length;
-use geometry::MarginSetting;
-use geometry::Margins;
+use crate::fields::{TEXT, capped};
+use crate::lists::{
+    COLUMNS, NUMBERS, ROWS, numbers, numbers_from, read_numbers, read_sizes, runs, sizes,
+};
+use crate::plan_head::{HEAD, length};
+use crate::{fields, page_text, plan_head as head};
+use geometry::{MarginSetting, Margins};
 use job_records::float;
-use planner_rules::Areas;
-use planner_rules::Settings;
+use planner_rules::{Areas, Settings};
 
 // Reads the margins, if they are given.
 fn read_settings(line: &[u8; TEXT]) -> Settings {

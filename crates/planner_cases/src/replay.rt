@@ -4,12 +4,9 @@
 //     r   planner::partition_axis_with_breaks; the lent list is answered whole
 //     p   planner::plan_pages; the lent lists are answered whole, and then pages by planner_pages::page_numbered
 //     n   planner_pages::page_numbered, of a plan that is not as it was answered
-use crate::answer;
 use crate::answer::LINE;
-use crate::axes;
-use crate::numbered;
-use crate::plans;
 use crate::text::word;
+use crate::{answer, axes, numbered, plans};
 use libc::STDIN_FILENO;
 
 fn answered(letter: u8, out: &mut [u8; LINE]) -> usize {

@@ -2,26 +2,20 @@
 // Document 01, section "Runs".
 mod merges;
 
+ghost use Rattle.std.specs.Prelude.{◌≡◌, ◌≤◌, min, length};
+ghost use Rattle.planner_rules.specs.Slots.{below, through};
+ghost use Rattle.planner_rules.specs.Titles.{title_holds};
+ghost use Rattle.planner_rules.specs.Plan.{cut_from};
+ghost use Rattle.planner_rules.specs.Runs.{capacity_at, merge_step};
+
 pub use merges::holding_merge;
 use planner_compare::wide;
-use planner_rules::FinalCut;
-use planner_rules::Frame;
-use planner_rules::Held;
-use planner_rules::RunEnd;
-use planner_rules::Tally;
-use planner_rules::Title;
-ghost use mathlib.Core.Path.{_≡_};
-ghost use Prim.Native.Nat.{_≤_, min};
-ghost use lib.ListN.{length};
-ghost use Rattle·planner_rules.specs.Slots.{below, through};
-ghost use Rattle·planner_rules.specs.Titles.{titleHolds};
-ghost use Rattle·planner_rules.specs.Plan.{cutFrom};
-ghost use Rattle·planner_rules.specs.Runs.{capacityAt, mergeStep};
+use planner_rules::{FinalCut, Frame, Held, RunEnd, Tally, Title};
 
 // How many slots at the front have an index below the limit.
 fn slots_below(indexes: &[u32], limit: u64) -> usize
-    ensures { λ r. ⌜ r ≡ below limit (now (indexes .entry)) ⌝ }
-    ensures { λ r. ⌜ r ≤ length (now (indexes .entry)) ⌝ }
+    ensures value { result ≡ below limit indexes.now }
+    ensures upper_bound { result ≤ length indexes.now }
 {
     let mut n = 0;
     while n < indexes.len() {
@@ -35,8 +29,8 @@ fn slots_below(indexes: &[u32], limit: u64) -> usize
 
 // How many slots there are up to the last one at or below an index.
 fn slots_through(indexes: &[u32], last: u32) -> usize
-    ensures { λ r. ⌜ r ≡ through last (now (indexes .entry)) ⌝ }
-    ensures { λ r. ⌜ r ≤ length (now (indexes .entry)) ⌝ }
+    ensures value { result ≡ through last indexes.now }
+    ensures upper_bound { result ≤ length indexes.now }
 {
     let mut i = indexes.len();
     while i > 0 {
@@ -50,7 +44,7 @@ fn slots_through(indexes: &[u32], last: u32) -> usize
 
 // The capacity of a run whose first slot has this index.
 pub fn capacity_for(k: Frame, index: u32) -> u64
-    ensures { λ r. ⌜ r ≡ capacityAt k index ⌝ }
+    ensures { result ≡ capacity_at k index }
 {
     let title = k.title;
     let Title::Pair(_, last) = title else {
@@ -64,7 +58,7 @@ pub fn capacity_for(k: Frame, index: u32) -> u64
 
 // The merge step, where a run has n slots and `held` holds the boundary after them.
 pub fn merge_step(indexes: &[u32], n: usize, held: Held) -> RunEnd
-    ensures { λ r. ⌜ r ≡ mergeStep held n (now (indexes .entry)) ⌝ }
+    ensures { result ≡ merge_step held n indexes.now }
 {
     let Held::By(first, last) = held else {
         return RunEnd { slots: n, grown: 0 };
@@ -88,7 +82,7 @@ pub fn merge_step(indexes: &[u32], n: usize, held: Held) -> RunEnd
 
 // Whether the title holds b.
 pub fn title_holds(title: Title, b: u32) -> bool
-    ensures { λ r. ⌜ r ≡ titleHolds title b ⌝ }
+    ensures { result ≡ title_holds title b }
 {
     let Title::Pair(first, last) = title else {
         return false;
@@ -103,14 +97,14 @@ pub fn title_holds(title: Title, b: u32) -> bool
 
 // The mark of a run that starts at a cut: every cut past 0 is a kept manual break.
 pub fn mark_of(cut: usize) -> u64
-    ensures { λ r. ⌜ r ≡ min cut 1 ⌝ }
+    ensures { result ≡ min cut 1 }
 {
     if cut > 0 { 1 } else { 0 }
 }
 
 // The final cut of an axis, of what was counted and so many overflowing runs: an axis without runs gets one.
 pub fn final_cut(tally: Tally, overflows: u64) -> FinalCut
-    ensures { λ r. ⌜ r ≡ cutFrom tally overflows ⌝ }
+    ensures { result ≡ cut_from tally overflows }
 {
     let empty = tally.runs == 0;
     FinalCut {

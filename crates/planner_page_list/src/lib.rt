@@ -1,19 +1,19 @@
 // The pages of a plan in a list of four by value. `list_pages` fills a list that is lent to it; here an array is lent and handed back, so
 // that a caller of `list_four` holds no reference to page records.
-use planner_rules::Listing;
-use planner_rules::Page;
-use planner_rules::Plan;
-ghost use mathlib.Core.Path.{_≡_};
-ghost use Rattle·planner_rules.specs.Pages as section;
+ghost use Rattle.std.specs.Prelude.{◌≡◌};
+ghost use Rattle.planner_rules.specs.Pages as section;
+
+use planner_rules::{Listing, Page, Plan};
 
 // The list as the call left it, and what was answered.
+#[derive(Drop)]
 pub struct Four {
     pub pages: [Page; 4],
     pub answer: Listing,
 }
 
 fn both(pages: [Page; 4], answer: Listing) -> Four
-    ensures { λ r. ⌜ (r .pages ≡ pages) × (r .answer ≡ answer) ⌝ }
+    ensures { (result.pages ≡ pages) × (result.answer ≡ answer) }
 {
     Four { pages, answer }
 }
@@ -21,12 +21,10 @@ fn both(pages: [Page; 4], answer: Listing) -> Four
 // Writes the pages of a plan, in order, to the front of a list of four, over the lists of runs that were lent to the plan. It answers how
 // many, or refuses and writes nothing.
 pub fn list_four(mut list: [Page; 4], plan: Plan, row_runs: &[u64], column_runs: &[u64]) -> Four
-    ensures { λ r. ⌜
-        (let rows = now («row_runs» .entry) in
-        let columns = now («column_runs» .entry) in
-        let outcome = section.listPages plan rows columns 4 in
-        (section.listOutcome (r .answer) ≡ outcome) × (r .pages ≡ section.pagesLent outcome (section.pagesOf plan rows columns) list))
-        ⌝ }
+    ensures { let rows = row_runs.now in
+        let columns = column_runs.now in
+        let outcome = section.list_pages plan rows columns 4 in
+        (section.list_outcome result.answer ≡ outcome) × (result.pages ≡ section.pages_lent outcome (section.pages_of plan rows columns) list) }
 {
     let answer = planner_pages::list_pages(&mut list, plan, row_runs, column_runs);
     both(list, answer)

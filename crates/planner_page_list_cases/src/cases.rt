@@ -1,18 +1,9 @@
 // Plans whose pages are listed. Slots are 400,000 each, on Letter.
-use crate::places;
-use crate::text;
-use geometry::MarginSetting;
-use geometry::Setting;
-use planner_rules::Areas;
-use planner_rules::CellLimit;
-use planner_rules::Listing;
-use planner_rules::PageOrder;
-use planner_rules::Plan;
-use planner_rules::Planning;
-use planner_rules::PrintRange;
-use planner_rules::RUN_NUMBERS;
-use planner_rules::Settings;
-use planner_rules::Title;
+use crate::{places, text};
+use geometry::{MarginSetting, Setting};
+use planner_rules::{
+    Areas, CellLimit, Listing, PageOrder, Plan, Planning, PrintRange, RUN_NUMBERS, Settings, Title,
+};
 
 // The most runs of these plans.
 const ROW_RUNS: usize = 5;

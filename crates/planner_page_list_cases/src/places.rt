@@ -1,9 +1,6 @@
 // The places of a list after the call, compared with the pages by number and with what stood there before.
 use crate::text;
-use planner_rules::Page;
-use planner_rules::PageAnswer;
-use planner_rules::PageRun;
-use planner_rules::Plan;
+use planner_rules::{Page, PageAnswer, PageRun, Plan};
 
 fn same_run(a: PageRun, b: PageRun) -> bool {
     (a.first == b.first)

@@ -1,20 +1,14 @@
 // Walks over the areas of a plan.
-use planner_areas::at_most_eight;
-use planner_areas::plan_at;
-use planner_rules::AreaPlan;
-use planner_rules::AreaPlans;
-use planner_rules::RunCounts;
-use planner_rules::Spot;
-ghost use mathlib.Core.Path.{_≡_};
-ghost use Prim.Native.Nat.{_≤_, _<_, _^_};
-ghost use lib.Dec.{ltb};
-ghost use lib.ListN.{length, take};
-ghost use Rattle·planner_rules.specs.Areas.{plansIn};
-ghost use Rattle·planner_rules.specs.Pages as section;
+ghost use Rattle.std.specs.Prelude.{◌≡◌, ◌≤◌, ◌<◌, ◌^◌, ltb, length, take};
+ghost use Rattle.planner_rules.specs.Areas.{plans_in};
+ghost use Rattle.planner_rules.specs.Pages as section;
+
+use planner_areas::{at_most_eight, plan_at};
+use planner_rules::{AreaPlan, AreaPlans, RunCounts, Spot};
 
 // Whether an area has more pages than so many: by division, for the product of its run counts may be too large for a number.
 pub(crate) fn has_more(area: AreaPlan, before: usize) -> bool
-    ensures { λ r. ⌜ r ≡ ltb before (section.pagesIn area) ⌝ }
+    ensures { result ≡ ltb before (section.pages_in area) }
 {
     if area.row_runs == 0 {
         return false;
@@ -24,7 +18,7 @@ pub(crate) fn has_more(area: AreaPlan, before: usize) -> bool
 
 // The spot of the page that has so many pages before it; past the last area where there is none, and then how many are left.
 pub(crate) fn walk(areas: AreaPlans, before: usize) -> Spot
-    ensures { λ r. ⌜ r ≡ section.walkFrom 0 before (plansIn areas) ⌝ }
+    ensures { result ≡ section.walk_from 0 before (plans_in areas) }
 {
     let end = at_most_eight(areas.count);
     let mut rest = before;
@@ -48,7 +42,7 @@ pub(crate) fn walk(areas: AreaPlans, before: usize) -> Spot
 
 // 11: two lists with room for so many runs hold the runs of all areas. By what is left of the room, for a sum may be too large for a number.
 pub(crate) fn runs_fit(areas: AreaPlans, row_room: usize, column_room: usize) -> bool
-    ensures { λ r. ⌜ r ≡ section.runsHeld (plansIn areas) «row_room» «column_room» ⌝ }
+    ensures { result ≡ section.runs_held (plans_in areas) row_room column_room }
 {
     let end = at_most_eight(areas.count);
     let mut rows = row_room;
@@ -71,10 +65,10 @@ pub(crate) fn runs_fit(areas: AreaPlans, row_room: usize, column_room: usize) ->
 
 // How many runs stand before those of an area.
 pub(crate) fn runs_before(areas: AreaPlans, at: usize) -> RunCounts
-    requires { ⌜ at ≤ length (plansIn areas) ⌝ }
-    requires { ⌜ section.rowRuns (plansIn areas) < 2 ^ 64 ⌝ }
-    requires { ⌜ section.columnRuns (plansIn areas) < 2 ^ 64 ⌝ }
-    ensures { λ r. ⌜ (r .rows ≡ section.rowRuns (take at (plansIn areas))) × (r .columns ≡ section.columnRuns (take at (plansIn areas))) ⌝ }
+    requires at_in_bounds { at ≤ length (plans_in areas) }
+    requires areas_bound { section.row_runs (plans_in areas) < 2 ^ 64 }
+    requires areas_bound_2 { section.column_runs (plans_in areas) < 2 ^ 64 }
+    ensures { (result.rows ≡ section.row_runs (take at (plans_in areas))) × (result.columns ≡ section.column_runs (take at (plans_in areas))) }
 {
     let mut rows = 0;
     let mut columns = 0;

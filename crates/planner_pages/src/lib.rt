@@ -1,38 +1,25 @@
 // Pages of a plan: document 01, section "Pages", and document 02, request T-02.
 mod areas;
 
-use crate::areas::has_more;
-use crate::areas::runs_before;
-use crate::areas::runs_fit;
-use crate::areas::walk;
-use planner_areas::at_most_eight;
-use planner_areas::plan_at;
+ghost use Rattle.std.specs.Prelude.{◌≡◌, ◌+◌, ◌≤◌, ◌<◌, length};
+ghost use Rattle.planner_rules.specs.Areas.{plans_in, over_areas};
+ghost use Rattle.planner_rules.specs.Lent.{room_in};
+ghost use Rattle.planner_rules.specs.Pages as section;
+
+use crate::areas::{has_more, runs_before, runs_fit, walk};
+use planner_areas::{at_most_eight, plan_at};
 use planner_compare::index_of;
 use planner_questions::room_in;
-use planner_rules::AreaPlan;
-use planner_rules::Found;
-use planner_rules::Listing;
-use planner_rules::Page;
-use planner_rules::PageAnswer;
-use planner_rules::PageOrder;
-use planner_rules::PageRun;
-use planner_rules::Place;
-use planner_rules::Plan;
-use planner_rules::RUN_NUMBERS;
-use planner_rules::RunCounts;
-use planner_rules::Spot;
-ghost use mathlib.Core.Path.{_≡_};
-ghost use Prim.Native.Nat.{_+_, _≤_, _<_};
-ghost use lib.ListN.{length};
-ghost use Rattle·planner_rules.specs.Areas.{plansIn, overAreas};
-ghost use Rattle·planner_rules.specs.Lent.{roomIn};
-ghost use Rattle·planner_rules.specs.Pages as section;
+use planner_rules::{
+    AreaPlan, Found, Listing, Page, PageAnswer, PageOrder, PageRun, Place, Plan, RUN_NUMBERS,
+    RunCounts, Spot,
+};
 
 // The place of the page of an area that has so many of its pages before it.
 fn place_of(order: PageOrder, row_runs: usize, column_runs: usize, before: usize) -> Place
-    requires { ⌜ 0 < «row_runs» ⌝ }
-    requires { ⌜ 0 < «column_runs» ⌝ }
-    ensures { λ r. ⌜ r ≡ section.placeOf order «row_runs» «column_runs» before ⌝ }
+    requires row_runs_nonzero { 0 < row_runs }
+    requires column_runs_nonzero { 0 < column_runs }
+    ensures { result ≡ section.place_of order row_runs column_runs before }
 {
     match order {
         PageOrder::DownThenOver => Place {
@@ -48,8 +35,8 @@ fn place_of(order: PageOrder, row_runs: usize, column_runs: usize, before: usize
 
 // The run with a number, from 0.
 fn run_at(list: &[u64], empty_body: bool, number: usize) -> PageRun
-    requires { ⌜ number < roomIn (now list) ⌝ }
-    ensures { λ r. ⌜ r ≡ section.runAt (now (list .entry)) «empty_body» number ⌝ }
+    requires { number < room_in list.now }
+    ensures { result ≡ section.run_at list.now empty_body number }
 {
     let at = RUN_NUMBERS * number;
     PageRun {
@@ -70,13 +57,11 @@ fn page_at(
     row_runs: &[u64],
     column_runs: &[u64],
 ) -> Page
-    requires { ⌜ runs .rows + area .«row_runs» ≤ roomIn (now «row_runs») ⌝ }
-    requires { ⌜ runs .columns + area .«column_runs» ≤ roomIn (now «column_runs») ⌝ }
-    requires { ⌜ before < section.pagesIn area ⌝ }
-    ensures { λ r. ⌜
-        r ≡ section.areaPageAfter order area (section.afterRuns (runs .rows) (now («row_runs» .entry)))
-        (section.afterRuns (runs .columns) (now («column_runs» .entry))) before
-        ⌝ }
+    requires row_runs_bound { runs.rows + area.row_runs ≤ room_in row_runs.now }
+    requires column_runs_bound { runs.columns + area.column_runs ≤ room_in column_runs.now }
+    requires before_bound { before < section.pages_in area }
+    ensures { result ≡ section.area_page_after order area (section.after_runs runs.rows row_runs.now)
+        (section.after_runs runs.columns column_runs.now) before }
 {
     let place = place_of(order, area.row_runs, area.column_runs, before);
     let vertical = place.vertical;
@@ -95,10 +80,10 @@ fn page_at(
 
 // The page at a spot, over the lists of runs that were lent to the plan.
 fn spot_page(plan: Plan, spot: Spot, row_runs: &[u64], column_runs: &[u64]) -> Page
-    requires { ⌜ section.rowRuns (plansIn (plan .areas)) ≤ roomIn (now «row_runs») ⌝ }
-    requires { ⌜ section.columnRuns (plansIn (plan .areas)) ≤ roomIn (now «column_runs») ⌝ }
-    requires { ⌜ section.Stands (plansIn (plan .areas)) spot ⌝ }
-    ensures { λ r. ⌜ r ≡ section.spotPage (plan .order) (plansIn (plan .areas)) (now («row_runs» .entry)) (now («column_runs» .entry)) spot ⌝ }
+    requires areas_bound { section.row_runs (plans_in plan.areas) ≤ room_in row_runs.now }
+    requires areas_bound_2 { section.column_runs (plans_in plan.areas) ≤ room_in column_runs.now }
+    requires stands { section.Stands (plans_in plan.areas) spot }
+    ensures { result ≡ section.spot_page plan.order (plans_in plan.areas) row_runs.now column_runs.now spot }
 {
     let areas = plan.areas;
     let area = plan_at(areas, spot.area);
@@ -109,7 +94,7 @@ fn spot_page(plan: Plan, spot: Spot, row_runs: &[u64], column_runs: &[u64]) -> P
 
 // Where the page with a number stands.
 pub fn page_spot(plan: Plan, number: u64) -> Found
-    ensures { λ r. ⌜ r ≡ section.spotOf plan number ⌝ }
+    ensures { result ≡ section.spot_of plan number }
 {
     if number == 0 {
         return Found::Nothing;
@@ -135,7 +120,7 @@ pub fn area_page(
     row_runs: &[u64],
     column_runs: &[u64],
 ) -> PageAnswer
-    ensures { λ r. ⌜ section.pageOutcome r ≡ section.areaNumbered order area (now («row_runs» .entry)) (now («column_runs» .entry)) number ⌝ }
+    ensures { section.page_outcome result ≡ section.area_numbered order area row_runs.now column_runs.now number }
 {
     if area.row_runs > room_in(row_runs.len()) {
         return PageAnswer::Refused(11);
@@ -159,7 +144,7 @@ pub fn area_page(
 
 // The page of a plan with a number from 1 to its count, over the lists of runs that were lent to the plan.
 pub fn page_numbered(plan: Plan, number: u64, row_runs: &[u64], column_runs: &[u64]) -> PageAnswer
-    ensures { λ r. ⌜ section.pageOutcome r ≡ section.pageNumbered plan (now («row_runs» .entry)) (now («column_runs» .entry)) number ⌝ }
+    ensures { section.page_outcome result ≡ section.page_numbered plan row_runs.now column_runs.now number }
 {
     let areas = plan.areas;
     if !runs_fit(areas, room_in(row_runs.len()), room_in(column_runs.len())) {
@@ -174,10 +159,10 @@ pub fn page_numbered(plan: Plan, number: u64, row_runs: &[u64], column_runs: &[u
 
 // The page of a plan that has so many pages before it.
 fn page_after(before: usize, plan: Plan, row_runs: &[u64], column_runs: &[u64]) -> Page
-    requires { ⌜ section.rowRuns (plansIn (plan .areas)) ≤ roomIn (now «row_runs») ⌝ }
-    requires { ⌜ section.columnRuns (plansIn (plan .areas)) ≤ roomIn (now «column_runs») ⌝ }
-    requires { ⌜ before < overAreas section.pagesIn (plansIn (plan .areas)) ⌝ }
-    ensures { λ r. ⌜ r ≡ section.pageAfter plan (now («row_runs» .entry)) (now («column_runs» .entry)) before ⌝ }
+    requires areas_bound { section.row_runs (plans_in plan.areas) ≤ room_in row_runs.now }
+    requires areas_bound_2 { section.column_runs (plans_in plan.areas) ≤ room_in column_runs.now }
+    requires before_bound { before < over_areas section.pages_in (plans_in plan.areas) }
+    ensures { result ≡ section.page_after plan row_runs.now column_runs.now before }
 {
     let areas = plan.areas;
     let spot = walk(areas, before);
@@ -186,7 +171,7 @@ fn page_after(before: usize, plan: Plan, row_runs: &[u64], column_runs: &[u64]) 
 
 // How many pages a plan has: a walk that takes off as many as it says tells whether its areas have so many.
 fn page_count(plan: Plan) -> u64
-    ensures { λ r. ⌜ r ≡ section.pageCount plan ⌝ }
+    ensures { result ≡ section.page_count plan }
 {
     let areas = plan.areas;
     let spot = walk(areas, plan.pages as usize);
@@ -198,7 +183,7 @@ fn page_count(plan: Plan) -> u64
 
 // What `list_pages` answers where so many pages have room.
 fn listing(room: usize, plan: Plan, row_runs: &[u64], column_runs: &[u64]) -> Listing
-    ensures { λ r. ⌜ section.listOutcome r ≡ section.listPages plan (now («row_runs» .entry)) (now («column_runs» .entry)) room ⌝ }
+    ensures { section.list_outcome result ≡ section.list_pages plan row_runs.now column_runs.now room }
 {
     let areas = plan.areas;
     if !runs_fit(areas, room_in(row_runs.len()), room_in(column_runs.len())) {
@@ -213,7 +198,7 @@ fn listing(room: usize, plan: Plan, row_runs: &[u64], column_runs: &[u64]) -> Li
 
 // How many pages are written.
 fn count_in(answer: Listing) -> usize
-    ensures { λ r. ⌜ r ≡ section.countIn (section.listOutcome answer) ⌝ }
+    ensures { result ≡ section.count_in (section.list_outcome answer) }
 {
     match answer {
         Listing::Value(n) => n as usize,
@@ -224,13 +209,11 @@ fn count_in(answer: Listing) -> usize
 // Writes the pages of a plan, in order, to the front of a lent list, over the lists of runs that were lent to the plan. It answers how many,
 // or refuses and writes nothing.
 pub fn list_pages(pages: &mut [Page], plan: Plan, row_runs: &[u64], column_runs: &[u64]) -> Listing
-    ensures { λ r. ⌜
-        (let rows = now («row_runs» .entry) in
-        let columns = now («column_runs» .entry) in
-        let old = now (pages .entry) in
-        let outcome = section.listPages plan rows columns (length old) in
-        (section.listOutcome r ≡ outcome) × (now (pages .exit) ≡ section.pagesLent outcome (section.pagesOf plan rows columns) old))
-        ⌝ }
+    ensures { let rows = row_runs.now in
+        let columns = column_runs.now in
+        let old = pages.old in
+        let outcome = section.list_pages plan rows columns (length old) in
+        (section.list_outcome result ≡ outcome) × (pages.new ≡ section.pages_lent outcome (section.pages_of plan rows columns) old) }
 {
     let answer = listing(pages.len(), plan, row_runs, column_runs);
     let count = count_in(answer);

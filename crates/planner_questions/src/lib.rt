@@ -1,36 +1,25 @@
 // What is asked of lists before a call answers: document 01, section "Questions in order".
-use planner_areas::area_at;
-use planner_areas::at_most_eight;
-use planner_areas::cells_hold;
+ghost use Rattle.std.specs.Prelude.{◌≡◌, ℕ, ◌/◌, ◌&&◌, List};
+ghost use Rattle.planner_rules.specs.Questions.{no_or, equally_long, all_ordered, all_within, rising, rising_within, all_small};
+ghost use Rattle.planner_rules.specs.Areas.{areas_in, every_area, upright, inside_grid};
+ghost use Rattle.planner_rules.specs.Plan as call;
+ghost use Rattle.planner_rules.specs.Partition as partition;
+
+use planner_areas::{area_at, at_most_eight, cells_hold};
 use planner_compare::shorter;
-use planner_rules::Areas;
-use planner_rules::AxisSetup;
-use planner_rules::PrintRange;
-use planner_rules::RUN_NUMBERS;
-use planner_rules::Settings;
-use planner_rules::Title;
-use units::LARGEST_SIZE;
-use units::MAX_WORKSHEET_COLUMN;
-use units::MAX_WORKSHEET_ROW;
-ghost use mathlib.Core.Path.{_≡_};
-ghost use Prim.Native.Nat.{ℕ, _/_};
-ghost use Rattle·planner_rules.specs.Questions.{noOr, equallyLong, allOrdered, allWithin, rising, risingWithin, allSmall};
-ghost use Rattle·planner_rules.specs.Areas.{areasIn, everyArea, upright, insideGrid};
-ghost use mathlib.Core.Bool.{_&&_};
-ghost use mathlib.Core.List.{List};
-ghost use Rattle·planner_rules.specs.Plan as call;
-ghost use Rattle·planner_rules.specs.Partition as partition;
+use planner_rules::{Areas, AxisSetup, PrintRange, RUN_NUMBERS, Settings, Title};
+use units::{LARGEST_SIZE, MAX_WORKSHEET_COLUMN, MAX_WORKSHEET_ROW};
 
 // How many runs a list of so many numbers has room for.
 pub fn room_in(numbers: usize) -> usize
-    ensures { λ r. ⌜ r ≡ numbers / 4 ⌝ }
+    ensures { result ≡ numbers / 4 }
 {
     numbers / RUN_NUMBERS
 }
 
 // 6: no first is above its last.
 pub fn pairs_ordered(firsts: &[u32], lasts: &[u32]) -> bool
-    ensures { λ r. ⌜ r ≡ allOrdered (now (firsts .entry)) (now (lasts .entry)) ⌝ }
+    ensures { result ≡ all_ordered firsts.now lasts.now }
 {
     let end = shorter(firsts.len(), lasts.len());
     let mut n = 0;
@@ -45,7 +34,7 @@ pub fn pairs_ordered(firsts: &[u32], lasts: &[u32]) -> bool
 
 // 7: no index is past the limit.
 pub fn all_within(indexes: &[u32], limit: u32) -> bool
-    ensures { λ r. ⌜ r ≡ allWithin limit (now (indexes .entry)) ⌝ }
+    ensures { result ≡ all_within limit indexes.now }
 {
     let mut n = 0;
     while n < indexes.len() {
@@ -59,7 +48,7 @@ pub fn all_within(indexes: &[u32], limit: u32) -> bool
 
 // Each index is below the next: all are asked, so that there is no branch on what one of them answers.
 fn strictly_rising(indexes: &[u32]) -> bool
-    ensures { λ r. ⌜ r ≡ rising (now (indexes .entry)) ⌝ }
+    ensures { result ≡ rising indexes.now }
 {
     let mut i = indexes.len();
     let mut rises = true;
@@ -72,7 +61,7 @@ fn strictly_rising(indexes: &[u32]) -> bool
 
 // 8: each index is below the next, and the last is not past the limit.
 pub fn rising_within(indexes: &[u32], limit: u32) -> bool
-    ensures { λ r. ⌜ r ≡ risingWithin limit (now (indexes .entry)) ⌝ }
+    ensures { result ≡ rising_within limit indexes.now }
 {
     if !strictly_rising(indexes) {
         return false;
@@ -86,7 +75,7 @@ pub fn rising_within(indexes: &[u32], limit: u32) -> bool
 
 // 9: no size is above the largest, which has all its bits set: so none is, if all bits of all sizes together make no greater number.
 pub fn all_small(sizes: &[u64]) -> bool
-    ensures { λ r. ⌜ r ≡ allSmall (now (sizes .entry)) ⌝ }
+    ensures { result ≡ all_small sizes.now }
 {
     let mut i = sizes.len();
     let mut bits = 0;
@@ -98,6 +87,7 @@ pub fn all_small(sizes: &[u64]) -> bool
 }
 
 // What the areas answer to 6 and to 7.
+#[derive(Drop)]
 struct AreasAsked {
     upright: bool,
     inside: bool,
@@ -105,21 +95,21 @@ struct AreasAsked {
 
 // 6 of an area: its first row and its first column are not past its last.
 fn is_upright(range: PrintRange) -> bool
-    ensures { λ r. ⌜ r ≡ upright range ⌝ }
+    ensures { result ≡ upright range }
 {
     (range.first_row <= range.last_row) & (range.first_column <= range.last_column)
 }
 
 // 7 of an area: its last cell is in the grid.
 fn is_inside(range: PrintRange) -> bool
-    ensures { λ r. ⌜ r ≡ insideGrid range ⌝ }
+    ensures { result ≡ inside_grid range }
 {
     (range.last_row <= MAX_WORKSHEET_ROW) & (range.last_column <= MAX_WORKSHEET_COLUMN as u32)
 }
 
 fn ask_areas(areas: Areas) -> AreasAsked
-    ensures { λ r. ⌜ r .upright ≡ everyArea upright (areasIn areas) ⌝ }
-    ensures { λ r. ⌜ r .inside ≡ everyArea insideGrid (areasIn areas) ⌝ }
+    ensures upright_value { result.upright ≡ every_area upright (areas_in areas) }
+    ensures inside_value { result.inside ≡ every_area inside_grid (areas_in areas) }
 {
     let count = at_most_eight(areas.count);
     let mut upright = true;
@@ -136,10 +126,8 @@ fn ask_areas(areas: Areas) -> AreasAsked
 
 // 6 of the lists of an axis: equally long, and no first is above its last.
 fn formed(indexes: &[u32], sizes: &[u64], merge_firsts: &[u32], merge_lasts: &[u32]) -> bool
-    ensures { λ r. ⌜
-        r ≡ (equallyLong (now (indexes .entry)) (now (sizes .entry)) && equallyLong (now («merge_firsts» .entry)) (now («merge_lasts» .entry))
-        && allOrdered (now («merge_firsts» .entry)) (now («merge_lasts» .entry)))
-        ⌝ }
+    ensures { result ≡ (equally_long indexes.now sizes.now && equally_long merge_firsts.now merge_lasts.now
+        && all_ordered merge_firsts.now merge_lasts.now) }
 {
     (indexes.len() == sizes.len())
         & (merge_firsts.len() == merge_lasts.len())
@@ -148,7 +136,7 @@ fn formed(indexes: &[u32], sizes: &[u64], merge_firsts: &[u32], merge_lasts: &[u
 
 // The number of a question whose answer is no, or the number that comes after it.
 fn no_or(question: u8, yes: bool, after: u8) -> u8
-    ensures { λ r. ⌜ r ≡ noOr question yes after ⌝ }
+    ensures { result ≡ no_or question yes after }
 {
     if yes { after } else { question }
 }
@@ -162,10 +150,8 @@ pub fn partition_refusal(
     merge_firsts: &[u32],
     merge_lasts: &[u32],
 ) -> u8
-    ensures { λ r. ⌜
-        r ≡ partition.firstNo limit setup (now (indexes .entry)) (now (sizes .entry)) (now («merge_firsts» .entry))
-        (now («merge_lasts» .entry))
-        ⌝ }
+    ensures { result ≡ partition.first_no limit setup indexes.now sizes.now merge_firsts.now
+        merge_lasts.now }
 {
     let six = (indexes.len() == sizes.len())
         & (merge_firsts.len() == merge_lasts.len())
@@ -190,13 +176,11 @@ pub fn plan_refusal(
     merge_last_rows: &[u32],
     merge_last_columns: &[u32],
 ) -> u8
-    ensures { λ r. ⌜
-        ((rt ct : Title) (rb cb : List ℕ) →
-        r ≡ call.firstNo
-        (call.sheetOf settings rt ct (now («row_indexes» .entry)) (now («row_sizes» .entry)) (now («column_indexes» .entry))
-        (now («column_sizes» .entry)) (now («merge_first_rows» .entry)) (now («merge_first_columns» .entry))
-        (now («merge_last_rows» .entry)) (now («merge_last_columns» .entry)) rb cb) areas)
-        ⌝ }
+    ensures { (rt ct : Title) (rb cb : List ℕ) →
+        result ≡ call.first_no
+        (call.sheet_of settings rt ct row_indexes.now row_sizes.now column_indexes.now
+        column_sizes.now merge_first_rows.now merge_first_columns.now
+        merge_last_rows.now merge_last_columns.now rb cb) areas }
 {
     let asked = ask_areas(areas);
     let four = (1 <= areas.count) & (areas.count <= 8);
@@ -233,7 +217,7 @@ pub fn room_refusal(
     column_room: usize,
     limit: u64,
 ) -> u8
-    ensures { λ r. ⌜ r ≡ call.roomNo rows columns pages «row_room» «column_room» limit ⌝ }
+    ensures { result ≡ call.room_no rows columns pages row_room column_room limit }
 {
     let eleven = (rows <= row_room) & (columns <= column_room);
     no_or(11, eleven, no_or(12, pages <= limit, 0))

@@ -1,211 +1,211 @@
 -- Laws of one area that is ready, counted and written. Assumes nothing.
-use mathlib.Core.Path.{_≡_, refl, sym, ap, ap₂, subst, _∙_}
-use mathlib.Core.Bool.{Bool, true, cond, _&&_}
+use mathlib.Core.Path.{◌≡◌, refl, sym, ap, ap₂, subst, ◌∙◌}
+use mathlib.Core.Bool.{Bool, true, cond, ◌&&◌}
 use mathlib.Core.List.{List}
-use Prim.Native.Nat.{ℕ, _-_, _*_, _^_, _≤_}
+use Prim.Native.Nat.{ℕ, ◌-◌, ◌*◌, ◌^◌, ◌≤◌}
 use native.Mathlib.Omega.{arith}
 use lib.Dec.{eqb}
 use lib.IntN.{ℤ}
 use lib.ListN.{length}
-use borrow.Rule.Slice.PartMut.{putMid}
-use Rattle·units.specs.declared.Fixed.{Fixed}
-use Rattle·planner_rules·specs.specs.declared.titles.Title.{Title}
-use Rattle·planner_rules·specs.specs.declared.titles.Widened.{Widened}
-use Rattle·planner_rules·specs.specs.declared.pages.AreaPlan.{AreaPlan}
-use Rattle·planner_rules·specs.specs.declared.planning.Settings.{Settings}
-use Rattle·planner_rules·specs.specs.declared.planning.PrintRange.{PrintRange}
-use Rattle·planner_rules·specs.specs.declared.planning.ReadyTitle.{ReadyTitle}
-use Rattle·planner_rules·specs.specs.declared.planning.Ready.{Ready}
-use Rattle·planner_rules·specs.specs.declared.planning.ReadyArea.{ReadyArea}
-use Rattle·planner_rules·specs.specs.declared.planning.FinalCut.{FinalCut}
-use Rattle·planner_rules·specs.specs.declared.planning.CountedArea.{CountedArea}
-use Rattle·planner_rules·specs.specs.declared.planning.Shared.{Shared}
-use Rattle·planner_rules·specs.specs.Slots.{Slots, written}
-use Rattle·planner_rules·specs.specs.Questions.{allWithin}
-use Rattle·planner_rules·specs.specs.Titles.{limitOf, widened, titleTotal}
-use Rattle·planner_rules·specs.specs.Runs.{Run}
-use Rattle·planner_rules·specs.specs.Lent.{runNumbers, flat, Room, RoomAt, WrittenAt}
-use Rattle·planner_rules·specs.specs.Scale.{Scale, orElse, defaultPercent, clamped, fixedScale, fitScale, fitPasses}
-use Rattle·planner_rules·specs.specs.Pages.{none, orEmpty}
-use Rattle·planner_rules·specs.specs.Plan.{AxisInput, Sheet, sheetOf, rowsIn, columnsIn, Sides, titleOf, spaceOn, lookedAt, passesBoth, chosenScale, cutRuns}
-use Rattle·planner_rules·specs.specs.Plan.{pageRuns, bodyIsEmpty, AreaLayout, planIn, countedAt, areaAt, areaLayout, ReadyFor, Cuttable, within, readyRuns}
-use Rattle·planner_rules·specs.specs.Steps.{TitleReady, Settled, FineArea, Startable, sidesIn, readyFrom, readyIn, readyCut, areaFrom, FewCut, Few}
-use Rattle·planner_rules·specs.specs.Steps.{rowsAt, columnsAt, Writable, putAt}
-use Rattle·planner_rules·proofs.proofs.Laws.{either, part, length-part}
-use Rattle·planner_rules·proofs.proofs.TitleLaws.{widened-pair, body-start-le, title-total-le}
-use Rattle·planner_rules·proofs.proofs.Lent.{flat-length, put-rest}
-use Rattle·planner_rules·proofs.proofs.CutLaws.{cuttable, passes-of, runs-of, cut-of, as-many}
+use borrow.Rule.Slice.PartMut.{put_mid}
+use Rattle.units.specs.declared.Fixed.{Fixed}
+use Rattle.planner_rules.specs.declared.titles.Title.{Title}
+use Rattle.planner_rules.specs.declared.titles.Widened.{Widened}
+use Rattle.planner_rules.specs.declared.pages.AreaPlan.{AreaPlan}
+use Rattle.planner_rules.specs.declared.planning.Settings.{Settings}
+use Rattle.planner_rules.specs.declared.planning.PrintRange.{PrintRange}
+use Rattle.planner_rules.specs.declared.planning.ReadyTitle.{ReadyTitle}
+use Rattle.planner_rules.specs.declared.planning.Ready.{Ready}
+use Rattle.planner_rules.specs.declared.planning.ReadyArea.{ReadyArea}
+use Rattle.planner_rules.specs.declared.planning.FinalCut.{FinalCut}
+use Rattle.planner_rules.specs.declared.planning.CountedArea.{CountedArea}
+use Rattle.planner_rules.specs.declared.planning.Shared.{Shared}
+use Rattle.planner_rules.specs.Slots.{Slots, written}
+use Rattle.planner_rules.specs.Questions.{all_within}
+use Rattle.planner_rules.specs.Titles.{limit_of, widened, title_total}
+use Rattle.planner_rules.specs.Runs.{Run}
+use Rattle.planner_rules.specs.Lent.{run_numbers, flat, Room, RoomAt, WrittenAt}
+use Rattle.planner_rules.specs.Scale.{Scale, or_else, default_percent, clamped, fixed_scale, fit_scale, fit_passes}
+use Rattle.planner_rules.specs.Pages.{none, or_empty}
+use Rattle.planner_rules.specs.Plan.{AxisInput, Sheet, sheet_of, rows_in, columns_in, Sides, title_of, space_on, looked_at, passes_both, chosen_scale, cut_runs}
+use Rattle.planner_rules.specs.Plan.{page_runs, body_is_empty, AreaLayout, plan_in, counted_at, area_at, area_layout, ReadyFor, Cuttable, within, ready_runs}
+use Rattle.planner_rules.specs.Steps.{TitleReady, Settled, FineArea, Startable, sides_in, ready_from, ready_in, ready_cut, area_from, FewCut, Few}
+use Rattle.planner_rules.specs.Steps.{rows_at, columns_at, Writable, put_at}
+use Rattle.planner_rules.proofs.Laws.{either, part, length_part}
+use Rattle.planner_rules.proofs.TitleLaws.{widened_pair, body_start_le, title_total_le}
+use Rattle.planner_rules.proofs.Lent.{flat-length, put_rest}
+use Rattle.planner_rules.proofs.CutLaws.{cuttable, passes_of, runs_of, cut_of_lem, as_many}
 
 -- ---- a title that is ready
 
-module _ (limit : ℕ) (asked : Title) (is ss fs ls : List ℕ) (slots : Slots is ss) (inside : allWithin limit ls ≡ true) where
-  pub title-ready : (w : Widened) → w ≡ widened limit asked fs ls → (n : ℕ) → n ≡ titleTotal (w .title) is ss
-      → TitleReady (record { asked = asked; title = w .title; total = n; ignored = w .ignored; expanded = w .expanded }) limit is ss fs ls
-  title-ready w e n total = record {
-    title-is = ap (λ (v : Widened). v .title) e;
-    ignored-is = ap (λ (v : Widened). v .ignored) e;
-    expanded-is = ap (λ (v : Widened). v .expanded) e;
-    total-is = total;
-    total-low = rw total (title-total-le (w .title) is ss slots);
-    starts-low = λ first h. body-start-le limit (w .title) first h
-        (λ f l q. widened-pair limit fs ls inside asked f l (ap (λ (v : Widened). v .title) (sym e) ∙ q) .1);
+module _ (limit : ℕ) (asked : Title) (is ss fs ls : List ℕ) (slots : Slots is ss) (inside : all_within limit ls ≡ true) where
+  pub title_ready : (w : Widened) → w ≡ widened limit asked fs ls → (n : ℕ) → n ≡ title_total w.title is ss
+      → TitleReady (record { asked = asked; title = w.title; total = n; ignored = w.ignored; expanded = w.expanded }) limit is ss fs ls
+  title_ready w e n total = record {
+    title_is = ap (λ (v : Widened). v.title) e;
+    ignored_is = ap (λ (v : Widened). v.ignored) e;
+    expanded_is = ap (λ (v : Widened). v.expanded) e;
+    total_is = total;
+    total_low = rw total (title_total_le w.title is ss slots);
+    starts_low = λ first h. body_start_le limit w.title first h
+        (λ f l q. (widened_pair limit fs ls inside asked f l (ap (λ (v : Widened). v.title) (sym e) ∙ q)).1);
   }
 
 -- ---- an area that is ready
 
 -- an axis with its title, ready to be cut
-pub ready-for : (side : Fixed) (t : ReadyTitle) (a : AxisInput) → t .title ≡ titleOf a .title → t .total ≡ titleTotal (t .title) (a .indexes) (a .sizes)
-    → t .total ≤ 2 ^ 50 → a .headings ≤ 2 ^ 50 → ReadyFor (readyFrom side t a) (side .0) a
-unfolding spaceOn
-ready-for side t a e total low headings =
+pub ready_for : (side : Fixed) (t : ReadyTitle) (a : AxisInput) → t.title ≡ (title_of a).title → t.total ≡ title_total t.title a.indexes a.sizes
+    → t.total ≤ 2 ^ 50 → a.headings ≤ 2 ^ 50 → ReadyFor (ready_from side t a) side.0 a
+unfolding space_on
+ready_for side t a e total low headings =
     record {
-      space-is = rw (total, e);
-      title-is = e;
-      lo-is = rw e;
-      hi-is = refl;
-      target-is = refl;
-      from-is = rw e;
-      to-is = refl;
-      low = record { headings-low = headings; titles-low = low };
+      space_is = rw (total, e);
+      title_is = e;
+      lo_is = rw e;
+      hi_is = refl;
+      target_is = refl;
+      from_is = rw e;
+      to_is = refl;
+      low = record { headings_low = headings; titles_low = low };
     }
 
 -- a sheet with what all areas share in place of its own
 abbrev pub onto : Shared → Sheet → Sheet
 onto x s =
-    sheetOf (x .settings) (x .rows .asked) (x .columns .asked) (s .row-indexes) (s .row-sizes) (s .column-indexes) (s .column-sizes)
-    (s .merge-first-rows) (s .merge-first-columns) (s .merge-last-rows) (s .merge-last-columns) (s .row-breaks) (s .column-breaks)
+    sheet_of x.settings x.rows.asked x.columns.asked s.row_indexes s.row_sizes s.column_indexes s.column_sizes
+    s.merge_first_rows s.merge_first_columns s.merge_last_rows s.merge_last_columns s.row_breaks s.column_breaks
 
 module _ (x : Shared) (s : Sheet) (y : Settled x s) (g : PrintRange) where
   abbrev rows : AxisInput
-  rows = rowsIn (onto x s) g
+  rows = rows_in (onto x s) g
 
   abbrev columns : AxisInput
-  columns = columnsIn (onto x s) g
+  columns = columns_in (onto x s) g
 
-  pub row-startable : FineArea g → Startable (s .row-indexes) (x .rows) (g .«first_row»)
-  unfolding limitOf
-  row-startable f = record { rising = y .row-slots .rising; start-low = y .rows-ready .starts-low (g .«first_row») (omega (arith, f)) }
+  pub row_startable : FineArea g → Startable s.row_indexes x.rows g.first_row
+  unfolding limit_of
+  row_startable f = record { rising = y.row_slots.rising; start_low = y.rows_ready.starts_low g.first_row (omega (arith, f)) }
 
-  pub column-startable : FineArea g → Startable (s .column-indexes) (x .columns) (g .«first_column»)
-  unfolding limitOf
-  column-startable f = record {
-    rising = y .column-slots .rising;
-    start-low = omega (arith, y .columns-ready .starts-low (g .«first_column») (omega (arith, f)));
+  pub column_startable : FineArea g → Startable s.column_indexes x.columns g.first_column
+  unfolding limit_of
+  column_startable f = record {
+    rising = y.column_slots.rising;
+    start_low = omega (arith, y.columns_ready.starts_low g.first_column (omega (arith, f)));
   }
 
-  module _ (r : ReadyArea) (e : r ≡ readyIn x g (s .row-indexes) (s .column-indexes)) where
-    pub rows-are : ReadyFor (r .rows) (sidesIn x .height) rows
-    rows-are =
-        let t = y .rows-ready in
-        rw e (ready-for (x .sides .height) (x .rows) rows (t .title-is) (t .total-is) (t .total-low)
-        (either (λ (n : ℕ). n ≤ 2 ^ 50) (x .settings .headings) (omega arith) (omega arith)))
+  module _ (r : ReadyArea) (e : r ≡ ready_in x g s.row_indexes s.column_indexes) where
+    pub rows_are : ReadyFor r.rows (sides_in x).height rows
+    rows_are =
+        let t = y.rows_ready in
+        rw e (ready_for x.sides.height x.rows rows t.title_is t.total_is t.total_low
+        (either (λ (n : ℕ). n ≤ 2 ^ 50) x.settings.headings (omega arith) (omega arith)))
 
-    pub columns-are : ReadyFor (r .columns) (sidesIn x .width) columns
-    columns-are =
-        let t = y .columns-ready in
-        rw e (ready-for (x .sides .width) (x .columns) columns (t .title-is) (t .total-is) (t .total-low)
-        (either (λ (n : ℕ). n ≤ 2 ^ 50) (x .settings .headings) (omega arith) (omega arith)))
+    pub columns_are : ReadyFor r.columns (sides_in x).width columns
+    columns_are =
+        let t = y.columns_ready in
+        rw e (ready_for x.sides.width x.columns columns t.title_is t.total_is t.total_low
+        (either (λ (n : ℕ). n ≤ 2 ^ 50) x.settings.headings (omega arith) (omega arith)))
 
-    pub row-cuttable : Cuttable (r .rows) (s .row-indexes) (s .row-sizes)
-    row-cuttable = cuttable (r .rows) (sidesIn x .height) rows (y .row-slots) rows-are
+    pub row_cuttable : Cuttable r.rows s.row_indexes s.row_sizes
+    row_cuttable = cuttable r.rows (sides_in x).height rows y.row_slots rows_are
 
-    pub column-cuttable : Cuttable (r .columns) (s .column-indexes) (s .column-sizes)
-    column-cuttable = cuttable (r .columns) (sidesIn x .width) columns (y .column-slots) columns-are
+    pub column_cuttable : Cuttable r.columns s.column_indexes s.column_sizes
+    column_cuttable = cuttable r.columns (sides_in x).width columns y.column_slots columns_are
 
     -- the scale that was chosen is the area's
-    pub scale-is : (z : Scale) → z ≡ cond (x .settings .fit) (fitScale
-        (λ p. fitPasses (r .rows .fit) (s .merge-first-rows) (s .merge-last-rows) (within (r .rows) (s .row-indexes)) (within (r .rows) (s .row-sizes)) p
-        && fitPasses (r .columns .fit) (s .merge-first-columns) (s .merge-last-columns) (within (r .columns) (s .column-indexes))
-        (within (r .columns) (s .column-sizes)) p)) (fixedScale (x .settings .percent))
-        → z ≡ chosenScale (x .settings) (sidesIn x) rows columns
-    unfolding chosenScale
-    scale-is z q =
-        q ∙ ap (λ (t : ℕ → Bool). cond (x .settings .fit) (fitScale t) (fixedScale (x .settings .percent)))
-        (λ i. λ p. passes-of (r .rows) (sidesIn x .height) rows rows-are p i && passes-of (r .columns) (sidesIn x .width) columns columns-are p i)
+    pub scale_is : (z : Scale) → z ≡ cond x.settings.fit (fit_scale
+        (λ p. fit_passes r.rows.fit s.merge_first_rows s.merge_last_rows (within r.rows s.row_indexes) (within r.rows s.row_sizes) p
+        && fit_passes r.columns.fit s.merge_first_columns s.merge_last_columns (within r.columns s.column_indexes)
+        (within r.columns s.column_sizes) p)) (fixed_scale x.settings.percent)
+        → z ≡ chosen_scale x.settings (sides_in x) rows columns
+    unfolding chosen_scale
+    scale_is z q =
+        q ∙ ap (λ (t : ℕ → Bool). cond x.settings.fit (fit_scale t) (fixed_scale x.settings.percent))
+        (λ i. λ p. passes_of r.rows (sides_in x).height rows rows_are p i && passes_of r.columns (sides_in x).width columns columns_are p i)
 
     -- what was counted is what the area comes to
-    pub counted-is : (z : Scale) →
-        areaFrom (readyCut (r .rows) (z .permille) (s .row-indexes) (s .row-sizes) (s .merge-first-rows) (s .merge-last-rows)
-        (lookedAt (x .settings .fit) (s .row-breaks)))
-        (readyCut (r .columns) (z .permille) (s .column-indexes) (s .column-sizes) (s .merge-first-columns) (s .merge-last-columns)
-        (lookedAt (x .settings .fit) (s .column-breaks))) z
-        ≡ countedAt (sidesIn x) rows columns z
-    unfolding countedAt pageRuns
-    counted-is z =
-        let h = sidesIn x .height in
-        let w = sidesIn x .width in
-        let p = z .permille in
-        ap₂ (λ (a b : FinalCut). areaFrom a b z) (cut-of (r .rows) h rows rows-are p _ refl) (cut-of (r .columns) w columns columns-are p _ refl)
-        ∙ rw (as-many (rows .first) (cutRuns h rows p), as-many (columns .first) (cutRuns w columns p))
+    pub counted_is : (z : Scale) →
+        area_from (ready_cut r.rows z.permille s.row_indexes s.row_sizes s.merge_first_rows s.merge_last_rows
+        (looked_at x.settings.fit s.row_breaks))
+        (ready_cut r.columns z.permille s.column_indexes s.column_sizes s.merge_first_columns s.merge_last_columns
+        (looked_at x.settings.fit s.column_breaks)) z
+        ≡ counted_at (sides_in x) rows columns z
+    unfolding counted_at page_runs
+    counted_is z =
+        let h = (sides_in x).height in
+        let w = (sides_in x).width in
+        let p = z.permille in
+        ap₂ (λ (a b : FinalCut). area_from a b z) (cut_of_lem r.rows h rows rows_are p _ refl) (cut_of_lem r.columns w columns columns_are p _ refl)
+        ∙ rw (as_many rows.first (cut_runs h rows p), as_many columns.first (cut_runs w columns p))
 
 -- ---- the notes of a scale
 
-pub scale-few : (s : Settings) (c : Sides) (a b : AxisInput) → (chosenScale s c a b .clamp ≤ 1) × (chosenScale s c a b .unreachable ≤ 1)
-unfolding chosenScale fixedScale fitScale
-scale-few s c a b =
-    let p = orElse (s .percent) defaultPercent in
-    either (λ (z : Scale). (z .clamp ≤ 1) × (z .unreachable ≤ 1)) (s .fit)
-    (either (λ (z : Scale). (z .clamp ≤ 1) × (z .unreachable ≤ 1)) (passesBoth c a b 100) (omega arith, omega arith) (omega arith, omega arith))
+pub scale_few : (s : Settings) (c : Sides) (a b : AxisInput) → ((chosen_scale s c a b).clamp ≤ 1) × ((chosen_scale s c a b).unreachable ≤ 1)
+unfolding chosen_scale fixed_scale fit_scale
+scale_few s c a b =
+    let p = or_else s.percent default_percent in
+    either (λ (z : Scale). (z.clamp ≤ 1) × (z.unreachable ≤ 1)) s.fit
+    (either (λ (z : Scale). (z.clamp ≤ 1) × (z.unreachable ≤ 1)) (passes_both c a b 100) (omega arith, omega arith) (omega arith, omega arith))
     (either (λ (n : ℕ). n ≤ 1) (eqb p (clamped p)) (omega arith) (omega arith), omega arith)
 
-pub area-few : (c : Sides) (s : Sheet) (g : PrintRange) (a : CountedArea) → a ≡ areaLayout c s g .counted → FewCut a → Few a
-unfolding areaLayout areaAt countedAt
-area-few c s g a e cut =
-    let few = scale-few (s .settings) c (rowsIn s g) (columnsIn s g) in
-    record { cut = cut; clamped-few = rw e (few .0); unreachable-few = rw e (few .1) }
+pub area_few : (c : Sides) (s : Sheet) (g : PrintRange) (a : CountedArea) → a ≡ (area_layout c s g).counted → FewCut a → Few a
+unfolding area_layout area_at counted_at
+area_few c s g a e cut =
+    let few = scale_few s.settings c (rows_in s g) (columns_in s g) in
+    record { cut = cut; clamped_few = rw e few.0; unreachable_few = rw e few.1 }
 
 -- ---- runs that are written
 
 -- an axis whose breaks are these
-module _ (r : Ready) (side : ℤ) (a : AxisInput) (y : ReadyFor r side a) (p : ℕ) (kept : List ℕ) (e : kept ≡ a .breaks) where
+module _ (r : Ready) (side : ℤ) (a : AxisInput) (y : ReadyFor r side a) (p : ℕ) (kept : List ℕ) (e : kept ≡ a.breaks) where
   abbrev runs : List Run
-  runs = readyRuns r p (a .indexes) (a .sizes) (a .merge-firsts) (a .merge-lasts) kept
+  runs = ready_runs r p a.indexes a.sizes a.merge_firsts a.merge_lasts kept
 
-  same-runs : runs ≡ cutRuns side a p
-  same-runs = rw e (runs-of r side a y p)
+  same_runs : runs ≡ cut_runs side a p
+  same_runs = rw e (runs_of r side a y p)
 
-  pub empty-is : (b : Bool) → b ≡ bodyIsEmpty side a p → b ≡ none runs
-  empty-is b q = q ∙ ap none (sym same-runs)
+  pub empty_is : (b : Bool) → b ≡ body_is_empty side a p → b ≡ none runs
+  empty_is b q = q ∙ ap none (sym same_runs)
 
-  pub part-room : (at : ℕ) (old : List ℕ) → RoomAt (pageRuns side a p) at old → Room (orEmpty (a .first) runs) (part at old)
-  unfolding pageRuns
-  part-room at old h = rw same-runs (omega (arith, h, length-part at old))
+  pub part_room : (at : ℕ) (old : List ℕ) → RoomAt (page_runs side a p) at old → Room (or_empty a.first runs) (part at old)
+  unfolding page_runs
+  part_room at old h = rw same_runs (omega (arith, h, length_part at old))
 
   -- a part of a list was lent, and came back with the runs at its front
-  pub part-written : (at : ℕ) (old new : List ℕ) → new ≡ written (flat (orEmpty (a .first) runs)) (part at old)
-      → putMid at (length old - at) old new ≡ putAt (pageRuns side a p) at old
-  unfolding pageRuns
-  part-written at old new w = put-rest at (flat (pageRuns side a p)) old new (rw same-runs at w)
+  pub part_written : (at : ℕ) (old new : List ℕ) → new ≡ written (flat (or_empty a.first runs)) (part at old)
+      → put_mid at (length old - at) old new ≡ put_at (page_runs side a p) at old
+  unfolding page_runs
+  part_written at old new w = put_rest at (flat (page_runs side a p)) old new (rw same_runs at w)
 
 -- an area that came to this at a scale
 module _ (x : Shared) (s : Sheet) (g : PrintRange) (z : Scale) (a : AreaPlan) where
   abbrev laid : AreaLayout
-  laid = areaAt (sidesIn x) (rowsIn s g) (columnsIn s g) z
+  laid = area_at (sides_in x) (rows_in s g) (columns_in s g) z
 
-  module _ (e : a ≡ planIn laid) where
-    pub as-long : (length (laid .rows) ≡ a .«row_runs») × (length (laid .columns) ≡ a .«column_runs»)
-    unfolding areaAt countedAt
-    as-long = rw e (refl, refl)
+  module _ (e : a ≡ plan_in laid) where
+    pub as_long : (length laid.rows ≡ a.row_runs) × (length laid.columns ≡ a.column_runs)
+    unfolding area_at counted_at
+    as_long = rw e (refl, refl)
 
-    pub writable : (row-at column-at : ℕ) (rows columns : List ℕ) → RoomAt (laid .rows) row-at rows → RoomAt (laid .columns) column-at columns
-        → Writable x s g a row-at column-at rows columns
-    unfolding areaAt countedAt
-    writable row-at column-at rows columns hr hc =
-        subst (λ (b : AreaPlan). Writable x s g b row-at column-at rows columns) (sym e)
-        (record { rows-empty = refl; columns-empty = refl; row-room = hr; column-room = hc })
+    pub writable : (row_at column_at : ℕ) (rows columns : List ℕ) → RoomAt laid.rows row_at rows → RoomAt laid.columns column_at columns
+        → Writable x s g a row_at column_at rows columns
+    unfolding area_at counted_at
+    writable row_at column_at rows columns hr hc =
+        subst (λ (b : AreaPlan). Writable x s g b row_at column_at rows columns) (sym e)
+        (record { rows_empty = refl; columns_empty = refl; row_room = hr; column_room = hc })
 
-    pub rows-put : (at : ℕ) (old new : List ℕ) → new ≡ putAt (rowsAt x s g (a .permille)) at old
-        → WrittenAt (laid .rows) at (a .«row_runs» * runNumbers) old new
-    unfolding areaAt countedAt
-    rows-put at old new h = record {
-      count = omega (arith, as-long .0, flat-length (laid .rows));
-      list-is = h ∙ ap (λ (b : AreaPlan). putAt (rowsAt x s g (b .permille)) at old) e;
+    pub rows_put : (at : ℕ) (old new : List ℕ) → new ≡ put_at (rows_at x s g a.permille) at old
+        → WrittenAt laid.rows at (a.row_runs * run_numbers) old new
+    unfolding area_at counted_at
+    rows_put at old new h = record {
+      count = omega (arith, as_long.0, flat-length laid.rows);
+      list_is = h ∙ ap (λ (b : AreaPlan). put_at (rows_at x s g b.permille) at old) e;
     }
 
-    pub columns-put : (at : ℕ) (old new : List ℕ) → new ≡ putAt (columnsAt x s g (a .permille)) at old
-        → WrittenAt (laid .columns) at (a .«column_runs» * runNumbers) old new
-    unfolding areaAt countedAt
-    columns-put at old new h = record {
-      count = omega (arith, as-long .1, flat-length (laid .columns));
-      list-is = h ∙ ap (λ (b : AreaPlan). putAt (columnsAt x s g (b .permille)) at old) e;
+    pub columns_put : (at : ℕ) (old new : List ℕ) → new ≡ put_at (columns_at x s g a.permille) at old
+        → WrittenAt laid.columns at (a.column_runs * run_numbers) old new
+    unfolding area_at counted_at
+    columns_put at old new h = record {
+      count = omega (arith, as_long.1, flat-length laid.columns);
+      list_is = h ∙ ap (λ (b : AreaPlan). put_at (columns_at x s g b.permille) at old) e;
     }

@@ -1,68 +1,68 @@
 -- Lists of areas: one of them by its number, those before it, and their runs one after another in a list. Assumes nothing.
-use mathlib.Core.Path.{_≡_, refl, sym, ap, _∙_, subst}
+use mathlib.Core.Path.{◌≡◌, refl, sym, ap, ◌∙◌, subst}
 use mathlib.Core.Bool.{Bool, true}
-use mathlib.Core.List.{List, [], _∷_, _++_, map, append-assoc}
-use Prim.Native.Nat.{ℕ, zero, suc, _+_, _-_, _*_, _≤_}
+use mathlib.Core.List.{List, [], ◌∷◌, ◌++◌, map, append_assoc}
+use Prim.Native.Nat.{ℕ, zero, suc, ◌+◌, ◌-◌, ◌*◌, ◌≤◌}
 use native.Mathlib.Omega.{arith}
 use lib.ListN.{length, take, drop, length-append}
-use lib.Seq.{drop-drop, drop-at}
-use Rattle·units.specs.Outcome.{given, refused}
-use Rattle·planner_rules·specs.specs.declared.pages.AreaPlan.{AreaPlan}
-use Rattle·planner_rules·specs.specs.declared.planning.PrintRange.{PrintRange}
-use Rattle·planner_rules·specs.specs.Runs.{Run}
-use Rattle·planner_rules·specs.specs.Areas.{heldPlans, plansIn, overAreas, everyArea}
-use Rattle·planner_rules·specs.specs.Lent.{flat, runNumbers}
-use Rattle·planner_rules·specs.specs.Pages.{numbered, joined, afterRuns}
-use Rattle·planner_rules·proofs.proofs.QuestionLaws.{both}
-use Rattle·planner_rules·proofs.proofs.Lent.{flat-append, flat-length}
+use lib.Seq.{drop-drop, drop_at}
+use Rattle.units.specs.Outcome.{given, refused}
+use Rattle.planner_rules.specs.declared.pages.AreaPlan.{AreaPlan}
+use Rattle.planner_rules.specs.declared.planning.PrintRange.{PrintRange}
+use Rattle.planner_rules.specs.Runs.{Run}
+use Rattle.planner_rules.specs.Areas.{held_plans, plans_in, over_areas, every_area}
+use Rattle.planner_rules.specs.Lent.{flat, run_numbers}
+use Rattle.planner_rules.specs.Pages.{numbered, joined, after_runs}
+use Rattle.planner_rules.proofs.QuestionLaws.{both}
+use Rattle.planner_rules.proofs.Lent.{flat_append, flat-length}
 
 -- ---- eight fields
 
 -- areas that a plan holds are those that were put there
-pub held-are : (xs : List AreaPlan) → length xs ≤ 8 → plansIn (heldPlans xs) ≡ xs
-held-are [] h = refl
-held-are (a ∷ []) h = refl
-held-are (a ∷ (b ∷ [])) h = refl
-held-are (a ∷ (b ∷ (c ∷ []))) h = refl
-held-are (a ∷ (b ∷ (c ∷ (d ∷ [])))) h = refl
-held-are (a ∷ (b ∷ (c ∷ (d ∷ (e ∷ []))))) h = refl
-held-are (a ∷ (b ∷ (c ∷ (d ∷ (e ∷ (f ∷ [])))))) h = refl
-held-are (a ∷ (b ∷ (c ∷ (d ∷ (e ∷ (f ∷ (g ∷ []))))))) h = refl
-held-are (a ∷ (b ∷ (c ∷ (d ∷ (e ∷ (f ∷ (g ∷ (i ∷ [])))))))) h = refl
-held-are (a ∷ (b ∷ (c ∷ (d ∷ (e ∷ (f ∷ (g ∷ (i ∷ (j ∷ xs))))))))) h = absurd (omega arith)
+pub held_are : (xs : List AreaPlan) → length xs ≤ 8 → plans_in (held_plans xs) ≡ xs
+held_are [] h = refl
+held_are (a ∷ []) h = refl
+held_are (a ∷ (b ∷ [])) h = refl
+held_are (a ∷ (b ∷ (c ∷ []))) h = refl
+held_are (a ∷ (b ∷ (c ∷ (d ∷ [])))) h = refl
+held_are (a ∷ (b ∷ (c ∷ (d ∷ (e ∷ []))))) h = refl
+held_are (a ∷ (b ∷ (c ∷ (d ∷ (e ∷ (f ∷ [])))))) h = refl
+held_are (a ∷ (b ∷ (c ∷ (d ∷ (e ∷ (f ∷ (g ∷ []))))))) h = refl
+held_are (a ∷ (b ∷ (c ∷ (d ∷ (e ∷ (f ∷ (g ∷ (i ∷ [])))))))) h = refl
+held_are (a ∷ (b ∷ (c ∷ (d ∷ (e ∷ (f ∷ (g ∷ (i ∷ (j ∷ xs))))))))) h = absurd (omega arith)
 
 -- ---- one of a list by its number
 
-no-none : {A B : Type 0} (n : ℕ) (x : A) → refused n ≡ given x → B
-no-none n x e = let z : _≡_ {A = ℕ} 0 1 = cc in absurd (omega arith)
+no_none : {A B : Type 0} (n : ℕ) (x : A) → refused n ≡ given x → B
+no_none n x e = let z : ◌≡◌ {A = ℕ} 0 1 = cc in absurd (omega arith)
 
 -- what is made of it stands at the same number
 pub numbered-map : {A B : Type 0} (f : A → B) (xs : List A) (n : ℕ) (x : A) → numbered xs n ≡ given x → numbered (map f xs) n ≡ given (f x)
 unfolding numbered
-numbered-map f [] n x e = no-none 14 x e
-numbered-map f (y ∷ xs) zero x e = no-none 14 x e
+numbered-map f [] n x e = no_none 14 x e
+numbered-map f (y ∷ xs) zero x e = no_none 14 x e
 numbered-map f (y ∷ xs) (suc zero) x e = let same : y ≡ x = cc in ap (λ z. given (f z)) same
 numbered-map f (y ∷ xs) (suc (suc n)) x e = numbered-map f xs (suc n) x e
 
 -- what is asked of every area holds of it
-pub every-one : (p : PrintRange → Bool) (gs : List PrintRange) (n : ℕ) (g : PrintRange) → everyArea p gs ≡ true → numbered gs n ≡ given g → p g ≡ true
-unfolding numbered everyArea
-every-one p [] n g h e = no-none 14 g e
-every-one p (f ∷ gs) zero g h e = no-none 14 g e
-every-one p (f ∷ gs) (suc zero) g h e = let same : f ≡ g = cc in subst (λ (x : PrintRange). p x ≡ true) same (both (p f) (everyArea p gs) h .0)
-every-one p (f ∷ gs) (suc (suc n)) g h e = every-one p gs (suc n) g (both (p f) (everyArea p gs) h .1) e
+pub every_one : (p : PrintRange → Bool) (gs : List PrintRange) (n : ℕ) (g : PrintRange) → every_area p gs ≡ true → numbered gs n ≡ given g → p g ≡ true
+unfolding numbered every_area
+every_one p [] n g h e = no_none 14 g e
+every_one p (f ∷ gs) zero g h e = no_none 14 g e
+every_one p (f ∷ gs) (suc zero) g h e = let same : f ≡ g = cc in subst (λ (x : PrintRange). p x ≡ true) same (both (p f) (every_area p gs) h).0
+every_one p (f ∷ gs) (suc (suc n)) g h e = every_one p gs (suc n) g (both (p f) (every_area p gs) h).1 e
 
 -- with what stands before it, it is no more than all
-pub before-and-it : {A : Type 0} (f : A → ℕ) (xs : List A) (n : ℕ) (x : A) → numbered xs n ≡ given x
-    → overAreas f (take (n - 1) xs) + f x ≤ overAreas f xs
-unfolding numbered overAreas
-before-and-it f [] n x e = no-none 14 x e
-before-and-it f (y ∷ xs) zero x e = no-none 14 x e
-before-and-it f (y ∷ xs) (suc zero) x e = let same : y ≡ x = cc in rw same (omega arith)
-before-and-it f (y ∷ xs) (suc (suc n)) x e =
+pub before_and_it : {A : Type 0} (f : A → ℕ) (xs : List A) (n : ℕ) (x : A) → numbered xs n ≡ given x
+    → over_areas f (take (n - 1) xs) + f x ≤ over_areas f xs
+unfolding numbered over_areas
+before_and_it f [] n x e = no_none 14 x e
+before_and_it f (y ∷ xs) zero x e = no_none 14 x e
+before_and_it f (y ∷ xs) (suc zero) x e = let same : y ≡ x = cc in rw same (omega arith)
+before_and_it f (y ∷ xs) (suc (suc n)) x e =
     let a : suc (suc n) - 1 ≡ suc n = omega arith in
     let b : suc n - 1 ≡ n = omega arith in
-    rw a (omega (arith, rw b at (before-and-it f xs (suc n) x e)))
+    rw a (omega (arith, rw b at (before_and_it f xs (suc n) x e)))
 
 -- the first n of what is made of some
 pub take-map : {A B : Type 0} (f : A → B) (n : ℕ) (xs : List A) → take n (map f xs) ≡ map f (take n xs)
@@ -71,59 +71,59 @@ take-map f (suc n) [] = refl
 take-map f (suc n) (x ∷ xs) = ap (λ l. f x ∷ l) (take-map f n xs)
 
 -- of what is made of areas
-pub over-map : {A B : Type 0} (f : B → ℕ) (g : A → B) (xs : List A) → overAreas f (map g xs) ≡ overAreas (λ (x : A). f (g x)) xs
-unfolding overAreas
-over-map f g [] = refl
-over-map f g (x ∷ xs) = ap (λ (n : ℕ). f (g x) + n) (over-map f g xs)
+pub over_map : {A B : Type 0} (f : B → ℕ) (g : A → B) (xs : List A) → over_areas f (map g xs) ≡ over_areas (λ (x : A). f (g x)) xs
+unfolding over_areas
+over_map f g [] = refl
+over_map f g (x ∷ xs) = ap (λ (n : ℕ). f (g x) + n) (over_map f g xs)
 
-pub over-same : {A : Type 0} (f g : A → ℕ) → ((x : A) → f x ≡ g x) → (xs : List A) → overAreas f xs ≡ overAreas g xs
-unfolding overAreas
-over-same f g h [] = refl
-over-same f g h (x ∷ xs) = rw (h x) (ap (λ (n : ℕ). g x + n) (over-same f g h xs))
+pub over_same : {A : Type 0} (f g : A → ℕ) → ((x : A) → f x ≡ g x) → (xs : List A) → over_areas f xs ≡ over_areas g xs
+unfolding over_areas
+over_same f g h [] = refl
+over_same f g h (x ∷ xs) = rw (h x) (ap (λ (n : ℕ). g x + n) (over_same f g h xs))
 
 -- ---- runs, area after area
 
-module _ {A : Type 0} (runsOf : A → List Run) where
+module _ {A : Type 0} (runs_of : A → List Run) where
   -- all of them, and how many
   abbrev pub together : List A → List Run
-  together xs = joined (map runsOf xs)
+  together xs = joined (map runs_of xs)
 
-  abbrev pub howMany : A → ℕ
-  howMany x = length (runsOf x)
+  abbrev pub how_many : A → ℕ
+  how_many x = length (runs_of x)
 
-  pub together-length : (xs : List A) → length (together xs) ≡ overAreas howMany xs
-  unfolding joined overAreas
-  together-length [] = refl
-  together-length (x ∷ xs) = omega (arith, length-append (runsOf x) (together xs), together-length xs)
+  pub together_length : (xs : List A) → length (together xs) ≡ over_areas how_many xs
+  unfolding joined over_areas
+  together_length [] = refl
+  together_length (x ∷ xs) = omega (arith, length-append (runs_of x) (together xs), together_length xs)
 
   -- in a list that has them at its front, the runs of an area stand after those of the areas before it
   pub record FromArea (xs : List A) (n : ℕ) (x : A) (tail : List ℕ) : Type 0 where
     pub others : List ℕ
-    pub from-it : afterRuns (overAreas howMany (take (n - 1) xs)) (flat (together xs) ++ tail) ≡ flat (runsOf x) ++ others
+    pub from_it : after_runs (over_areas how_many (take (n - 1) xs)) (flat (together xs) ++ tail) ≡ flat (runs_of x) ++ others
 
-  pub from-area : (xs : List A) (n : ℕ) (x : A) (tail : List ℕ) → numbered xs n ≡ given x → FromArea xs n x tail
-  unfolding numbered overAreas joined
-  from-area [] n x tail e = no-none 14 x e
-  from-area (y ∷ xs) zero x tail e = no-none 14 x e
-  from-area (y ∷ xs) (suc zero) x tail e =
+  pub from_area : (xs : List A) (n : ℕ) (x : A) (tail : List ℕ) → numbered xs n ≡ given x → FromArea xs n x tail
+  unfolding numbered over_areas joined
+  from_area [] n x tail e = no_none 14 x e
+  from_area (y ∷ xs) zero x tail e = no_none 14 x e
+  from_area (y ∷ xs) (suc zero) x tail e =
       let same : y ≡ x = cc in
       record {
         others = flat (together xs) ++ tail;
-        from-it = rw (flat-append (runsOf y) (together xs), append-assoc (flat (runsOf y)) (flat (together xs)) tail)
-            (ap (λ (z : A). flat (runsOf z) ++ (flat (together xs) ++ tail)) same);
+        from_it = rw (flat_append (runs_of y) (together xs), append_assoc (flat (runs_of y)) (flat (together xs)) tail)
+            (ap (λ (z : A). flat (runs_of z) ++ (flat (together xs) ++ tail)) same);
       }
-  from-area (y ∷ xs) (suc (suc n)) x tail e =
+  from_area (y ∷ xs) (suc (suc n)) x tail e =
       let a : suc (suc n) - 1 ≡ suc n = omega arith in
       let b : suc n - 1 ≡ n = omega arith in
-      let next = from-area xs (suc n) x tail e in
-      let front : List ℕ = flat (runsOf y) in
+      let next = from_area xs (suc n) x tail e in
+      let front : List ℕ = flat (runs_of y) in
       let more : List ℕ = flat (together xs) ++ tail in
-      let m : ℕ = overAreas howMany (take n xs) in
+      let m : ℕ = over_areas how_many (take n xs) in
       let split : flat (together (y ∷ xs)) ++ tail ≡ front ++ more =
-      ap (λ (l : List ℕ). l ++ tail) (flat-append (runsOf y) (together xs)) ∙ append-assoc front (flat (together xs)) tail in
-      let k : runNumbers * (howMany y + m) ≡ length front + runNumbers * m = omega (arith, flat-length (runsOf y)) in
+      ap (λ (l : List ℕ). l ++ tail) (flat_append (runs_of y) (together xs)) ∙ append_assoc front (flat (together xs)) tail in
+      let k : run_numbers * (how_many y + m) ≡ length front + run_numbers * m = omega (arith, flat-length (runs_of y)) in
       record {
-        others = next .others;
-        from-it = rw (a, split, k) (sym (drop-drop (runNumbers * m) (length front) (front ++ more))
-            ∙ ap (drop (runNumbers * m)) (drop-at front more (length front) refl) ∙ rw b at (next .from-it));
+        others = next.others;
+        from_it = rw (a, split, k) (sym (drop-drop (run_numbers * m) (length front) (front ++ more))
+            ∙ ap (drop (run_numbers * m)) (drop_at front more (length front) refl) ∙ rw b at next.from_it);
       }

@@ -1,168 +1,168 @@
 -- Laws of cuts and of the runs of an axis (`specs/Runs.antt`), way by way. Assumes nothing.
-use mathlib.Core.Path.{_≡_, refl, sym, ap, _∙_}
+use mathlib.Core.Path.{◌≡◌, refl, sym, ap, ◌∙◌}
 use mathlib.Core.Bool.{true, false}
-use mathlib.Core.List.{List, [], _∷_, _++_}
-use Prim.Native.Nat.{ℕ, _+_, _-_, _≤_, _<_, min}
+use mathlib.Core.List.{List, [], ◌∷◌, ◌++◌}
+use Prim.Native.Nat.{ℕ, ◌+◌, ◌-◌, ◌≤◌, ◌<◌, min}
 use native.Mathlib.Omega.{arith}
-use lib.ListN.{length, getD, drop, drop-of-length-le}
+use lib.ListN.{length, get_or, drop, drop_of_length-le}
 use lib.Seq.{drop-cons}
 use native.Mathlib.Numerals.{add-one}
 use lib.Dec.{ltb}
 use borrow.Author.Tests.{lt-ltb, le-ltb}
-use Rattle·planner_rules·specs.specs.declared.runs.Held.{Held}
-use Rattle·planner_rules·specs.specs.declared.runs.Held.the-variants.{Free, By}
-use Rattle·planner_rules·specs.specs.declared.runs.Frame.{Frame}
-use Rattle·planner_rules·specs.specs.declared.runs.Cut.{Cut}
-use Rattle·planner_rules·proofs.proofs.Laws.{either, part, turn, none, some}
-use Rattle·planner_rules·proofs.proofs.Places.{below-up-to}
-use Rattle·planner_rules·specs.specs.Slots.{Slots, below, through, mid}
-use Rattle·planner_rules·specs.specs.Titles.{titleHolds}
-use Rattle·planner_rules·specs.specs.Runs.{Run, holding, expansions, cutAt, moved, placed, kept, nextCut, stretch, axisRuns, shifts, runs, run, runsBy}
-use Rattle·planner_rules·specs.specs.Runs.{firstMarked, withMark}
+use Rattle.planner_rules.specs.declared.runs.Held.{Held}
+use Rattle.planner_rules.specs.declared.runs.Held.TheVariants.{Free, By}
+use Rattle.planner_rules.specs.declared.runs.Frame.{Frame}
+use Rattle.planner_rules.specs.declared.runs.Cut.{Cut}
+use Rattle.planner_rules.proofs.Laws.{either, part, turn, none, some}
+use Rattle.planner_rules.proofs.Places.{below_up_to}
+use Rattle.planner_rules.specs.Slots.{Slots, below, through, mid}
+use Rattle.planner_rules.specs.Titles.{title_holds}
+use Rattle.planner_rules.specs.Runs.{Run, holding, expansions, cut_at, moved, placed, kept, next_cut, stretch, axis_runs, shifts, runs, run, runs_by}
+use Rattle.planner_rules.specs.Runs.{first_marked, with_mark}
 
 module _ (held : Held) (f l prev p : ℕ) (is : List ℕ) (h : held ≡ By f l) (s : ℕ) (e : s ≡ below f is) where
-  pub moved-start : prev < s → cutAt s 1 ≡ moved held prev p is
+  pub moved_start : prev < s → cut_at s 1 ≡ moved held prev p is
   unfolding moved
-  moved-start q = rw (h, ← e, lt-ltb prev s)
+  moved_start q = rw (h, ← e, lt-ltb prev s)
 
-  pub moved-past : s ≤ prev → (t : ℕ) → t ≡ through l is → cutAt t 1 ≡ moved held prev p is
+  pub moved_past : s ≤ prev → (t : ℕ) → t ≡ through l is → cut_at t 1 ≡ moved held prev p is
   unfolding moved
-  moved-past q t e′ = rw (h, ← e, ← e′, le-ltb prev s)
+  moved_past q t e' = rw (h, ← e, ← e', le-ltb prev s)
 
 module _ (k : Frame) (fs ls is : List ℕ) (prev p : ℕ) where
-  pub placed-zero : p ≤ 0 → cutAt prev 0 ≡ placed k fs ls is prev p
+  pub placed_zero : p ≤ 0 → cut_at prev 0 ≡ placed k fs ls is prev p
   unfolding placed
-  placed-zero h = rw (le-ltb 0 p)
+  placed_zero h = rw (le-ltb 0 p)
 
-  pub placed-past : 0 < p → length is ≤ p → cutAt prev 0 ≡ placed k fs ls is prev p
+  pub placed_past : 0 < p → length is ≤ p → cut_at prev 0 ≡ placed k fs ls is prev p
   unfolding placed
-  placed-past h q = rw (lt-ltb 0 p, le-ltb p (length is))
+  placed_past h q = rw (lt-ltb 0 p, le-ltb p (length is))
 
-  pub placed-title : 0 < p → p < length is → titleHolds (k .title) (getD is p 0) ≡ true → cutAt prev 0 ≡ placed k fs ls is prev p
+  pub placed_title : 0 < p → p < length is → title_holds k.title (get_or is p 0) ≡ true → cut_at prev 0 ≡ placed k fs ls is prev p
   unfolding placed
-  placed-title h q t = rw (lt-ltb 0 p, lt-ltb p (length is), t)
+  placed_title h q t = rw (lt-ltb 0 p, lt-ltb p (length is), t)
 
-  pub placed-moved : 0 < p → p < length is → titleHolds (k .title) (getD is p 0) ≡ false
-      → moved (holding (k .lo) (k .hi) (getD is p 0) fs ls) prev p is ≡ placed k fs ls is prev p
+  pub placed_moved : 0 < p → p < length is → title_holds k.title (get_or is p 0) ≡ false
+      → moved (holding k.lo k.hi (get_or is p 0) fs ls) prev p is ≡ placed k fs ls is prev p
   unfolding placed
-  placed-moved h q t = rw (lt-ltb 0 p, lt-ltb p (length is), t)
+  placed_moved h q t = rw (lt-ltb 0 p, lt-ltb p (length is), t)
 
-  moved-shifted : (held : Held) → moved held prev p is .shifted ≤ 1
+  moved_shifted : (held : Held) → (moved held prev p is).shifted ≤ 1
   unfolding moved
-  moved-shifted Free = omega arith
-  moved-shifted (By f l) = omega arith
+  moved_shifted Free = omega arith
+  moved_shifted (By f l) = omega arith
 
-  pub placed-shifted : placed k fs ls is prev p .shifted ≤ 1
+  pub placed_shifted : (placed k fs ls is prev p).shifted ≤ 1
   unfolding placed
-  placed-shifted =
+  placed_shifted =
       either Low (ltb 0 p)
       (either Low (ltb p (length is))
-      (either Low (titleHolds (k .title) (getD is p 0)) (omega arith) (moved-shifted (holding (k .lo) (k .hi) (getD is p 0) fs ls))) (omega arith))
+      (either Low (title_holds k.title (get_or is p 0)) (omega arith) (moved_shifted (holding k.lo k.hi (get_or is p 0) fs ls))) (omega arith))
       (omega arith)
     where
       Low : Cut → Type 0
-      Low c = c .shifted ≤ 1
+      Low c = c.shifted ≤ 1
 
 module _ (n prev : ℕ) (c : Cut) where
-  pub kept-yes : prev < c .place → c .place < n → c ≡ kept n prev c
+  pub kept_yes : prev < c.place → c.place < n → c ≡ kept n prev c
   unfolding kept
-  kept-yes h q = rw (lt-ltb prev (c .place), lt-ltb (c .place) n)
+  kept_yes h q = rw (lt-ltb prev c.place, lt-ltb c.place n)
 
-  pub kept-past : prev < c .place → n ≤ c .place → cutAt prev (c .shifted) ≡ kept n prev c
+  pub kept_past : prev < c.place → n ≤ c.place → cut_at prev c.shifted ≡ kept n prev c
   unfolding kept
-  kept-past h q = rw (lt-ltb prev (c .place), le-ltb (c .place) n)
+  kept_past h q = rw (lt-ltb prev c.place, le-ltb c.place n)
 
-  pub kept-low : c .place ≤ prev → cutAt prev (c .shifted) ≡ kept n prev c
+  pub kept_low : c.place ≤ prev → cut_at prev c.shifted ≡ kept n prev c
   unfolding kept
-  kept-low h = rw (le-ltb prev (c .place))
+  kept_low h = rw (le-ltb prev c.place)
 
 -- with no merges, a break that is not past the last kept cut leaves it
-pub next-stays : (k : Frame) (fs ls is : List ℕ) (prev b : ℕ) → length fs ≡ 0 → prev < length is → b ≤ getD is prev 0
-    → cutAt prev 0 ≡ nextCut k fs ls is prev b
-unfolding nextCut placed moved holding
-next-stays k (f ∷ fs) ls is prev b none h l = absurd (omega arith)
-next-stays k [] ls is prev b none h l =
+pub next_stays : (k : Frame) (fs ls is : List ℕ) (prev b : ℕ) → length fs ≡ 0 → prev < length is → b ≤ get_or is prev 0
+    → cut_at prev 0 ≡ next_cut k fs ls is prev b
+unfolding next_cut placed moved holding
+next_stays k (f ∷ fs) ls is prev b none h l = absurd (omega arith)
+next_stays k [] ls is prev b none h l =
     let p = below b is in
-    let low = below-up-to b is prev h l in
+    let low = below_up_to b is prev h l in
     either Stays (ltb 0 p)
     (either Stays (ltb p (length is))
-    (either Stays (titleHolds (k .title) (getD is p 0)) (kept-low (length is) prev (cutAt prev 0) (omega arith)) (kept-low (length is) prev (cutAt p 0) low))
-    (kept-low (length is) prev (cutAt prev 0) (omega arith)))
-    (kept-low (length is) prev (cutAt prev 0) (omega arith))
+    (either Stays (title_holds k.title (get_or is p 0)) (kept_low (length is) prev (cut_at prev 0) (omega arith)) (kept_low (length is) prev (cut_at p 0) low))
+    (kept_low (length is) prev (cut_at prev 0) (omega arith)))
+    (kept_low (length is) prev (cut_at prev 0) (omega arith))
   where
     Stays : Cut → Type 0
-    Stays c = cutAt prev 0 ≡ kept (length is) prev c
+    Stays c = cut_at prev 0 ≡ kept (length is) prev c
 
-pub next-is : (k : Frame) (fs ls is : List ℕ) (prev b p : ℕ) (c : Cut) → p ≡ below b is → c ≡ placed k fs ls is prev p
-    → kept (length is) prev c ≡ nextCut k fs ls is prev b
-unfolding nextCut
-next-is k fs ls is prev b p c e h = ap (kept (length is) prev) (h ∙ ap (placed k fs ls is prev) e)
+pub next_is : (k : Frame) (fs ls is : List ℕ) (prev b p : ℕ) (c : Cut) → p ≡ below b is → c ≡ placed k fs ls is prev p
+    → kept (length is) prev c ≡ next_cut k fs ls is prev b
+unfolding next_cut
+next_is k fs ls is prev b p c e h = ap (kept (length is) prev) (h ∙ ap (placed k fs ls is prev) e)
 
 -- ---- marks change neither the number of runs nor the expansions
 
-pub marked-length : (m : ℕ) (rs : List Run) → length (firstMarked m rs) ≡ length rs
-unfolding firstMarked
+pub marked-length : (m : ℕ) (rs : List Run) → length (first_marked m rs) ≡ length rs
+unfolding first_marked
 marked-length m [] = refl
 marked-length m (r ∷ rs) = refl
 
-marked-expansions : (m : ℕ) (rs : List Run) → expansions (firstMarked m rs) ≡ expansions rs
-unfolding firstMarked expansions
+marked-expansions : (m : ℕ) (rs : List Run) → expansions (first_marked m rs) ≡ expansions rs
+unfolding first_marked expansions
 marked-expansions m [] = refl
 marked-expansions m (r ∷ rs) = refl
 
 -- only the first of a stretch can be marked
-pub unmarked : (k : Frame) (fs ls is ss : List ℕ) → firstMarked 0 (runs k fs ls is ss) ≡ runs k fs ls is ss
-unfolding firstMarked runs runsBy run
+pub unmarked : (k : Frame) (fs ls is ss : List ℕ) → first_marked 0 (runs k fs ls is ss) ≡ runs k fs ls is ss
+unfolding first_marked runs runs_by run
 unmarked k fs ls [] ss = refl
 unmarked k fs ls (i ∷ is) [] = refl
 unmarked k fs ls (i ∷ is) (s ∷ ss) = refl
 
 -- a turn of the loop that writes run after run: the run at the head with the mark, and the runs after it without
-pub turn-marked : (k : Frame) (fs ls : List ℕ) (m n : ℕ) (is ss : List ℕ) → Slots is ss → 0 < length ss → n ≡ run k fs ls is ss .slots → 1 ≤ n
-    → firstMarked m (runs k fs ls is ss) ≡ withMark m (run k fs ls is ss) ∷ firstMarked 0 (runs k fs ls (part n is) (part n ss))
-unfolding firstMarked runs
-turn-marked k fs ls m n is ss h p e q =
-    ap (firstMarked m) (turn (run k fs ls) n is ss h p e q)
-    ∙ ap (λ (rs : List Run). withMark m (run k fs ls is ss) ∷ rs) (sym (unmarked k fs ls (part n is) (part n ss)))
+pub turn_marked : (k : Frame) (fs ls : List ℕ) (m n : ℕ) (is ss : List ℕ) → Slots is ss → 0 < length ss → n ≡ (run k fs ls is ss).slots → 1 ≤ n
+    → first_marked m (runs k fs ls is ss) ≡ with_mark m (run k fs ls is ss) ∷ first_marked 0 (runs k fs ls (part n is) (part n ss))
+unfolding first_marked runs
+turn_marked k fs ls m n is ss h p e q =
+    ap (first_marked m) (turn (run k fs ls) n is ss h p e q)
+    ∙ ap (λ (rs : List Run). with_mark m (run k fs ls is ss) ∷ rs) (sym (unmarked k fs ls (part n is) (part n ss)))
 
-pub none-marked : (k : Frame) (fs ls : List ℕ) (m : ℕ) (is ss : List ℕ) → length ss ≤ 0 → firstMarked m (runs k fs ls is ss) ≡ []
-unfolding firstMarked runs
-none-marked k fs ls m is ss h = ap (firstMarked m) (none (run k fs ls) is ss h)
+pub none_marked : (k : Frame) (fs ls : List ℕ) (m : ℕ) (is ss : List ℕ) → length ss ≤ 0 → first_marked m (runs k fs ls is ss) ≡ []
+unfolding first_marked runs
+none_marked k fs ls m is ss h = ap (first_marked m) (none (run k fs ls) is ss h)
 
-pub some-marked : (k : Frame) (fs ls : List ℕ) (m : ℕ) (is ss : List ℕ) → 0 < length ss → length is ≡ length ss
-    → 1 ≤ length (firstMarked m (runs k fs ls is ss))
+pub some_marked : (k : Frame) (fs ls : List ℕ) (m : ℕ) (is ss : List ℕ) → 0 < length ss → length is ≡ length ss
+    → 1 ≤ length (first_marked m (runs k fs ls is ss))
 unfolding runs
-some-marked k fs ls m is ss h e = omega (arith, marked-length m (runs k fs ls is ss), some (run k fs ls) is ss h e)
+some_marked k fs ls m is ss h e = omega (arith, marked-length m (runs k fs ls is ss), some (run k fs ls) is ss h e)
 
 module _ (k : Frame) (fs ls is ss : List ℕ) (a e : ℕ) where
-  pub stretch-length : length (stretch k fs ls is ss a e) ≡ length (runs k fs ls (mid a e is) (mid a e ss))
+  pub stretch_length : length (stretch k fs ls is ss a e) ≡ length (runs k fs ls (mid a e is) (mid a e ss))
   unfolding stretch
-  stretch-length = marked-length (min a 1) (runs k fs ls (mid a e is) (mid a e ss))
+  stretch_length = marked-length (min a 1) (runs k fs ls (mid a e is) (mid a e ss))
 
-  pub stretch-expansions : expansions (stretch k fs ls is ss a e) ≡ expansions (runs k fs ls (mid a e is) (mid a e ss))
+  pub stretch_expansions : expansions (stretch k fs ls is ss a e) ≡ expansions (runs k fs ls (mid a e is) (mid a e ss))
   unfolding stretch
-  stretch-expansions = marked-expansions (min a 1) (runs k fs ls (mid a e is) (mid a e ss))
+  stretch_expansions = marked-expansions (min a 1) (runs k fs ls (mid a e is) (mid a e ss))
 
 -- ---- from break to break
 
 module _ (k : Frame) (fs ls is ss : List ℕ) (prev j : ℕ) (bs : List ℕ) where
-  pub axis-more : (c : Cut) → j < length bs → c ≡ nextCut k fs ls is prev (getD bs j 0)
-      → axisRuns k fs ls is ss prev (drop j bs) ≡ stretch k fs ls is ss prev (c .place) ++ axisRuns k fs ls is ss (c .place) (drop (j + 1) bs)
-  unfolding axisRuns
-  axis-more c h e = rw (e, add-one, drop-cons bs j 0)
+  pub axis_more : (c : Cut) → j < length bs → c ≡ next_cut k fs ls is prev (get_or bs j 0)
+      → axis_runs k fs ls is ss prev (drop j bs) ≡ stretch k fs ls is ss prev c.place ++ axis_runs k fs ls is ss c.place (drop (j + 1) bs)
+  unfolding axis_runs
+  axis_more c h e = rw (e, add-one, drop-cons bs j 0)
 
-  pub axis-end : length bs ≤ j → axisRuns k fs ls is ss prev (drop j bs) ≡ stretch k fs ls is ss prev (length ss)
-  unfolding axisRuns
-  axis-end h = rw (drop-of-length-le bs h)
+  pub axis_end : length bs ≤ j → axis_runs k fs ls is ss prev (drop j bs) ≡ stretch k fs ls is ss prev (length ss)
+  unfolding axis_runs
+  axis_end h = rw (drop_of_length-le bs h)
 
-  pub shifts-more : (c : Cut) → j < length bs → c ≡ nextCut k fs ls is prev (getD bs j 0)
-      → shifts k fs ls is prev (drop j bs) ≡ c .shifted + shifts k fs ls is (c .place) (drop (j + 1) bs)
+  pub shifts_more : (c : Cut) → j < length bs → c ≡ next_cut k fs ls is prev (get_or bs j 0)
+      → shifts k fs ls is prev (drop j bs) ≡ c.shifted + shifts k fs ls is c.place (drop (j + 1) bs)
   unfolding shifts
-  shifts-more c h e = rw (e, add-one, drop-cons bs j 0)
+  shifts_more c h e = rw (e, add-one, drop-cons bs j 0)
 
-  pub shifts-end : length bs ≤ j → shifts k fs ls is prev (drop j bs) ≡ 0
+  pub shifts_end : length bs ≤ j → shifts k fs ls is prev (drop j bs) ≡ 0
   unfolding shifts
-  shifts-end h = rw (drop-of-length-le bs h)
+  shifts_end h = rw (drop_of_length-le bs h)
 
 pub expansions-append : (a b : List Run) → expansions (a ++ b) ≡ expansions a + expansions b
 unfolding expansions

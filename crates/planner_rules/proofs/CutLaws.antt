@@ -1,146 +1,146 @@
 -- Laws of one axis of an area, ready to be cut and cut: of `specs/Plan.antt`'s definitions for the private functions. Assumes nothing.
-use mathlib.Core.Path.{_≡_, refl, sym, ap, ap₂, subst, _∙_}
+use mathlib.Core.Path.{◌≡◌, refl, sym, ap, ap₂, subst, ◌∙◌}
 use mathlib.Core.Bool.{Bool, true, false, cond, true≢false}
-use mathlib.Core.List.{List, [], _∷_}
-use Prim.Native.Nat.{ℕ, _+_, _-_, _*_, _^_, _≤_, max}
+use mathlib.Core.List.{List, [], ◌∷◌}
+use Prim.Native.Nat.{ℕ, ◌+◌, ◌-◌, ◌*◌, ◌^◌, ◌≤◌, max}
 use native.Mathlib.Omega.{arith}
-use native.Mathlib.Nat.{mul-le-mul-left}
+use native.Mathlib.Nat.{mul-le-mul_left}
 use lib.IntN.{ℤ}
 use lib.ListN.{length, take}
-use lib.Seq.{take-all}
-use borrow.Author.Tests.{ne-eqb}
-use Rattle·planner_rules·specs.specs.declared.titles.Title.{Title}
-use Rattle·planner_rules·specs.specs.declared.planning.Ready.{Ready}
-use Rattle·planner_rules·specs.specs.declared.planning.FinalCut.{FinalCut}
-use Rattle·planner_rules·specs.specs.Slots.{Slots, below, written}
-use Rattle·planner_rules·specs.specs.Runs.{Run, expansions, tallies}
-use Rattle·planner_rules·specs.specs.Lent.{flat, roomIn, Room}
-use Rattle·planner_rules·specs.specs.Scale.{Space, bodyFor, frameFor, axisPasses, fitPasses}
-use Rattle·planner_rules·specs.specs.Pages.{none, orEmpty, overflowing}
-use Rattle·planner_rules·specs.specs.Plan.{AxisInput, titleOf, startOf, bodyPart, bodyOf, spaceOn, lookedAt, cutRuns, cutShifts, pageRuns, overflows}
-use Rattle·planner_rules·specs.specs.Plan.{ReadyFor, within, readyFrame, readyRuns, readyShifts, readyOverflows, cutOf, cutFrom, Cuttable}
-use Rattle·planner_rules·proofs.proofs.EndLaws.{below-le}
-use Rattle·planner_rules·proofs.proofs.Lent.{room-runs}
-use Rattle·planner_rules·proofs.proofs.OverflowLaws.{empty-anywhere}
+use lib.Seq.{take_all}
+use borrow.Author.Tests.{ne_eqb}
+use Rattle.planner_rules.specs.declared.titles.Title.{Title}
+use Rattle.planner_rules.specs.declared.planning.Ready.{Ready}
+use Rattle.planner_rules.specs.declared.planning.FinalCut.{FinalCut}
+use Rattle.planner_rules.specs.Slots.{Slots, below, written}
+use Rattle.planner_rules.specs.Runs.{Run, expansions, tallies}
+use Rattle.planner_rules.specs.Lent.{flat, room_in, Room}
+use Rattle.planner_rules.specs.Scale.{Space, body_for, frame_for, axis_passes, fit_passes}
+use Rattle.planner_rules.specs.Pages.{none, or_empty, overflowing}
+use Rattle.planner_rules.specs.Plan.{AxisInput, title_of, start_of, body_part, body_of, space_on, looked_at, cut_runs, cut_shifts, page_runs, overflows}
+use Rattle.planner_rules.specs.Plan.{ReadyFor, within, ready_frame, ready_runs, ready_shifts, ready_overflows, cut_of, cut_from, Cuttable}
+use Rattle.planner_rules.proofs.EndLaws.{below-le}
+use Rattle.planner_rules.proofs.Lent.{room_runs}
+use Rattle.planner_rules.proofs.OverflowLaws.{empty_anywhere}
 
 -- ---- a ready axis
 
 -- what a ready axis has of a list is what the body has
-pub within-body : (r : Ready) (side : ℤ) (a : AxisInput) → ReadyFor r side a → (xs : List ℕ) → within r xs ≡ bodyPart a xs
-within-body r side a y xs =
-    let from : ℕ = below (startOf a) (a .indexes) in
-    let to : ℕ = below (a .last + 1) (a .indexes) in
+pub within_body : (r : Ready) (side : ℤ) (a : AxisInput) → ReadyFor r side a → (xs : List ℕ) → within r xs ≡ body_part a xs
+within_body r side a y xs =
+    let from : ℕ = below (start_of a) a.indexes in
+    let to : ℕ = below (a.last + 1) a.indexes in
     let e : max from to - from ≡ to - from = omega arith in
-    rw (y .to-is, y .from-is, e)
+    rw (y.to_is, y.from_is, e)
 
-pub frame-of : (r : Ready) (side : ℤ) (a : AxisInput) → ReadyFor r side a → (p : ℕ) → readyFrame (r .fit) p ≡ frameFor (spaceOn side a) (bodyOf a) p
-unfolding bodyOf
-frame-of r side a y p =
-    ap (λ (s : Space). frameFor s (bodyFor (r .fit .stretch) [] [] [] []) p) (y .space-is) ∙ rw (y .title-is, y .lo-is, y .hi-is)
+pub frame_of : (r : Ready) (side : ℤ) (a : AxisInput) → ReadyFor r side a → (p : ℕ) → ready_frame r.fit p ≡ frame_for (space_on side a) (body_of a) p
+unfolding body_of
+frame_of r side a y p =
+    ap (λ (s : Space). frame_for s (body_for r.fit.stretch [] [] [] []) p) y.space_is ∙ rw (y.title_is, y.lo_is, y.hi_is)
 
 module _ (r : Ready) (side : ℤ) (a : AxisInput) (y : ReadyFor r side a) (p : ℕ) where
-  pub runs-of : readyRuns r p (a .indexes) (a .sizes) (a .merge-firsts) (a .merge-lasts) (a .breaks) ≡ cutRuns side a p
-  unfolding cutRuns bodyOf
-  runs-of = rw (frame-of r side a y p, within-body r side a y (a .indexes), within-body r side a y (a .sizes))
+  pub runs_of : ready_runs r p a.indexes a.sizes a.merge_firsts a.merge_lasts a.breaks ≡ cut_runs side a p
+  unfolding cut_runs body_of
+  runs_of = rw (frame_of r side a y p, within_body r side a y a.indexes, within_body r side a y a.sizes)
 
-  pub shifts-of : readyShifts r p (a .indexes) (a .merge-firsts) (a .merge-lasts) (a .breaks) ≡ cutShifts side a p
-  unfolding cutShifts bodyOf
-  shifts-of = rw (frame-of r side a y p, within-body r side a y (a .indexes))
+  pub shifts_of : ready_shifts r p a.indexes a.merge_firsts a.merge_lasts a.breaks ≡ cut_shifts side a p
+  unfolding cut_shifts body_of
+  shifts_of = rw (frame_of r side a y p, within_body r side a y a.indexes)
 
 -- the slots of a ready axis
-pub cuttable : (r : Ready) (side : ℤ) (a : AxisInput) → Slots (a .indexes) (a .sizes) → ReadyFor r side a → Cuttable r (a .indexes) (a .sizes)
+pub cuttable : (r : Ready) (side : ℤ) (a : AxisInput) → Slots a.indexes a.sizes → ReadyFor r side a → Cuttable r a.indexes a.sizes
 cuttable r side a s y = record {
   slots = s;
-  ordered = rw (y .to-is) (omega arith);
-  inside = rw (y .to-is, y .from-is) (omega (arith, below-le (startOf a) (a .indexes), below-le (a .last + 1) (a .indexes)));
-  low = y .low;
+  ordered = rw y.to_is (omega arith);
+  inside = rw (y.to_is, y.from_is) (omega (arith, below-le (start_of a) a.indexes, below-le (a.last + 1) a.indexes));
+  low = y.low;
 }
 
 -- ---- scale
 
-pub passes-of : (r : Ready) (side : ℤ) (a : AxisInput) → ReadyFor r side a → (p : ℕ)
-    → fitPasses (r .fit) (a .merge-firsts) (a .merge-lasts) (within r (a .indexes)) (within r (a .sizes)) p ≡ axisPasses (spaceOn side a) (bodyOf a)
-    (a .target) p
-unfolding bodyOf
-passes-of r side a y p =
-    rw (y .space-is, y .title-is, y .lo-is, y .hi-is, y .target-is, within-body r side a y (a .indexes), within-body r side a y (a .sizes))
+pub passes_of : (r : Ready) (side : ℤ) (a : AxisInput) → ReadyFor r side a → (p : ℕ)
+    → fit_passes r.fit a.merge_firsts a.merge_lasts (within r a.indexes) (within r a.sizes) p ≡ axis_passes (space_on side a) (body_of a)
+    a.target p
+unfolding body_of
+passes_of r side a y p =
+    rw (y.space_is, y.title_is, y.lo_is, y.hi_is, y.target_is, within_body r side a y a.indexes, within_body r side a y a.sizes)
 
 -- ---- cuts
 
-pub few-runs : (first : ℕ) (rs : List Run) (n : ℕ) → length rs ≤ n → 1 ≤ n → length (orEmpty first rs) ≤ n
-few-runs first [] n h k = k
-few-runs first (r ∷ rs) n h k = h
+pub few_runs : (first : ℕ) (rs : List Run) (n : ℕ) → length rs ≤ n → 1 ≤ n → length (or_empty first rs) ≤ n
+few_runs first [] n h k = k
+few_runs first (r ∷ rs) n h k = h
 
-pub as-many : (first : ℕ) (rs : List Run) → length (orEmpty first rs) ≡ length (orEmpty 0 rs)
-as-many first [] = refl
-as-many first (r ∷ rs) = refl
+pub as_many : (first : ℕ) (rs : List Run) → length (or_empty first rs) ≡ length (or_empty 0 rs)
+as_many first [] = refl
+as_many first (r ∷ rs) = refl
 
-pub cut-from : (rs : List Run) (k o : ℕ) → cutFrom (tallies (length rs) (expansions rs) k) o ≡ cutOf rs k o
-cut-from [] k o = refl
-cut-from (r ∷ rs) k o = let e : max (length (r ∷ rs)) 1 ≡ length (r ∷ rs) = omega arith in rw (ne-eqb (length (r ∷ rs)) 0 (λ z. omega arith), e)
+pub cut_from_lem : (rs : List Run) (k o : ℕ) → cut_from (tallies (length rs) (expansions rs) k) o ≡ cut_of rs k o
+cut_from_lem [] k o = refl
+cut_from_lem (r ∷ rs) k o = let e : max (length (r ∷ rs)) 1 ≡ length (r ∷ rs) = omega arith in rw (ne_eqb (length (r ∷ rs)) 0 (λ z. omega arith), e)
 
 -- the overflowing runs of a ready axis are the body's
-pub overflows-of : (r : Ready) (side : ℤ) (a : AxisInput) → ReadyFor r side a → (p : ℕ)
-    → readyOverflows r p (readyRuns r p (a .indexes) (a .sizes) (a .merge-firsts) (a .merge-lasts) (a .breaks)) ≡ overflows side a p
-unfolding pageRuns
-overflows-of r side a y p =
-    ap (readyOverflows r p) (runs-of r side a y p)
-    ∙ ap₂ (λ (s : Space) (t : Title). overflowing s t p (none (cutRuns side a p)) (orEmpty 0 (cutRuns side a p))) (y .space-is) (y .title-is)
-    ∙ sym (empty-anywhere (spaceOn side a) (titleOf a .title) p (a .first) (cutRuns side a p))
+pub overflows_of : (r : Ready) (side : ℤ) (a : AxisInput) → ReadyFor r side a → (p : ℕ)
+    → ready_overflows r p (ready_runs r p a.indexes a.sizes a.merge_firsts a.merge_lasts a.breaks) ≡ overflows side a p
+unfolding page_runs
+overflows_of r side a y p =
+    ap (ready_overflows r p) (runs_of r side a y p)
+    ∙ ap₂ (λ (s : Space) (t : Title). overflowing s t p (none (cut_runs side a p)) (or_empty 0 (cut_runs side a p))) y.space_is y.title_is
+    ∙ sym (empty_anywhere (space_on side a) (title_of a).title p a.first (cut_runs side a p))
 
 -- a final cut is of the body's runs
-pub cut-of : (r : Ready) (side : ℤ) (a : AxisInput) → ReadyFor r side a → (p : ℕ) (c : FinalCut) →
-    (let rs = readyRuns r p (a .indexes) (a .sizes) (a .merge-firsts) (a .merge-lasts) (a .breaks) in
-    c ≡ cutOf rs (readyShifts r p (a .indexes) (a .merge-firsts) (a .merge-lasts) (a .breaks)) (readyOverflows r p rs))
-    → c ≡ cutOf (cutRuns side a p) (cutShifts side a p) (overflows side a p)
-cut-of r side a y p c e =
-    let rs = runs-of r side a y p in
-    let n = shifts-of r side a y p in
-    let o = overflows-of r side a y p in
-    e ∙ (λ i. cutOf (rs i) (n i) (o i))
+pub cut_of_lem : (r : Ready) (side : ℤ) (a : AxisInput) → ReadyFor r side a → (p : ℕ) (c : FinalCut) →
+    (let rs = ready_runs r p a.indexes a.sizes a.merge_firsts a.merge_lasts a.breaks in
+    c ≡ cut_of rs (ready_shifts r p a.indexes a.merge_firsts a.merge_lasts a.breaks) (ready_overflows r p rs))
+    → c ≡ cut_of (cut_runs side a p) (cut_shifts side a p) (overflows side a p)
+cut_of_lem r side a y p c e =
+    let rs = runs_of r side a y p in
+    let n = shifts_of r side a y p in
+    let o = overflows_of r side a y p in
+    e ∙ (λ i. cut_of (rs i) (n i) (o i))
 
-pub written-of : (r : Ready) (side : ℤ) (a : AxisInput) → ReadyFor r side a → (p : ℕ) (old new : List ℕ)
-    → new ≡ written (flat (orEmpty (a .first) (readyRuns r p (a .indexes) (a .sizes) (a .merge-firsts) (a .merge-lasts) (a .breaks)))) old
-    → new ≡ written (flat (pageRuns side a p)) old
-unfolding pageRuns
-written-of r side a y p old new w = subst (λ (rs : List Run). new ≡ written (flat (orEmpty (a .first) rs)) old) (runs-of r side a y p) w
+pub written_of : (r : Ready) (side : ℤ) (a : AxisInput) → ReadyFor r side a → (p : ℕ) (old new : List ℕ)
+    → new ≡ written (flat (or_empty a.first (ready_runs r p a.indexes a.sizes a.merge_firsts a.merge_lasts a.breaks))) old
+    → new ≡ written (flat (page_runs side a p)) old
+unfolding page_runs
+written_of r side a y p old new w = subst (λ (rs : List Run). new ≡ written (flat (or_empty a.first rs)) old) (runs_of r side a y p) w
 
 -- ---- the runs that are written
 
-pub none-is : (rs : List Run) → none rs ≡ true → rs ≡ []
-none-is [] e = refl
-none-is (r ∷ rs) e = absurd (true≢false (sym e))
+pub none_is : (rs : List Run) → none rs ≡ true → rs ≡ []
+none_is [] e = refl
+none_is (r ∷ rs) e = absurd (true≢false (sym e))
 
-pub some-is : (first : ℕ) (rs : List Run) → none rs ≡ false → orEmpty first rs ≡ rs
-some-is first [] e = absurd (true≢false e)
-some-is first (r ∷ rs) e = refl
+pub some_is : (first : ℕ) (rs : List Run) → none rs ≡ false → or_empty first rs ≡ rs
+some_is first [] e = absurd (true≢false e)
+some_is first (r ∷ rs) e = refl
 
 module _ (first : ℕ) (rs : List Run) (old new : List ℕ) where
-  pub empty-room : none rs ≡ true → Room (orEmpty first rs) old → Room (orEmpty first []) old
-  empty-room e w = subst (λ (x : List Run). Room (orEmpty first x) old) (none-is rs e) w
+  pub empty_room : none rs ≡ true → Room (or_empty first rs) old → Room (or_empty first []) old
+  empty_room e w = subst (λ (x : List Run). Room (or_empty first x) old) (none_is rs e) w
 
-  pub empty-written : none rs ≡ true → new ≡ written (flat (orEmpty first [])) old → new ≡ written (flat (orEmpty first rs)) old
-  empty-written e w = subst (λ (x : List Run). new ≡ written (flat (orEmpty first x)) old) (sym (none-is rs e)) w
+  pub empty_written : none rs ≡ true → new ≡ written (flat (or_empty first [])) old → new ≡ written (flat (or_empty first rs)) old
+  empty_written e w = subst (λ (x : List Run). new ≡ written (flat (or_empty first x)) old) (sym (none_is rs e)) w
 
-  pub some-room : none rs ≡ false → Room (orEmpty first rs) old → Room rs old
-  some-room e w = subst (λ (x : List Run). Room x old) (some-is first rs e) w
+  pub some_room : none rs ≡ false → Room (or_empty first rs) old → Room rs old
+  some_room e w = subst (λ (x : List Run). Room x old) (some_is first rs e) w
 
-  pub some-written : none rs ≡ false → new ≡ written (flat rs) old → new ≡ written (flat (orEmpty first rs)) old
-  some-written e w = subst (λ (x : List Run). new ≡ written (flat x) old) (sym (some-is first rs e)) w
+  pub some_written : none rs ≡ false → new ≡ written (flat rs) old → new ≡ written (flat (or_empty first rs)) old
+  some_written e w = subst (λ (x : List Run). new ≡ written (flat x) old) (sym (some_is first rs e)) w
 
 -- ---- what the last steps of a cut rely on
 
-pub room-of : (first : ℕ) (rs : List Run) (k o : ℕ) (c : FinalCut) (l : List ℕ) → c ≡ cutOf rs k o → c .runs ≤ roomIn l → Room (orEmpty first rs) l
-room-of first rs k o c l e h = room-runs (orEmpty first rs) l (omega (arith, as-many first rs, ap (λ (x : FinalCut). x .runs) e))
+pub room_of : (first : ℕ) (rs : List Run) (k o : ℕ) (c : FinalCut) (l : List ℕ) → c ≡ cut_of rs k o → c.runs ≤ room_in l → Room (or_empty first rs) l
+room_of first rs k o c l e h = room_runs (or_empty first rs) l (omega (arith, as_many first rs, ap (λ (x : FinalCut). x.runs) e))
 
-pub few-pages : (m n : ℕ) → m ≤ 2 ^ 20 → n ≤ 2 ^ 20 → m * n ≤ 2 ^ 40
-few-pages m n h k = let a : m * n ≤ m * 2 ^ 20 = mul-le-mul-left m k in omega arith
+pub few_pages : (m n : ℕ) → m ≤ 2 ^ 20 → n ≤ 2 ^ 20 → m * n ≤ 2 ^ 40
+few_pages m n h k = let a : m * n ≤ m * 2 ^ 20 = mul-le-mul_left m k in omega arith
 
 -- the breaks that are looked at
-pub looked : (fit : Bool) (bs : List ℕ) (n : ℕ) → n ≡ cond fit 0 (length bs) → take n bs ≡ lookedAt fit bs
+pub looked : (fit : Bool) (bs : List ℕ) (n : ℕ) → n ≡ cond fit 0 (length bs) → take n bs ≡ looked_at fit bs
 looked true bs n e = rw e
-looked false bs n e = rw e (take-all (length bs) bs (omega arith))
+looked false bs n e = rw e (take_all (length bs) bs (omega arith))
 
-pub looked-few : (fit : Bool) (m n : ℕ) → m ≡ cond fit 0 n → m ≤ n
-looked-few true m n e = omega arith
-looked-few false m n e = omega arith
+pub looked_few : (fit : Bool) (m n : ℕ) → m ≡ cond fit 0 n → m ≤ n
+looked_few true m n e = omega arith
+looked_few false m n e = omega arith

@@ -1,35 +1,35 @@
 -- The runs of an axis from kept cut to kept cut: what holds of each run of each stretch holds of each run of the axis. Assumes nothing.
-use mathlib.Core.Path.{_≡_, refl, sym, ap}
-use mathlib.Core.Logic.{_⊎_, inl, inr, ⊎-elim, ⊎-map}
+use mathlib.Core.Path.{◌≡◌, refl, sym, ap}
+use mathlib.Core.Logic.{◌⊎◌, inl, inr, ⊎_elim, ⊎_map}
 use mathlib.Core.Bool.{cond}
-use mathlib.Core.List.{List, [], _∷_, _++_, map}
-use Prim.Native.Nat.{ℕ, zero, suc, _+_, _-_, _≤_, _<_}
-use native.Mathlib.Nat.{lt-irrefl, sub-self, sub-zero, zero-sub, suc-sub-suc}
+use mathlib.Core.List.{List, [], ◌∷◌, ◌++◌, map}
+use Prim.Native.Nat.{ℕ, zero, suc, ◌+◌, ◌-◌, ◌≤◌, ◌<◌}
+use native.Mathlib.Nat.{lt_irrefl, sub_self, sub-zero, zero-sub, suc-sub-suc}
 use native.Mathlib.Omega.{arith}
 use lib.ListN.{length, take, drop}
 use lib.Seq.{take-nil, drop-drop}
 use lib.Dec.{ltb}
-use Rattle·planner_rules·specs.specs.declared.runs.Frame.{Frame}
-use Rattle·planner_rules·specs.specs.declared.runs.Cut.{Cut}
-use Rattle·planner_rules·specs.specs.Slots.{mid, below}
-use Rattle·planner_rules·specs.specs.Runs.{Run, runsBy, runs, kept, placed, nextCut, firstMarked, stretch, axisRuns}
-use Rattle·planner_rules·specs.specs.Division.{_∈_}
-use Rattle·planner_rules·proofs.proofs.Laws.{either-lt, length-mid, step, none, split}
-use Rattle·planner_rules·proofs.proofs.Division.{Chain, done, link, chain-append, chain-end}
+use Rattle.planner_rules.specs.declared.runs.Frame.{Frame}
+use Rattle.planner_rules.specs.declared.runs.Cut.{Cut}
+use Rattle.planner_rules.specs.Slots.{mid, below}
+use Rattle.planner_rules.specs.Runs.{Run, runs_by, runs, kept, placed, next_cut, first_marked, stretch, axis_runs}
+use Rattle.planner_rules.specs.Division.{◌∈◌}
+use Rattle.planner_rules.proofs.Laws.{either_lt, length-mid, step, none, split}
+use Rattle.planner_rules.proofs.Division.{Chain, done, link, chain_append, chain_end}
 
-abbrev pub slotsOf : Run → ℕ
-slotsOf r = r .slots
+abbrev pub slots_of : Run → ℕ
+slots_of r = r.slots
 
 -- how many slots each run has
 abbrev pub counts : List Run → List ℕ
-counts = map slotsOf
+counts = map slots_of
 
 -- the kept manual breaks: the places of the cuts that stay, in order, after the last kept cut
-unfoldable pub keptCuts : Frame → List ℕ → List ℕ → List ℕ → ℕ → List ℕ → List ℕ
-keptCuts k fs ls is prev [] = []
-keptCuts k fs ls is prev (b ∷ bs) =
-    let c = nextCut k fs ls is prev b .place in
-    let rest = keptCuts k fs ls is c bs in
+unfoldable pub kept_cuts : Frame → List ℕ → List ℕ → List ℕ → ℕ → List ℕ → List ℕ
+kept_cuts k fs ls is prev [] = []
+kept_cuts k fs ls is prev (b ∷ bs) =
+    let c = (next_cut k fs ls is prev b).place in
+    let rest = kept_cuts k fs ls is c bs in
     cond (ltb prev c) (c ∷ rest) rest
 
 -- ---- a part of a part
@@ -47,76 +47,76 @@ drop-mid n p e l = let d : e - p - n ≡ e - (p + n) = omega arith in rw (drop-t
 
 -- the run at the head of the slots from p up to e: it ends by e, and R holds of it
 abbrev pub Taken : (List ℕ → List ℕ → Run) → (ℕ → Run → Type 0) → List ℕ → List ℕ → ℕ → ℕ → Type 0
-Taken at R is ss p e = let r = at (mid p e is) (mid p e ss) in (1 ≤ r .slots) × (p + r .slots ≤ e) × R p r
+Taken at R is ss p e = let r = at (mid p e is) (mid p e ss) in (1 ≤ r.slots) × (p + r.slots ≤ e) × R p r
 
 module _ (at : List ℕ → List ℕ → Run) (R : ℕ → Run → Type 0) (is ss : List ℕ) (a e : ℕ) (even : length is ≡ length ss) (inside : e ≤ length ss)
     (good : (p : ℕ) → a ≤ p → p < e → Taken at R is ss p e) where
-  none-left : (p : ℕ) → p ≡ e → Chain slotsOf R p (runsBy at zero (mid p e is) (mid p e ss)) e
-  none-left p h = rw (none at (mid p e is) (mid p e ss) (simp length-mid (omega arith))) (chain-end h)
+  none_left : (p : ℕ) → p ≡ e → Chain slots_of R p (runs_by at zero (mid p e is) (mid p e ss)) e
+  none_left p h = rw (none at (mid p e is) (mid p e ss) (simp length-mid (omega arith))) (chain_end h)
 
-  from : (f p : ℕ) → a ≤ p → p ≤ e → e ≤ p + f → Chain slotsOf R p (runsBy at zero (mid p e is) (mid p e ss)) e
-  from zero p h k d = none-left p (omega arith)
+  from : (f p : ℕ) → a ≤ p → p ≤ e → e ≤ p + f → Chain slots_of R p (runs_by at zero (mid p e is) (mid p e ss)) e
+  from zero p h k d = none_left p (omega arith)
   from (suc f) p h k d =
-      split e p (λ l. none-left p (omega arith))
+      split e p (λ l. none_left p (omega arith))
       (λ l. let g = good p h l in
-      let n : ℕ = at (mid p e is) (mid p e ss) .slots in
+      let n : ℕ = (at (mid p e is) (mid p e ss)).slots in
       let i = length-mid p e is (omega arith) in
       let s = length-mid p e ss inside in
-      rw (step at (mid p e is) (mid p e ss) (omega arith) (omega arith) (g .0), drop-mid n p e is, drop-mid n p e ss)
-      (link (g .0) (g .2) (from f (p + n) (omega arith) (g .1) (omega arith))))
+      rw (step at (mid p e is) (mid p e ss) (omega arith) (omega arith) g.0, drop-mid n p e is, drop-mid n p e ss)
+      (link g.0 g.2 (from f (p + n) (omega arith) g.1 (omega arith))))
 
-  pub runs-chain : a ≤ e → Chain slotsOf R a (runsBy at zero (mid a e is) (mid a e ss)) e
-  runs-chain h = from e a (omega arith) h (omega arith)
+  pub runs_chain : a ≤ e → Chain slots_of R a (runs_by at zero (mid a e is) (mid a e ss)) e
+  runs_chain h = from e a (omega arith) h (omega arith)
 
 -- a run with the mark m
 abbrev pub marked : ℕ → Run → Run
-marked m r = record { first = r .first; last = r .last; size = r .size; slots = r .slots; grown = r .grown; manual = m }
+marked m r = record { first = r.first; last = r.last; size = r.size; slots = r.slots; grown = r.grown; manual = m }
 
-past-chain : (a : ℕ) {Q R : ℕ → Run → Type 0} → ((p : ℕ) (r : Run) → a < p → Q p r → R p r) → {p : ℕ} {rs : List Run} {n : ℕ} → a < p
-    → Chain slotsOf Q p rs n → Chain slotsOf R p rs n
-past-chain a f h done = done
-past-chain a f h (link z q c) = link z (f _ _ h q) (past-chain a f (omega arith) c)
+past_chain : (a : ℕ) {Q R : ℕ → Run → Type 0} → ((p : ℕ) (r : Run) → a < p → Q p r → R p r) → {p : ℕ} {rs : List Run} {n : ℕ} → a < p
+    → Chain slots_of Q p rs n → Chain slots_of R p rs n
+past_chain a f h done = done
+past_chain a f h (link z q c) = link z (f _ _ h q) (past_chain a f (omega arith) c)
 
 -- where the first run is marked: R has to hold of the run at a with that mark, and of runs past a as they are
-pub marked-chain : (m a : ℕ) {Q R : ℕ → Run → Type 0} → ((r : Run) → Q a r → R a (marked m r)) → ((p : ℕ) (r : Run) → a < p → Q p r → R p r)
-    → {rs : List Run} {n : ℕ} → Chain slotsOf Q a rs n → Chain slotsOf R a (firstMarked m rs) n
-unfolding firstMarked
-marked-chain m a f g done = done
-marked-chain m a f g (link z q c) = link z (f _ q) (past-chain a g (omega arith) c)
+pub marked_chain : (m a : ℕ) {Q R : ℕ → Run → Type 0} → ((r : Run) → Q a r → R a (marked m r)) → ((p : ℕ) (r : Run) → a < p → Q p r → R p r)
+    → {rs : List Run} {n : ℕ} → Chain slots_of Q a rs n → Chain slots_of R a (first_marked m rs) n
+unfolding first_marked
+marked_chain m a f g done = done
+marked_chain m a f g (link z q c) = link z (f _ q) (past_chain a g (omega arith) c)
 
 -- ---- the kept cuts
 
-kept-past : (n prev : ℕ) (c : Cut) → (prev ≤ kept n prev c .place) × (prev < kept n prev c .place → kept n prev c .place < n)
+kept_past : (n prev : ℕ) (c : Cut) → (prev ≤ (kept n prev c).place) × (prev < (kept n prev c).place → (kept n prev c).place < n)
 unfolding kept
-kept-past n prev c =
-    either-lt Past prev (c .place) (λ p. either-lt Past (c .place) n (λ q. omega arith) (λ q. omega arith)) (λ p. omega arith)
+kept_past n prev c =
+    either_lt Past prev c.place (λ p. either_lt Past c.place n (λ q. omega arith) (λ q. omega arith)) (λ p. omega arith)
   where
     Past : Cut → Type 0
-    Past d = (prev ≤ d .place) × (prev < d .place → d .place < n)
+    Past d = (prev ≤ d.place) × (prev < d.place → d.place < n)
 
 -- past p, rising, before n
 abbrev pub Ordered : ℕ → List ℕ → ℕ → Type 0
 Ordered p [] n = Unit {0}
 Ordered p (c ∷ cs) n = (p < c) × (c < n) × Ordered c cs n
 
-pub ordered-in : (p : ℕ) (cs : List ℕ) (n b : ℕ) → Ordered p cs n → b ∈ cs → (p < b) × (b < n)
-ordered-in p (c ∷ cs) n b o (inl h) = omega arith
-ordered-in p (c ∷ cs) n b o (inr h) = let i = ordered-in c cs n b (o .2) h in omega arith
+pub ordered_in : (p : ℕ) (cs : List ℕ) (n b : ℕ) → Ordered p cs n → b ∈ cs → (p < b) × (b < n)
+ordered_in p (c ∷ cs) n b o (inl h) = omega arith
+ordered_in p (c ∷ cs) n b o (inr h) = let i = ordered_in c cs n b o.2 h in omega arith
 
 module _ (k : Frame) (fs ls is : List ℕ) where
-  next-past : (prev b : ℕ) → (prev ≤ nextCut k fs ls is prev b .place)
-      × (prev < nextCut k fs ls is prev b .place → nextCut k fs ls is prev b .place < length is)
-  unfolding nextCut
-  next-past prev b = kept-past (length is) prev (placed k fs ls is prev (below b is))
+  next_past : (prev b : ℕ) → (prev ≤ (next_cut k fs ls is prev b).place)
+      × (prev < (next_cut k fs ls is prev b).place → (next_cut k fs ls is prev b).place < length is)
+  unfolding next_cut
+  next_past prev b = kept_past (length is) prev (placed k fs ls is prev (below b is))
 
-  pub kept-ordered : (prev : ℕ) (bs : List ℕ) → Ordered prev (keptCuts k fs ls is prev bs) (length is)
-  unfolding keptCuts
-  kept-ordered prev [] = tt
-  kept-ordered prev (b ∷ bs) =
-      let c : ℕ = nextCut k fs ls is prev b .place in
-      let w = next-past prev b in
-      either-lt (λ (cs : List ℕ). Ordered prev cs (length is)) prev c (λ p. (p, w .1 p, kept-ordered c bs))
-      (λ p. let e : c ≡ prev = omega arith in rw e (kept-ordered prev bs))
+  pub kept_ordered : (prev : ℕ) (bs : List ℕ) → Ordered prev (kept_cuts k fs ls is prev bs) (length is)
+  unfolding kept_cuts
+  kept_ordered prev [] = tt
+  kept_ordered prev (b ∷ bs) =
+      let c : ℕ = (next_cut k fs ls is prev b).place in
+      let w = next_past prev b in
+      either_lt (λ (cs : List ℕ). Ordered prev cs (length is)) prev c (λ p. (p, w.1 p, kept_ordered c bs))
+      (λ p. let e : c ≡ prev = omega arith in rw e (kept_ordered prev bs))
 
 -- ---- from cut to cut
 
@@ -134,49 +134,49 @@ module _ (k : Frame) (fs ls is ss : List ℕ) where
   between p [] = stretch k fs ls is ss p (length ss)
   between p (c ∷ cs) = stretch k fs ls is ss p c ++ between c cs
 
-  stretch-empty : (p : ℕ) → stretch k fs ls is ss p p ≡ []
-  unfolding stretch runs runsBy firstMarked
-  stretch-empty p = rw (sub-self p)
+  stretch_empty : (p : ℕ) → stretch k fs ls is ss p p ≡ []
+  unfolding stretch runs runs_by first_marked
+  stretch_empty p = rw (sub_self p)
 
-  axis-between : (prev : ℕ) (bs : List ℕ) → axisRuns k fs ls is ss prev bs ≡ between prev (keptCuts k fs ls is prev bs)
-  unfolding axisRuns keptCuts between
-  axis-between prev [] = refl
-  axis-between prev (b ∷ bs) =
-      let c : ℕ = nextCut k fs ls is prev b .place in
-      let w = next-past k fs ls is prev b in
-      either-lt (λ (cs : List ℕ). stretch k fs ls is ss prev c ++ axisRuns k fs ls is ss c bs ≡ between prev cs) prev c
-      (λ p. ap (λ (rs : List Run). stretch k fs ls is ss prev c ++ rs) (axis-between c bs))
-      (λ p. let e : c ≡ prev = omega arith in rw (e, stretch-empty prev) (axis-between prev bs))
+  axis_between : (prev : ℕ) (bs : List ℕ) → axis_runs k fs ls is ss prev bs ≡ between prev (kept_cuts k fs ls is prev bs)
+  unfolding axis_runs kept_cuts between
+  axis_between prev [] = refl
+  axis_between prev (b ∷ bs) =
+      let c : ℕ = (next_cut k fs ls is prev b).place in
+      let w = next_past k fs ls is prev b in
+      either_lt (λ (cs : List ℕ). stretch k fs ls is ss prev c ++ axis_runs k fs ls is ss c bs ≡ between prev cs) prev c
+      (λ p. ap (λ (rs : List Run). stretch k fs ls is ss prev c ++ rs) (axis_between c bs))
+      (λ p. let e : c ≡ prev = omega arith in rw (e, stretch_empty prev) (axis_between prev bs))
 
-  module _ (R : ℕ → Run → Type 0) (cuts : List ℕ) (rule : (a e : ℕ) → Stretch cuts (length ss) a e → Chain slotsOf R a (stretch k fs ls is ss a e) e) where
-    between-chain : (p : ℕ) (cs : List ℕ) → p ≤ length ss → Ordered p cs (length ss) → (p ≡ 0) ⊎ (p ∈ cuts) → ((b : ℕ) → b ∈ cuts → (b ≤ p) ⊎ (b ∈ cs))
-        → ((b : ℕ) → b ∈ cs → b ∈ cuts) → Chain slotsOf R p (between p cs) (length ss)
+  module _ (R : ℕ → Run → Type 0) (cuts : List ℕ) (rule : (a e : ℕ) → Stretch cuts (length ss) a e → Chain slots_of R a (stretch k fs ls is ss a e) e) where
+    between_chain : (p : ℕ) (cs : List ℕ) → p ≤ length ss → Ordered p cs (length ss) → (p ≡ 0) ⊎ (p ∈ cuts) → ((b : ℕ) → b ∈ cuts → (b ≤ p) ⊎ (b ∈ cs))
+        → ((b : ℕ) → b ∈ cs → b ∈ cuts) → Chain slots_of R p (between p cs) (length ss)
     unfolding between
-    between-chain p [] h o s i j =
+    between_chain p [] h o s i j =
         rule p (length ss) (record {
           forward = h;
           inside = omega arith;
           start = s;
-          free = λ b m. ⊎-map (λ q. q) (λ q. absurd q) (i b m);
-          stop = λ g. absurd (lt-irrefl _ g);
+          free = λ b m. ⊎_map (λ q. q) (λ q. absurd q) (i b m);
+          stop = λ g. absurd (lt_irrefl _ g);
         })
-    between-chain p (c ∷ cs) h o s i j =
-        chain-append
+    between_chain p (c ∷ cs) h o s i j =
+        chain_append
         (rule p c (record {
           forward = omega arith;
           inside = omega arith;
           start = s;
-          free = λ b m. ⊎-map (λ q. q) (⊎-elim (λ q. omega arith) (λ q. omega (arith, ordered-in c cs (length ss) b (o .2) q))) (i b m);
+          free = λ b m. ⊎_map (λ q. q) (⊎_elim (λ q. omega arith) (λ q. omega (arith, ordered_in c cs (length ss) b o.2 q))) (i b m);
           stop = λ g. j c (inl refl);
         }))
-        (between-chain c cs (omega arith) (o .2) (inr (j c (inl refl)))
-        (λ b m. ⊎-elim (λ q. inl (omega arith)) (⊎-map (λ q. omega arith) (λ q. q)) (i b m)) (λ b m. j b (inr m)))
+        (between_chain c cs (omega arith) o.2 (inr (j c (inl refl)))
+        (λ b m. ⊎_elim (λ q. inl (omega arith)) (⊎_map (λ q. omega arith) (λ q. q)) (i b m)) (λ b m. j b (inr m)))
 
 -- what holds of every run of every stretch between kept cuts holds of every run of the axis
-pub axis-chain : (k : Frame) (fs ls is ss bs : List ℕ) (R : ℕ → Run → Type 0) → length is ≡ length ss
-    → ((a e : ℕ) → Stretch (keptCuts k fs ls is 0 bs) (length ss) a e → Chain slotsOf R a (stretch k fs ls is ss a e) e)
-    → Chain slotsOf R 0 (axisRuns k fs ls is ss 0 bs) (length ss)
-axis-chain k fs ls is ss bs R even rule =
-    let cuts : List ℕ = keptCuts k fs ls is 0 bs in
-    rw axis-between
-    (between-chain k fs ls is ss R cuts rule 0 cuts (omega arith) (rw even at (kept-ordered k fs ls is 0 bs)) (inl refl) (λ b m. inr m) (λ b m. m))
+pub axis_chain : (k : Frame) (fs ls is ss bs : List ℕ) (R : ℕ → Run → Type 0) → length is ≡ length ss
+    → ((a e : ℕ) → Stretch (kept_cuts k fs ls is 0 bs) (length ss) a e → Chain slots_of R a (stretch k fs ls is ss a e) e)
+    → Chain slots_of R 0 (axis_runs k fs ls is ss 0 bs) (length ss)
+axis_chain k fs ls is ss bs R even rule =
+    let cuts : List ℕ = kept_cuts k fs ls is 0 bs in
+    rw axis_between
+    (between_chain k fs ls is ss R cuts rule 0 cuts (omega arith) (rw even at (kept_ordered k fs ls is 0 bs)) (inl refl) (λ b m. inr m) (λ b m. m))

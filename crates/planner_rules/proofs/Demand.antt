@@ -1,530 +1,530 @@
 -- Demand 3 from the promise of the plan call, area by area: every pair on one page, the fewest runs, the largest permille. Assumes nothing.
-use mathlib.Core.Path.{_≡_, refl, sym, ap, _∙_, subst}
-use mathlib.Core.Bool.{Bool, true, false, _&&_}
-use mathlib.Core.List.{List, _++_, map}
-use Prim.Native.Nat.{ℕ, suc, _+_, _-_, _*_, _≤_, _<_, _^_}
+use mathlib.Core.Path.{◌≡◌, refl, sym, ap, ◌∙◌, subst}
+use mathlib.Core.Bool.{Bool, true, false, ◌&&◌}
+use mathlib.Core.List.{List, ◌++◌, map}
+use Prim.Native.Nat.{ℕ, suc, ◌+◌, ◌-◌, ◌*◌, ◌≤◌, ◌<◌, ◌^◌}
 use native.Mathlib.Omega.{arith}
 use lib.Dec.{leb}
 use lib.IntN.{ℤ}
 use lib.Signed.{mag}
-use lib.ListN.{length, getD, take, drop, length-map, length-append, length-take}
-use lib.Seq.{drop-at}
+use lib.ListN.{length, get_or, take, drop, length-map, length-append, length-take}
+use lib.Seq.{drop_at}
 use borrow.Author.Tests.{le-leb, leb-true}
-use Rattle·units.specs.Grid.{lastRow, lastColumn}
-use Rattle·units.specs.Outcome.{Outcome, given, refused, andThen}
-use Rattle·planner_rules·specs.specs.declared.pages.Page.{Page}
-use Rattle·planner_rules·specs.specs.declared.pages.PageRun.{PageRun}
-use Rattle·planner_rules·specs.specs.declared.pages.AreaPlan.{AreaPlan}
-use Rattle·planner_rules·specs.specs.declared.pages.Plan.{Plan}
-use Rattle·planner_rules·specs.specs.declared.planning.Settings.{Settings}
-use Rattle·planner_rules·specs.specs.declared.planning.PrintRange.{PrintRange}
-use Rattle·planner_rules·specs.specs.declared.planning.Areas.{Areas}
-use Rattle·planner_rules·specs.specs.declared.planning.Planning.{Planning}
-use Rattle·planner_rules·specs.specs.declared.titles.Axis.the-variants.{Rows, Columns}
-use Rattle·planner_rules·specs.specs.Questions.{ask, allWithin, risingWithin}
-use Rattle·planner_rules·specs.specs.Titles.{limitOf}
-use Rattle·planner_rules·specs.specs.Runs.{Run}
-use Rattle·planner_rules·specs.specs.Areas.{areasIn, oneToEight, everyArea, insideGrid, plansIn, eightRanges, overAreas}
-use Rattle·planner_rules·specs.specs.Union.{cellsHold}
-use Rattle·planner_rules·specs.specs.Lent.{flat, roomIn, numberAt, runsIn, firsts, lasts, sizes}
-use Rattle·planner_rules·specs.specs.Pages.{runAt, pageAt, pagesIn, afterRuns, areaPages, areasPages, pagesOf, rowRuns, columnRuns, runsHeld, holdsRuns, numbered, pageNumbered}
-use Rattle·planner_rules·specs.specs.Plan.{AxisInput, Sheet, Sides, AreaLayout, Layout, Planned, contentSides, chosenScale, pageRuns, rowsIn, columnsIn}
-use Rattle·planner_rules·specs.specs.Plan.{countedAt, areaAt, areaLayout, layoutsOf, planIn, planOf, rowRunsOf, columnRunsOf, layout, formed, inGrid, rises, small}
-use Rattle·planner_rules·specs.specs.Plan.{questioned, withinLimit, roomFor, planned, bodyOf, spaceOn}
-use Rattle·planner_rules·specs.specs.Slots.{Rising, written}
-use Rattle·planner_rules·specs.specs.Division.{LiesIn, InOneRun}
-use Rattle·planner_rules·specs.specs.Fitting.{Chosen}
-use Rattle·planner_rules·specs.specs.Demand.{Finished, IsArea, areasBefore, pagesBefore, rowsFrom, columnsFrom, IsOwn, OnPage, OnOnePage, CoversPairs}
-use Rattle·planner_rules·specs.specs.Demand.{Bare, FewestPlan, Exceeds, EachReaches, LargestPlan}
-use Rattle·planner_rules·proofs.proofs.QuestionLaws.{both, rising-of}
-use Rattle·planner_rules·proofs.proofs.Lent.{stands, runs-length, field-at, flat-length}
-use Rattle·planner_rules·proofs.proofs.PageLaws.{verticalOf, horizontalOf, beforeOf, numbered-take, page-after}
-use Rattle·planner_rules·proofs.proofs.PageLaws.{vertical-below, horizontal-below, before-of-place, before-below, vertical-is, horizontal-is}
-use Rattle·planner_rules·proofs.proofs.AreaLists.{held-are, numbered-map, every-one, before-and-it, take-map, over-map, over-same, howMany, together-length, from-area}
-use Rattle·planner_rules·proofs.proofs.AreaPages.{own-page}
-use Rattle·planner_rules·proofs.proofs.PlanLaws.{formed-of}
-use Rattle·planner_rules·proofs.proofs.BodyLaws.{body-even, page-runs-cover, bare-total, page-runs-fewest}
-use Rattle·planner_rules·proofs.proofs.Largest.{Plain, scale-chosen}
-use Rattle·planner_rules·proofs.proofs.NoTen.{sides-given}
+use Rattle.units.specs.Grid.{last_row, last_column}
+use Rattle.units.specs.Outcome.{Outcome, given, refused, and_then}
+use Rattle.planner_rules.specs.declared.pages.Page.{Page}
+use Rattle.planner_rules.specs.declared.pages.PageRun.{PageRun}
+use Rattle.planner_rules.specs.declared.pages.AreaPlan.{AreaPlan}
+use Rattle.planner_rules.specs.declared.pages.Plan.{Plan}
+use Rattle.planner_rules.specs.declared.planning.Settings.{Settings}
+use Rattle.planner_rules.specs.declared.planning.PrintRange.{PrintRange}
+use Rattle.planner_rules.specs.declared.planning.Areas.{Areas}
+use Rattle.planner_rules.specs.declared.planning.Planning.{Planning}
+use Rattle.planner_rules.specs.declared.titles.Axis.TheVariants.{Rows, Columns}
+use Rattle.planner_rules.specs.Questions.{ask, all_within, rising_within}
+use Rattle.planner_rules.specs.Titles.{limit_of}
+use Rattle.planner_rules.specs.Runs.{Run}
+use Rattle.planner_rules.specs.Areas.{areas_in, one_to_eight, every_area, inside_grid, plans_in, eight_ranges, over_areas}
+use Rattle.planner_rules.specs.Union.{cells_hold}
+use Rattle.planner_rules.specs.Lent.{flat, room_in, number_at, runs_in, firsts, lasts, sizes}
+use Rattle.planner_rules.specs.Pages.{run_at, page_at, pages_in, after_runs, area_pages, areas_pages, pages_of, row_runs, column_runs, runs_held, holds_runs, numbered, page_numbered}
+use Rattle.planner_rules.specs.Plan.{AxisInput, Sheet, Sides, AreaLayout, Layout, Planned, content_sides, chosen_scale, page_runs, rows_in, columns_in}
+use Rattle.planner_rules.specs.Plan.{counted_at, area_at, area_layout, layouts_of, plan_in, plan_of, row_runs_of, column_runs_of, layout, formed, in_grid, rises, small}
+use Rattle.planner_rules.specs.Plan.{questioned, within_limit, room_for, planned, body_of, space_on}
+use Rattle.planner_rules.specs.Slots.{Rising, written}
+use Rattle.planner_rules.specs.Division.{LiesIn, InOneRun}
+use Rattle.planner_rules.specs.Fitting.{Chosen}
+use Rattle.planner_rules.specs.Demand.{Finished, IsArea, areas_before, pages_before, rows_from, columns_from, IsOwn, OnPage, OnOnePage, CoversPairs}
+use Rattle.planner_rules.specs.Demand.{Bare, FewestPlan, Exceeds, EachReaches, LargestPlan}
+use Rattle.planner_rules.proofs.QuestionLaws.{both, rising_of}
+use Rattle.planner_rules.proofs.Lent.{stands, runs_length, field_at, flat-length}
+use Rattle.planner_rules.proofs.PageLaws.{vertical_of, horizontal_of, before_of, numbered_take, page_after}
+use Rattle.planner_rules.proofs.PageLaws.{vertical_below, horizontal_below, before_of_place, before_below, vertical_is, horizontal_is}
+use Rattle.planner_rules.proofs.AreaLists.{held_are, numbered-map, every_one, before_and_it, take-map, over_map, over_same, how_many, together_length, from_area}
+use Rattle.planner_rules.proofs.AreaPages.{own_page}
+use Rattle.planner_rules.proofs.PlanLaws.{formed_of}
+use Rattle.planner_rules.proofs.BodyLaws.{body_even, page_runs_cover, bare_total, page_runs_fewest}
+use Rattle.planner_rules.proofs.Largest.{Plain, scale_chosen}
+use Rattle.planner_rules.proofs.NoTen.{sides_given}
 
 -- ---- what a plan that was given says of the questions
 
-pub ask-yes : {A : Type 0} (n : ℕ) (b : Bool) (o : Outcome A) (x : A) → ask n b o ≡ given x → (b ≡ true) × (o ≡ given x)
-ask-yes n true o x e = (refl, e)
-ask-yes n false o x e = let z : _≡_ {A = ℕ} 0 1 = cc in absurd (omega arith)
+pub ask_yes : {A : Type 0} (n : ℕ) (b : Bool) (o : Outcome A) (x : A) → ask n b o ≡ given x → (b ≡ true) × (o ≡ given x)
+ask_yes n true o x e = (refl, e)
+ask_yes n false o x e = let z : ◌≡◌ {A = ℕ} 0 1 = cc in absurd (omega arith)
 
-pub then-yes : {A B : Type 0} (o : Outcome A) (f : A → Outcome B) (y : B) → andThen o f ≡ given y → (x : A) × (o ≡ given x) × (f x ≡ given y)
-then-yes (given x) f y e = (x, refl, e)
-then-yes (refused n) f y e = let z : _≡_ {A = ℕ} 0 1 = cc in absurd (omega arith)
+pub then_yes : {A B : Type 0} (o : Outcome A) (f : A → Outcome B) (y : B) → and_then o f ≡ given y → (x : A) × (o ≡ given x) × (f x ≡ given y)
+then_yes (given x) f y e = (x, refl, e)
+then_yes (refused n) f y e = let z : ◌≡◌ {A = ℕ} 0 1 = cc in absurd (omega arith)
 
-same-sides : {o : Outcome Sides} {x c : Sides} → o ≡ given x → o ≡ given c → x ≡ c
-same-sides e f = cc
+same_sides : {o : Outcome Sides} {x c : Sides} → o ≡ given x → o ≡ given c → x ≡ c
+same_sides e f = cc
 
 -- the questions were answered with yes, and there are sides
 pub record Questioned {A : Type 0} (s : Sheet) (areas : Areas) (rest : Sides → Outcome A) (y : A) : Type 0 where
-  pub four : oneToEight (areas .count) ≡ true
-  pub six : formed s (areasIn areas) ≡ true
-  pub seven : inGrid s (areasIn areas) ≡ true
+  pub four : one_to_eight areas.count ≡ true
+  pub six : formed s (areas_in areas) ≡ true
+  pub seven : in_grid s (areas_in areas) ≡ true
   pub eight : rises s ≡ true
   pub sides : Sides
-  pub sides-are : contentSides (s .settings) ≡ given sides
-  pub then-given : rest sides ≡ given y
+  pub sides_are : content_sides s.settings ≡ given sides
+  pub then_given : rest sides ≡ given y
 
-pub all-yes : {A : Type 0} (s : Sheet) (areas : Areas) (rest : Sides → Outcome A) (y : A) → questioned s areas rest ≡ given y → Questioned s areas rest y
+pub all_yes : {A : Type 0} (s : Sheet) (areas : Areas) (rest : Sides → Outcome A) (y : A) → questioned s areas rest ≡ given y → Questioned s areas rest y
 unfolding questioned
-all-yes s areas rest y e =
-    let gs = areasIn areas in
-    let o = andThen (contentSides (s .settings)) rest in
+all_yes s areas rest y e =
+    let gs = areas_in areas in
+    let o = and_then (content_sides s.settings) rest in
     let nine = ask 9 (small s) o in
     let eight = ask 8 (rises s) nine in
-    let fifteen = ask 15 (cellsHold (s .settings .«cell_limit») gs) eight in
-    let seven = ask 7 (inGrid s gs) fifteen in
-    let (q4, e4) = ask-yes 4 (oneToEight (areas .count)) (ask 6 (formed s gs) seven) y e in
-    let (q6, e6) = ask-yes 6 (formed s gs) seven y e4 in
-    let (q7, e7) = ask-yes 7 (inGrid s gs) fifteen y e6 in
-    let (q15, e15) = ask-yes 15 (cellsHold (s .settings .«cell_limit») gs) eight y e7 in
-    let (q8, e8) = ask-yes 8 (rises s) nine y e15 in
-    let (q9, e9) = ask-yes 9 (small s) o y e8 in
-    let (c, is, then) = then-yes (contentSides (s .settings)) rest y e9 in
-    record { four = q4; six = q6; seven = q7; eight = q8; sides = c; sides-are = is; then-given = then }
+    let fifteen = ask 15 (cells_hold s.settings.cell_limit gs) eight in
+    let seven = ask 7 (in_grid s gs) fifteen in
+    let (q4, e4) = ask_yes 4 (one_to_eight areas.count) (ask 6 (formed s gs) seven) y e in
+    let (q6, e6) = ask_yes 6 (formed s gs) seven y e4 in
+    let (q7, e7) = ask_yes 7 (in_grid s gs) fifteen y e6 in
+    let (q15, e15) = ask_yes 15 (cells_hold s.settings.cell_limit gs) eight y e7 in
+    let (q8, e8) = ask_yes 8 (rises s) nine y e15 in
+    let (q9, e9) = ask_yes 9 (small s) o y e8 in
+    let (c, is, then) = then_yes (content_sides s.settings) rest y e9 in
+    record { four = q4; six = q6; seven = q7; eight = q8; sides = c; sides_are = is; then_given = then }
 
 -- ---- the list of an axis from an area's runs on
 
 -- the runs rs, n of them, are what stands first in the list
 pub record Shows (a : AxisInput) (rs : List Run) (n : ℕ) (l : List ℕ) : Type 0 where
-  pub even : length (a .indexes) ≡ length (a .sizes)
-  pub inside : a .last ≤ a .limit
-  pub rising : Rising (a .indexes)
-  pub room : n ≤ roomIn l
-  pub firsts-are : firsts (runsIn n l) ≡ firsts rs
-  pub lasts-are : lasts (runsIn n l) ≡ lasts rs
-  pub sizes-are : sizes (runsIn n l) ≡ sizes rs
+  pub even : length a.indexes ≡ length a.sizes
+  pub inside : a.last ≤ a.limit
+  pub rising : Rising a.indexes
+  pub room : n ≤ room_in l
+  pub firsts_are : firsts (runs_in n l) ≡ firsts rs
+  pub lasts_are : lasts (runs_in n l) ≡ lasts rs
+  pub sizes_are : sizes (runs_in n l) ≡ sizes rs
 
-shows : (a : AxisInput) (rs : List Run) (l others : List ℕ) → length (a .indexes) ≡ length (a .sizes) → a .last ≤ a .limit → Rising (a .indexes)
+shows : (a : AxisInput) (rs : List Run) (l others : List ℕ) → length a.indexes ≡ length a.sizes → a.last ≤ a.limit → Rising a.indexes
     → l ≡ flat rs ++ others → Shows a rs (length rs) l
 shows a rs l others even inside rising e =
-    let w : l ≡ written (flat rs) (flat rs ++ others) = e ∙ ap (λ (t : List ℕ). flat rs ++ t) (sym (drop-at (flat rs) others (length (flat rs)) refl)) in
+    let w : l ≡ written (flat rs) (flat rs ++ others) = e ∙ ap (λ (t : List ℕ). flat rs ++ t) (sym (drop_at (flat rs) others (length (flat rs)) refl)) in
     let here = stands rs (flat rs ++ others) l w in
     record {
       even = even;
       inside = inside;
       rising = rising;
       room = omega (arith, ap length e, length-append (flat rs) others, flat-length rs);
-      firsts-are = here .firsts-are;
-      lasts-are = here .lasts-are;
-      sizes-are = here .sizes-are;
+      firsts_are = here.firsts_are;
+      lasts_are = here.lasts_are;
+      sizes_are = here.sizes_are;
     }
 
 -- ---- a finished plan
 
 -- what 6, 7 and 8 say of the slots and of an area
 pub record Sound (s : Sheet) (areas : Areas) : Type 0 where
-  pub rows-even : length (s .row-indexes) ≡ length (s .row-sizes)
-  pub columns-even : length (s .column-indexes) ≡ length (s .column-sizes)
-  pub rows-rise : Rising (s .row-indexes)
-  pub columns-rise : Rising (s .column-indexes)
-  pub inside : everyArea insideGrid (areasIn areas) ≡ true
+  pub rows_even : length s.row_indexes ≡ length s.row_sizes
+  pub columns_even : length s.column_indexes ≡ length s.column_sizes
+  pub rows_rise : Rising s.row_indexes
+  pub columns_rise : Rising s.column_indexes
+  pub inside : every_area inside_grid (areas_in areas) ≡ true
 
-sound : (s : Sheet) (areas : Areas) → formed s (areasIn areas) ≡ true → inGrid s (areasIn areas) ≡ true → rises s ≡ true → Sound s areas
-unfolding inGrid
+sound : (s : Sheet) (areas : Areas) → formed s (areas_in areas) ≡ true → in_grid s (areas_in areas) ≡ true → rises s ≡ true → Sound s areas
+unfolding in_grid
 sound s areas six seven eight =
-    let even = formed-of s (areasIn areas) six in
-    let rise = both (risingWithin (limitOf Rows) (s .row-indexes)) (risingWithin (limitOf Columns) (s .column-indexes)) eight in
-    let merges = allWithin (limitOf Rows) (s .merge-last-rows) && allWithin (limitOf Columns) (s .merge-last-columns) in
+    let even = formed_of s (areas_in areas) six in
+    let rise = both (rising_within (limit_of Rows) s.row_indexes) (rising_within (limit_of Columns) s.column_indexes) eight in
+    let merges = all_within (limit_of Rows) s.merge_last_rows && all_within (limit_of Columns) s.merge_last_columns in
     record {
-      rows-even = even .rows-even;
-      columns-even = even .columns-even;
-      rows-rise = rising-of (limitOf Rows) (s .row-indexes) (rise .0);
-      columns-rise = rising-of (limitOf Columns) (s .column-indexes) (rise .1);
-      inside = both merges (everyArea insideGrid (areasIn areas)) seven .1;
+      rows_even = even.rows_even;
+      columns_even = even.columns_even;
+      rows_rise = rising_of (limit_of Rows) s.row_indexes rise.0;
+      columns_rise = rising_of (limit_of Columns) s.column_indexes rise.1;
+      inside = (both merges (every_area inside_grid (areas_in areas)) seven).1;
     }
 
 pub record Done (s : Sheet) (areas : Areas) (plan : Plan) (rows columns : List ℕ) : Type 0 where
   pub sides : Sides
-  pub sides-are : contentSides (s .settings) ≡ given sides
-  pub few : length (areasIn areas) ≤ 8
-  pub is-sound : Sound s areas
-  pub plan-is : planOf sides s (layoutsOf sides s (areasIn areas)) ≡ plan
-  pub row-tail : List ℕ
-  pub rows-are : rows ≡ flat (rowRunsOf (layoutsOf sides s (areasIn areas))) ++ row-tail
-  pub column-tail : List ℕ
-  pub columns-are : columns ≡ flat (columnRunsOf (layoutsOf sides s (areasIn areas))) ++ column-tail
+  pub sides_are : content_sides s.settings ≡ given sides
+  pub few : length (areas_in areas) ≤ 8
+  pub is_sound : Sound s areas
+  pub plan_is : plan_of sides s (layouts_of sides s (areas_in areas)) ≡ plan
+  pub row_tail : List ℕ
+  pub rows_are : rows ≡ flat (row_runs_of (layouts_of sides s (areas_in areas))) ++ row_tail
+  pub column_tail : List ℕ
+  pub columns_are : columns ≡ flat (column_runs_of (layouts_of sides s (areas_in areas))) ++ column_tail
 
 module _ (s : Sheet) (areas : Areas) (rows₀ columns₀ rows columns : List ℕ) (r : Planning)
     (p : Planned (planned s areas rows₀ columns₀) r rows₀ columns₀ rows columns) where
-  laid : (l : Layout) → planned s areas rows₀ columns₀ ≡ given l → Done s areas (l .plan) rows columns
-  unfolding planned roomFor withinLimit layout
+  laid : (l : Layout) → planned s areas rows₀ columns₀ ≡ given l → Done s areas l.plan rows columns
+  unfolding planned room_for within_limit layout
   laid l e =
-      let gs = areasIn areas in
-      let room : Sides → Outcome Layout = λ (c : Sides). roomFor s (layout c s gs) (roomIn rows₀) (roomIn columns₀) in
-      let y = all-yes s areas room l e in
-      let c : Sides = y .sides in
+      let gs = areas_in areas in
+      let room : Sides → Outcome Layout = λ (c : Sides). room_for s (layout c s gs) (room_in rows₀) (room_in columns₀) in
+      let y = all_yes s areas room l e in
+      let c : Sides = y.sides in
       let k : Layout = layout c s gs in
-      let enough = leb (length (k .rows)) (roomIn rows₀) && leb (length (k .columns)) (roomIn columns₀) in
-      let pages = leb (k .plan .pages) (s .settings .«page_limit») in
-      let (eleven, f) = ask-yes 11 enough (ask 12 pages (given k)) l (y .then-given) in
-      let (twelve, last) = ask-yes 12 pages (given k) l f in
+      let enough = leb (length k.rows) (room_in rows₀) && leb (length k.columns) (room_in columns₀) in
+      let pages = leb k.plan.pages s.settings.page_limit in
+      let (eleven, f) = ask_yes 11 enough (ask 12 pages (given k)) l y.then_given in
+      let (twelve, last) = ask_yes 12 pages (given k) l f in
       let same : k ≡ l = cc in
       let q : Planned (given k) r rows₀ columns₀ rows columns =
       subst (λ (o : Outcome Layout). Planned o r rows₀ columns₀ rows columns) (e ∙ sym last) p in
-      let count = both (leb 1 (areas .count)) (leb (areas .count) 8) (y .four) in
-      subst (λ (l : Layout). Done s areas (l .plan) rows columns) same (record {
+      let count = both (leb 1 areas.count) (leb areas.count 8) y.four in
+      subst (λ (l : Layout). Done s areas l.plan rows columns) same (record {
         sides = c;
-        sides-are = y .sides-are;
-        few = omega (arith, length-take (areas .count) (eightRanges areas), leb-true (areas .count) 8 (count .1));
-        is-sound = sound s areas (y .six) (y .seven) (y .eight);
-        plan-is = refl;
-        row-tail = drop (length (flat (k .rows))) rows₀;
-        rows-are = q .rows-are;
-        column-tail = drop (length (flat (k .columns))) columns₀;
-        columns-are = q .columns-are;
+        sides_are = y.sides_are;
+        few = omega (arith, length-take areas.count (eight_ranges areas), leb-true areas.count 8 count.1);
+        is_sound = sound s areas y.six y.seven y.eight;
+        plan_is = refl;
+        row_tail = drop (length (flat k.rows)) rows₀;
+        rows_are = q.rows_are;
+        column_tail = drop (length (flat k.columns)) columns₀;
+        columns_are = q.columns_are;
       })
 
   pub done : (plan : Plan) → Finished r plan → Done s areas plan rows columns
   done plan f =
-      let (l, e, g) = then-yes (planned s areas rows₀ columns₀) (λ (l : Layout). given (l .plan)) plan (sym (p .answer) ∙ f) in
-      let same : l .plan ≡ plan = cc in
+      let (l, e, g) = then_yes (planned s areas rows₀ columns₀) (λ (l : Layout). given l.plan) plan (sym p.answer ∙ f) in
+      let same : l.plan ≡ plan = cc in
       subst (λ (x : Plan). Done s areas x rows columns) same (laid l e)
 
 -- ---- an area of a finished plan
 
 module _ (s : Sheet) (areas : Areas) (plan : Plan) (rows columns : List ℕ) (d : Done s areas plan rows columns) where
   abbrev c : Sides
-  c = d .sides
+  c = d.sides
 
   abbrev gs : List PrintRange
-  gs = areasIn areas
+  gs = areas_in areas
 
   -- what a range comes to
   abbrev came : PrintRange → AreaPlan
-  came g = planIn (areaLayout c s g)
+  came g = plan_in (area_layout c s g)
 
-  plans-are : plansIn (plan .areas) ≡ map planIn (layoutsOf c s gs)
-  unfolding planOf
-  plans-are =
-      ap (λ (x : Plan). plansIn (x .areas)) (sym (d .plan-is))
-      ∙ held-are (map planIn (layoutsOf c s gs)) (omega (arith, d .few, length-map (layoutsOf c s gs) planIn, length-map gs (areaLayout c s)))
+  plans_are : plans_in plan.areas ≡ map plan_in (layouts_of c s gs)
+  unfolding plan_of
+  plans_are =
+      ap (λ (x : Plan). plans_in x.areas) (sym d.plan_is)
+      ∙ held_are (map plan_in (layouts_of c s gs)) (omega (arith, d.few, length-map (layouts_of c s gs) plan_in, length-map gs (area_layout c s)))
 
-  pub pages-are : plan .pages ≡ overAreas pagesIn (plansIn (plan .areas))
-  unfolding planOf
-  pages-are =
-      ap (λ (x : Plan). x .pages) (sym (d .plan-is)) ∙ sym (over-map pagesIn planIn (layoutsOf c s gs))
-      ∙ ap (λ (l : List AreaPlan). overAreas pagesIn l) (sym plans-are)
+  pub pages_are : plan.pages ≡ over_areas pages_in (plans_in plan.areas)
+  unfolding plan_of
+  pages_are =
+      ap (λ (x : Plan). x.pages) (sym d.plan_is) ∙ sym (over_map pages_in plan_in (layouts_of c s gs))
+      ∙ ap (λ (l : List AreaPlan). over_areas pages_in l) (sym plans_are)
 
   -- an area's runs are as many as the plan says
-  row-count : (g : PrintRange) → came g .«row_runs» ≡ length (areaLayout c s g .rows)
-  unfolding areaLayout areaAt countedAt
-  row-count g = refl
+  row_count : (g : PrintRange) → (came g).row_runs ≡ length (area_layout c s g).rows
+  unfolding area_layout area_at counted_at
+  row_count g = refl
 
-  column-count : (g : PrintRange) → came g .«column_runs» ≡ length (areaLayout c s g .columns)
-  unfolding areaLayout areaAt countedAt
-  column-count g = refl
+  column_count : (g : PrintRange) → (came g).column_runs ≡ length (area_layout c s g).columns
+  unfolding area_layout area_at counted_at
+  column_count g = refl
 
   -- the runs of some of the areas
-  rows-of : (fs : List PrintRange) → rowRuns (map planIn (layoutsOf c s fs)) ≡ overAreas (howMany (λ (l : AreaLayout). l .rows)) (layoutsOf c s fs)
-  rows-of fs =
-      over-map (λ (a : AreaPlan). a .«row_runs») planIn (layoutsOf c s fs)
-      ∙ over-map (λ (l : AreaLayout). planIn l .«row_runs») (areaLayout c s) fs
-      ∙ over-same (λ (g : PrintRange). came g .«row_runs») (λ (g : PrintRange). length (areaLayout c s g .rows)) row-count fs
-      ∙ sym (over-map (howMany (λ (l : AreaLayout). l .rows)) (areaLayout c s) fs)
+  rows_of : (fs : List PrintRange) → row_runs (map plan_in (layouts_of c s fs)) ≡ over_areas (how_many (λ (l : AreaLayout). l.rows)) (layouts_of c s fs)
+  rows_of fs =
+      over_map (λ (a : AreaPlan). a.row_runs) plan_in (layouts_of c s fs)
+      ∙ over_map (λ (l : AreaLayout). (plan_in l).row_runs) (area_layout c s) fs
+      ∙ over_same (λ (g : PrintRange). (came g).row_runs) (λ (g : PrintRange). length (area_layout c s g).rows) row_count fs
+      ∙ sym (over_map (how_many (λ (l : AreaLayout). l.rows)) (area_layout c s) fs)
 
-  columns-of : (fs : List PrintRange) → columnRuns (map planIn (layoutsOf c s fs)) ≡ overAreas (howMany (λ (l : AreaLayout). l .columns)) (layoutsOf c s fs)
-  columns-of fs =
-      over-map (λ (a : AreaPlan). a .«column_runs») planIn (layoutsOf c s fs)
-      ∙ over-map (λ (l : AreaLayout). planIn l .«column_runs») (areaLayout c s) fs
-      ∙ over-same (λ (g : PrintRange). came g .«column_runs») (λ (g : PrintRange). length (areaLayout c s g .columns)) column-count fs
-      ∙ sym (over-map (howMany (λ (l : AreaLayout). l .columns)) (areaLayout c s) fs)
+  columns_of : (fs : List PrintRange) → column_runs (map plan_in (layouts_of c s fs)) ≡ over_areas (how_many (λ (l : AreaLayout). l.columns)) (layouts_of c s fs)
+  columns_of fs =
+      over_map (λ (a : AreaPlan). a.column_runs) plan_in (layouts_of c s fs)
+      ∙ over_map (λ (l : AreaLayout). (plan_in l).column_runs) (area_layout c s) fs
+      ∙ over_same (λ (g : PrintRange). (came g).column_runs) (λ (g : PrintRange). length (area_layout c s g).columns) column_count fs
+      ∙ sym (over_map (how_many (λ (l : AreaLayout). l.columns)) (area_layout c s) fs)
 
-  pub held : holdsRuns plan rows columns ≡ true
-  unfolding runsHeld
+  pub held : holds_runs plan rows columns ≡ true
+  unfolding runs_held
   held =
-      let row-sum = ap rowRuns plans-are ∙ rows-of gs ∙ sym (together-length (λ (l : AreaLayout). l .rows) (layoutsOf c s gs)) in
-      let column-sum = ap columnRuns plans-are ∙ columns-of gs ∙ sym (together-length (λ (l : AreaLayout). l .columns) (layoutsOf c s gs)) in
-      let rs = rowRunsOf (layoutsOf c s gs) in
-      let cs = columnRunsOf (layoutsOf c s gs) in
-      let in-rows : rowRuns (plansIn (plan .areas)) ≤ roomIn rows =
-      omega (arith, row-sum, ap length (d .rows-are), length-append (flat rs) (d .row-tail), flat-length rs) in
-      let in-columns : columnRuns (plansIn (plan .areas)) ≤ roomIn columns =
-      omega (arith, column-sum, ap length (d .columns-are), length-append (flat cs) (d .column-tail), flat-length cs) in
-      rw (le-leb _ _ in-rows, le-leb _ _ in-columns)
+      let row_sum = ap row_runs plans_are ∙ rows_of gs ∙ sym (together_length (λ (l : AreaLayout). l.rows) (layouts_of c s gs)) in
+      let column_sum = ap column_runs plans_are ∙ columns_of gs ∙ sym (together_length (λ (l : AreaLayout). l.columns) (layouts_of c s gs)) in
+      let rs = row_runs_of (layouts_of c s gs) in
+      let cs = column_runs_of (layouts_of c s gs) in
+      let in_rows : row_runs (plans_in plan.areas) ≤ room_in rows =
+      omega (arith, row_sum, ap length d.rows_are, length-append (flat rs) d.row_tail, flat-length rs) in
+      let in_columns : column_runs (plans_in plan.areas) ≤ room_in columns =
+      omega (arith, column_sum, ap length d.columns_are, length-append (flat cs) d.column_tail, flat-length cs) in
+      rw (le-leb _ _ in_rows, le-leb _ _ in_columns)
 
   module _ (n : ℕ) (g : PrintRange) (e : IsArea areas n g) where
-    pub came-to : numbered (plansIn (plan .areas)) n ≡ given (came g)
-    came-to =
-        ap (λ (l : List AreaPlan). numbered l n) plans-are
-        ∙ numbered-map planIn (layoutsOf c s gs) n (areaLayout c s g) (numbered-map (areaLayout c s) gs n g e)
+    pub came_to : numbered (plans_in plan.areas) n ≡ given (came g)
+    came_to =
+        ap (λ (l : List AreaPlan). numbered l n) plans_are
+        ∙ numbered-map plan_in (layouts_of c s gs) n (area_layout c s g) (numbered-map (area_layout c s) gs n g e)
 
-    in-grid : insideGrid g ≡ true
-    in-grid = every-one insideGrid gs n g (d .is-sound .inside) e
+    range_in_grid : inside_grid g ≡ true
+    range_in_grid = every_one inside_grid gs n g d.is_sound.inside e
 
-    before-are : areasBefore plan n ≡ map planIn (layoutsOf c s (take (n - 1) gs))
-    before-are =
-        ap (take (n - 1)) plans-are ∙ take-map planIn (n - 1) (layoutsOf c s gs)
-        ∙ ap (map planIn) (take-map (areaLayout c s) (n - 1) gs)
+    before_are : areas_before plan n ≡ map plan_in (layouts_of c s (take (n - 1) gs))
+    before_are =
+        ap (take (n - 1)) plans_are ∙ take-map plan_in (n - 1) (layouts_of c s gs)
+        ∙ ap (map plan_in) (take-map (area_layout c s) (n - 1) gs)
 
-    pub on-rows : Shows (rowsIn s g) (areaLayout c s g .rows) (came g .«row_runs») (rowsFrom plan n rows)
-    unfolding limitOf
-    on-rows =
-        let ls = layoutsOf c s gs in
-        let f = from-area (λ (l : AreaLayout). l .rows) ls n (areaLayout c s g) (d .row-tail) (numbered-map (areaLayout c s) gs n g e) in
-        let so-many : ℕ = overAreas (howMany (λ (l : AreaLayout). l .rows)) (take (n - 1) ls) in
-        let many : rowRuns (areasBefore plan n) ≡ so-many = ap rowRuns before-are ∙ rows-of (take (n - 1) gs)
-        ∙ ap (overAreas (howMany (λ (l : AreaLayout). l .rows))) (sym (take-map (areaLayout c s) (n - 1) gs)) in
-        let two = both (leb (g .«last_row») lastRow) (leb (g .«last_column») lastColumn) in-grid in
-        rw (row-count g) (shows (rowsIn s g) (areaLayout c s g .rows) (rowsFrom plan n rows) (f .others) (d .is-sound .rows-even)
-        (leb-true _ _ (two .0)) (d .is-sound .rows-rise) (ap (λ (k : ℕ). afterRuns k rows) many ∙ ap (afterRuns so-many) (d .rows-are) ∙ f .from-it))
+    pub on_rows : Shows (rows_in s g) (area_layout c s g).rows (came g).row_runs (rows_from plan n rows)
+    unfolding limit_of
+    on_rows =
+        let ls = layouts_of c s gs in
+        let f = from_area (λ (l : AreaLayout). l.rows) ls n (area_layout c s g) d.row_tail (numbered-map (area_layout c s) gs n g e) in
+        let so_many : ℕ = over_areas (how_many (λ (l : AreaLayout). l.rows)) (take (n - 1) ls) in
+        let many : row_runs (areas_before plan n) ≡ so_many = ap row_runs before_are ∙ rows_of (take (n - 1) gs)
+        ∙ ap (over_areas (how_many (λ (l : AreaLayout). l.rows))) (sym (take-map (area_layout c s) (n - 1) gs)) in
+        let two = both (leb g.last_row last_row) (leb g.last_column last_column) range_in_grid in
+        rw (row_count g) (shows (rows_in s g) (area_layout c s g).rows (rows_from plan n rows) f.others d.is_sound.rows_even
+        (leb-true _ _ two.0) d.is_sound.rows_rise (ap (λ (k : ℕ). after_runs k rows) many ∙ ap (after_runs so_many) d.rows_are ∙ f.from_it))
 
-    pub on-columns : Shows (columnsIn s g) (areaLayout c s g .columns) (came g .«column_runs») (columnsFrom plan n columns)
-    unfolding limitOf
-    on-columns =
-        let ls = layoutsOf c s gs in
-        let f = from-area (λ (l : AreaLayout). l .columns) ls n (areaLayout c s g) (d .column-tail) (numbered-map (areaLayout c s) gs n g e) in
-        let so-many : ℕ = overAreas (howMany (λ (l : AreaLayout). l .columns)) (take (n - 1) ls) in
-        let many : columnRuns (areasBefore plan n) ≡ so-many = ap columnRuns before-are ∙ columns-of (take (n - 1) gs)
-        ∙ ap (overAreas (howMany (λ (l : AreaLayout). l .columns))) (sym (take-map (areaLayout c s) (n - 1) gs)) in
-        let two = both (leb (g .«last_row») lastRow) (leb (g .«last_column») lastColumn) in-grid in
-        rw (column-count g) (shows (columnsIn s g) (areaLayout c s g .columns) (columnsFrom plan n columns) (f .others) (d .is-sound .columns-even)
-        (leb-true _ _ (two .1)) (d .is-sound .columns-rise) (ap (λ (k : ℕ). afterRuns k columns) many ∙ ap (afterRuns so-many) (d .columns-are) ∙ f .from-it))
+    pub on_columns : Shows (columns_in s g) (area_layout c s g).columns (came g).column_runs (columns_from plan n columns)
+    unfolding limit_of
+    on_columns =
+        let ls = layouts_of c s gs in
+        let f = from_area (λ (l : AreaLayout). l.columns) ls n (area_layout c s g) d.column_tail (numbered-map (area_layout c s) gs n g e) in
+        let so_many : ℕ = over_areas (how_many (λ (l : AreaLayout). l.columns)) (take (n - 1) ls) in
+        let many : column_runs (areas_before plan n) ≡ so_many = ap column_runs before_are ∙ columns_of (take (n - 1) gs)
+        ∙ ap (over_areas (how_many (λ (l : AreaLayout). l.columns))) (sym (take-map (area_layout c s) (n - 1) gs)) in
+        let two = both (leb g.last_row last_row) (leb g.last_column last_column) range_in_grid in
+        rw (column_count g) (shows (columns_in s g) (area_layout c s g).columns (columns_from plan n columns) f.others d.is_sound.columns_even
+        (leb-true _ _ two.1) d.is_sound.columns_rise (ap (λ (k : ℕ). after_runs k columns) many ∙ ap (after_runs so_many) d.columns_are ∙ f.from_it))
 
 -- ---- covered
 
-module _ (plan : Plan) (rows columns : List ℕ) (held : holdsRuns plan rows columns ≡ true)
-    (pages-are : plan .pages ≡ overAreas pagesIn (plansIn (plan .areas))) (n : ℕ) (a : AreaPlan)
-    (is-it : numbered (plansIn (plan .areas)) n ≡ given a) where
+module _ (plan : Plan) (rows columns : List ℕ) (held : holds_runs plan rows columns ≡ true)
+    (pages_are : plan.pages ≡ over_areas pages_in (plans_in plan.areas)) (n : ℕ) (a : AreaPlan)
+    (is_it : numbered (plans_in plan.areas) n ≡ given a) where
   abbrev down : ℕ
-  down = a .«row_runs»
+  down = a.row_runs
 
   abbrev over : ℕ
-  over = a .«column_runs»
+  over = a.column_runs
 
   abbrev start : ℕ
-  start = pagesBefore plan n
+  start = pages_before plan n
 
-  abbrev own-rows : List ℕ
-  own-rows = rowsFrom plan n rows
+  abbrev own_rows : List ℕ
+  own_rows = rows_from plan n rows
 
-  abbrev own-columns : List ℕ
-  own-columns = columnsFrom plan n columns
+  abbrev own_columns : List ℕ
+  own_columns = columns_from plan n columns
 
   -- the page of two runs, and the area's page after so many of its own
   abbrev at : ℕ → ℕ → Page
-  at = pageAt own-rows own-columns a
+  at = page_at own_rows own_columns a
 
   abbrev after : ℕ → Page
-  after before = at (verticalOf (plan .order) down over before) (horizontalOf (plan .order) down over before)
+  after before = at (vertical_of plan.order down over before) (horizontal_of plan.order down over before)
 
-  to-last : start + down * over ≤ plan .pages
-  to-last = omega (arith, pages-are, before-and-it pagesIn (plansIn (plan .areas)) n a is-it)
+  to_last : start + down * over ≤ plan.pages
+  to_last = omega (arith, pages_are, before_and_it pages_in (plans_in plan.areas) n a is_it)
 
-  page-is : (before : ℕ) → before < down * over → pageNumbered plan rows columns (start + suc before) ≡ given (after before)
-  unfolding pageNumbered pagesOf areaPages
-  page-is before h =
+  page_is : (before : ℕ) → before < down * over → page_numbered plan rows columns (start + suc before) ≡ given (after before)
+  unfolding page_numbered pages_of area_pages
+  page_is before h =
       rw held
-      (numbered-take (plan .pages) (areasPages (plan .order) (plansIn (plan .areas)) rows columns) (start + suc before) (omega (arith, to-last))
-      ∙ own-page (plan .order) (plansIn (plan .areas)) rows columns n a is-it (suc before) (omega arith) (omega arith)
-      ∙ page-after down over at (plan .order) before h)
+      (numbered_take plan.pages (areas_pages plan.order (plans_in plan.areas) rows columns) (start + suc before) (omega (arith, to_last))
+      ∙ own_page plan.order (plans_in plan.areas) rows columns n a is_it (suc before) (omega arith) (omega arith)
+      ∙ page_after down over at plan.order before h)
 
   -- a page of the area's own is one of these
-  is-page : (m : ℕ) (page : Page) → IsOwn plan n a m → pageNumbered plan rows columns m ≡ given page
+  is_page : (m : ℕ) (page : Page) → IsOwn plan n a m → page_numbered plan rows columns m ≡ given page
       → (before : ℕ) × (before < down * over) × (m ≡ start + suc before) × (page ≡ after before)
-  is-page m page own e =
+  is_page m page own e =
       let i : ℕ = m - start - 1 in
-      let h : i < down * over = omega (arith, own .past-those-before, own .to-its-last) in
-      let is : m ≡ start + suc i = omega (arith, own .past-those-before) in
-      let same : given page ≡ given (after i) = sym e ∙ ap (pageNumbered plan rows columns) is ∙ page-is i h in
+      let h : i < down * over = omega (arith, own.past_those_before, own.to_its_last) in
+      let is : m ≡ start + suc i = omega (arith, own.past_those_before) in
+      let same : given page ≡ given (after i) = sym e ∙ ap (page_numbered plan rows columns) is ∙ page_is i h in
       (i, h, is, cc)
 
   -- an index of the grid that lies from first to last of a page's run lies in that run of the list, and the other way round
   module _ (k : ℕ) (l : List ℕ) (index i : ℕ) (small : index < 4294967295) (below : i < k) where
     abbrev run : PageRun
-    run = runAt l true i
+    run = run_at l true i
 
-    first-is : getD (firsts (runsIn k l)) i 0 ≡ numberAt l i 0
-    first-is = field-at (λ (r : Run). r .first) 0 (λ l. refl) k l i below
+    first_is : get_or (firsts (runs_in k l)) i 0 ≡ number_at l i 0
+    first_is = field_at (λ (r : Run). r.first) 0 (λ l. refl) k l i below
 
-    last-is : getD (lasts (runsIn k l)) i 0 ≡ numberAt l i 1
-    last-is = field-at (λ (r : Run). r .last) 1 (λ l. refl) k l i below
+    last_is : get_or (lasts (runs_in k l)) i 0 ≡ number_at l i 1
+    last_is = field_at (λ (r : Run). r.last) 1 (λ l. refl) k l i below
 
-    lies : run .first ≤ index → index ≤ run .last → LiesIn (firsts (runsIn k l)) (lasts (runsIn k l)) index i
+    lies : run.first ≤ index → index ≤ run.last → LiesIn (firsts (runs_in k l)) (lasts (runs_in k l)) index i
     lies low high = record {
-      there = omega (arith, length-map (runsIn k l) (λ (r : Run). r .first), runs-length k l);
-      not-before = omega (arith, first-is);
-      not-after = omega (arith, last-is);
+      there = omega (arith, length-map (runs_in k l) (λ (r : Run). r.first), runs_length k l);
+      not_before = omega (arith, first_is);
+      not_after = omega (arith, last_is);
     }
 
-    from-first : getD (firsts (runsIn k l)) i 0 ≤ index → run .first ≤ index
-    from-first h = omega (arith, first-is)
+    from_first : get_or (firsts (runs_in k l)) i 0 ≤ index → run.first ≤ index
+    from_first h = omega (arith, first_is)
 
-    to-its-last : index ≤ getD (lasts (runsIn k l)) i 0 → index ≤ run .last
-    to-its-last h = omega (arith, last-is)
+    to_its_last : index ≤ get_or (lasts (runs_in k l)) i 0 → index ≤ run.last
+    to_its_last h = omega (arith, last_is)
 
-  pub on-one-page : (row column : ℕ) → row < 4294967295 → column < 4294967295
-      → InOneRun (firsts (runsIn down own-rows)) (lasts (runsIn down own-rows)) row
-      → InOneRun (firsts (runsIn over own-columns)) (lasts (runsIn over own-columns)) column → OnOnePage plan n rows columns row column a
-  on-one-page row column low-row low-column i j =
-      let v : ℕ = i .run in
-      let h : ℕ = j .run in
-      let v-below : v < down = omega (arith, i .lies .there, length-map (runsIn down own-rows) (λ (r : Run). r .first), runs-length down own-rows) in
-      let h-below : h < over =
-      omega (arith, j .lies .there, length-map (runsIn over own-columns) (λ (r : Run). r .first), runs-length over own-columns) in
-      let before : ℕ = beforeOf (plan .order) down over v h in
-      let inside : before < down * over = before-below down over v h v-below h-below (plan .order) in
+  pub on_one_page : (row column : ℕ) → row < 4294967295 → column < 4294967295
+      → InOneRun (firsts (runs_in down own_rows)) (lasts (runs_in down own_rows)) row
+      → InOneRun (firsts (runs_in over own_columns)) (lasts (runs_in over own_columns)) column → OnOnePage plan n rows columns row column a
+  on_one_page row column low_row low_column i j =
+      let v : ℕ = i.run in
+      let h : ℕ = j.run in
+      let v_below : v < down = omega (arith, i.lies.there, length-map (runs_in down own_rows) (λ (r : Run). r.first), runs_length down own_rows) in
+      let h_below : h < over =
+      omega (arith, j.lies.there, length-map (runs_in over own_columns) (λ (r : Run). r.first), runs_length over own_columns) in
+      let before : ℕ = before_of plan.order down over v h in
+      let inside : before < down * over = before_below down over v h v_below h_below plan.order in
       record {
         number = start + suc before;
         page = at v h;
-        own = record { past-those-before = omega arith; to-its-last = omega arith };
-        to-count = omega (arith, to-last);
-        has-number = rw (vertical-is down over v h v-below h-below (plan .order), horizontal-is down over v h v-below h-below (plan .order))
-            at (page-is before inside);
-        on-it = record {
-          row-from-first = from-first down own-rows row v low-row v-below (i .lies .not-before);
-          row-to-last = to-its-last down own-rows row v low-row v-below (i .lies .not-after);
-          column-from-first = from-first over own-columns column h low-column h-below (j .lies .not-before);
-          column-to-last = to-its-last over own-columns column h low-column h-below (j .lies .not-after);
+        own = record { past_those_before = omega arith; to_its_last = omega arith };
+        to_count = omega (arith, to_last);
+        has_number = rw (vertical_is down over v h v_below h_below plan.order, horizontal_is down over v h v_below h_below plan.order)
+            at (page_is before inside);
+        on_it = record {
+          row_from_first = from_first down own_rows row v low_row v_below i.lies.not_before;
+          row_to_last = to_its_last down own_rows row v low_row v_below i.lies.not_after;
+          column_from_first = from_first over own_columns column h low_column h_below j.lies.not_before;
+          column_to_last = to_its_last over own_columns column h low_column h_below j.lies.not_after;
         };
-        on-no-other = λ m other own e o.
-            let (b, l, number, page) = is-page m other own e in
+        on_no_other = λ m other own e o.
+            let (b, l, number, page) = is_page m other own e in
             let on : OnPage (after b) row column = rw page at o in
-            let v′ : ℕ = verticalOf (plan .order) down over b in
-            let h′ : ℕ = horizontalOf (plan .order) down over b in
-            let v′-below = vertical-below down over b l (plan .order) in
-            let h′-below = horizontal-below down over b l (plan .order) in
-            let ev : v′ ≡ v = i .only v′ (lies down own-rows row v′ low-row v′-below (on .row-from-first) (on .row-to-last)) in
-            let eh : h′ ≡ h = j .only h′ (lies over own-columns column h′ low-column h′-below (on .column-from-first) (on .column-to-last)) in
-            let same : beforeOf (plan .order) down over v′ h′ ≡ before = rw (ev, eh) refl in
-            number ∙ ap (λ (x : ℕ). start + suc x) (sym (before-of-place down over b l (plan .order)) ∙ same);
+            let v' : ℕ = vertical_of plan.order down over b in
+            let h' : ℕ = horizontal_of plan.order down over b in
+            let v'_below = vertical_below down over b l plan.order in
+            let h'_below = horizontal_below down over b l plan.order in
+            let ev : v' ≡ v = i.only v' (lies down own_rows row v' low_row v'_below on.row_from_first on.row_to_last) in
+            let eh : h' ≡ h = j.only h' (lies over own_columns column h' low_column h'_below on.column_from_first on.column_to_last) in
+            let same : before_of plan.order down over v' h' ≡ before = rw (ev, eh) refl in
+            number ∙ ap (λ (x : ℕ). start + suc x) (sym (before_of_place down over b l plan.order) ∙ same);
       }
 
 -- an area's rows and columns are those at its permille
-area-rows : (c : Sides) (s : Sheet) (g : PrintRange) → areaLayout c s g .rows ≡ pageRuns (c .height) (rowsIn s g) (planIn (areaLayout c s g) .permille)
-unfolding areaLayout areaAt countedAt
-area-rows c s g = refl
+area_rows : (c : Sides) (s : Sheet) (g : PrintRange) → (area_layout c s g).rows ≡ page_runs c.height (rows_in s g) (plan_in (area_layout c s g)).permille
+unfolding area_layout area_at counted_at
+area_rows c s g = refl
 
-area-columns : (c : Sides) (s : Sheet) (g : PrintRange)
-    → areaLayout c s g .columns ≡ pageRuns (c .width) (columnsIn s g) (planIn (areaLayout c s g) .permille)
-unfolding areaLayout areaAt countedAt
-area-columns c s g = refl
+area_columns : (c : Sides) (s : Sheet) (g : PrintRange)
+    → (area_layout c s g).columns ≡ page_runs c.width (columns_in s g) (plan_in (area_layout c s g)).permille
+unfolding area_layout area_at counted_at
+area_columns c s g = refl
 
 module _ (s : Sheet) (areas : Areas) (rows₀ columns₀ rows columns : List ℕ) (r : Planning)
     (p : Planned (planned s areas rows₀ columns₀) r rows₀ columns₀ rows columns) where
   pub covers : CoversPairs r s areas rows columns
-  unfolding limitOf
+  unfolding limit_of
   covers = record {
     covered = λ plan f n g e row column i j.
         let d = done s areas rows₀ columns₀ rows columns r p plan f in
-        let c = d .sides in
-        let a : AreaPlan = planIn (areaLayout c s g) in
-        let is = came-to s areas plan rows columns d n g e in
-        let u = on-rows s areas plan rows columns d n g e in
-        let w = on-columns s areas plan rows columns d n g e in
+        let c = d.sides in
+        let a : AreaPlan = plan_in (area_layout c s g) in
+        let is = came_to s areas plan rows columns d n g e in
+        let u = on_rows s areas plan rows columns d n g e in
+        let w = on_columns s areas plan rows columns d n g e in
         record {
           area = a;
-          is-it = is;
-          so = on-one-page plan rows columns (held s areas plan rows columns d) (pages-are s areas plan rows columns d) n a is row column
-              (omega (arith, i .to-last, u .inside)) (omega (arith, j .to-last, w .inside))
-              (rw (u .firsts-are, u .lasts-are, area-rows c s g)
-              (page-runs-cover (c .height) (rowsIn s g) (a .permille) (u .even) (u .rising) row i))
-              (rw (w .firsts-are, w .lasts-are, area-columns c s g)
-              (page-runs-cover (c .width) (columnsIn s g) (a .permille) (w .even) (w .rising) column j));
+          is_it = is;
+          so = on_one_page plan rows columns (held s areas plan rows columns d) (pages_are s areas plan rows columns d) n a is row column
+              (omega (arith, i.to_last, u.inside)) (omega (arith, j.to_last, w.inside))
+              (rw (u.firsts_are, u.lasts_are, area_rows c s g)
+              (page_runs_cover c.height (rows_in s g) a.permille u.even u.rising row i))
+              (rw (w.firsts_are, w.lasts_are, area_columns c s g)
+              (page_runs_cover c.width (columns_in s g) a.permille w.even w.rising column j));
         };
   }
 
   -- ---- fewest
 
-  pub fewest-plan : FewestPlan r s areas rows columns
-  fewest-plan = record {
-    on-rows = λ plan f c e n g x bare.
+  pub fewest_plan : FewestPlan r s areas rows columns
+  fewest_plan = record {
+    on_rows = λ plan f c e n g x bare.
         let d = done s areas rows₀ columns₀ rows columns r p plan f in
-        let u = on-rows s areas plan rows columns d n g x in
-        let same = same-sides (d .sides-are) e in
-        let a : AreaPlan = planIn (areaLayout (d .sides) s g) in
+        let u = on_rows s areas plan rows columns d n g x in
+        let same = same_sides d.sides_are e in
+        let a : AreaPlan = plan_in (area_layout d.sides s g) in
         record {
           area = a;
-          is-it = came-to s areas plan rows columns d n g x;
-          so = λ h. rw (← same, u .firsts-are, u .lasts-are, u .sizes-are, area-rows (d .sides) s g)
-              (page-runs-fewest (rowsIn s g) bare (d .sides .height) (a .permille) (u .even) h);
+          is_it = came_to s areas plan rows columns d n g x;
+          so = λ h. rw (← same, u.firsts_are, u.lasts_are, u.sizes_are, area_rows d.sides s g)
+              (page_runs_fewest (rows_in s g) bare d.sides.height a.permille u.even h);
         };
-    on-columns = λ plan f c e n g x bare.
+    on_columns = λ plan f c e n g x bare.
         let d = done s areas rows₀ columns₀ rows columns r p plan f in
-        let w = on-columns s areas plan rows columns d n g x in
-        let same = same-sides (d .sides-are) e in
-        let a : AreaPlan = planIn (areaLayout (d .sides) s g) in
+        let w = on_columns s areas plan rows columns d n g x in
+        let same = same_sides d.sides_are e in
+        let a : AreaPlan = plan_in (area_layout d.sides s g) in
         record {
           area = a;
-          is-it = came-to s areas plan rows columns d n g x;
-          so = λ h. rw (← same, w .firsts-are, w .lasts-are, w .sizes-are, area-columns (d .sides) s g)
-              (page-runs-fewest (columnsIn s g) bare (d .sides .width) (a .permille) (w .even) h);
+          is_it = came_to s areas plan rows columns d n g x;
+          so = λ h. rw (← same, w.firsts_are, w.lasts_are, w.sizes_are, area_columns d.sides s g)
+              (page_runs_fewest (columns_in s g) bare d.sides.width a.permille w.even h);
         };
   }
 
 -- ---- largest
 
-plain : (side : ℤ) (a : AxisInput) (n : ℕ) → Bare a → Exceeds side a n → mag side < 2 ^ 53 → length (a .indexes) ≡ length (a .sizes)
-    → Plain (spaceOn side a) (bodyOf a) n
-unfolding spaceOn bodyOf
+plain : (side : ℤ) (a : AxisInput) (n : ℕ) → Bare a → Exceeds side a n → mag side < 2 ^ 53 → length a.indexes ≡ length a.sizes
+    → Plain (space_on side a) (body_of a) n
+unfolding space_on body_of
 plain side a n bare x moderate even = record {
-  side-is = x .side-is;
-  moderate = rw (x .side-is) at moderate;
-  room = x .above;
-  no-titles = bare-total a bare;
-  no-title = bare .no-title;
-  no-firsts = bare .no-merge-firsts;
-  no-lasts = bare .no-merge-lasts;
-  even = body-even a even;
+  side_is = x.side_is;
+  moderate = rw x.side_is at moderate;
+  room = x.above;
+  no_titles = bare_total a bare;
+  no_title = bare.no_title;
+  no_firsts = bare.no_merge_firsts;
+  no_lasts = bare.no_merge_lasts;
+  even = body_even a even;
 }
 
-scale-is : (s : Settings) (c : Sides) (a b : AxisInput) (height width : ℕ) → s .fit ≡ true → Plain (spaceOn (c .height) a) (bodyOf a) height
-    → Plain (spaceOn (c .width) b) (bodyOf b) width
-    → let scale = chosenScale s c a b in Chosen (EachReaches a b height width) (scale .permille) (scale .unreachable)
-unfolding chosenScale spaceOn bodyOf
-scale-is s c a b height width fit x y =
-    rw fit (scale-chosen (spaceOn (c .height) a) (spaceOn (c .width) b) (bodyOf a) (bodyOf b) height width (a .target) (b .target) x y)
+scale_is : (s : Settings) (c : Sides) (a b : AxisInput) (height width : ℕ) → s.fit ≡ true → Plain (space_on c.height a) (body_of a) height
+    → Plain (space_on c.width b) (body_of b) width
+    → let scale = chosen_scale s c a b in Chosen (EachReaches a b height width) scale.permille scale.unreachable
+unfolding chosen_scale space_on body_of
+scale_is s c a b height width fit x y =
+    rw fit (scale_chosen (space_on c.height a) (space_on c.width b) (body_of a) (body_of b) height width a.target b.target x y)
 
 -- the area's permille and mark are those of the scale that was chosen for it
-area-chosen : (c : Sides) (s : Sheet) (g : PrintRange) (P : ℕ → Type 0)
-    → (let scale = chosenScale (s .settings) c (rowsIn s g) (columnsIn s g) in Chosen P (scale .permille) (scale .unreachable))
-    → (let a = planIn (areaLayout c s g) in Chosen P (a .permille) (a .unreachable))
-unfolding areaLayout areaAt countedAt
-area-chosen c s g P h = h
+area_chosen : (c : Sides) (s : Sheet) (g : PrintRange) (P : ℕ → Type 0)
+    → (let scale = chosen_scale s.settings c (rows_in s g) (columns_in s g) in Chosen P scale.permille scale.unreachable)
+    → (let a = plan_in (area_layout c s g) in Chosen P a.permille a.unreachable)
+unfolding area_layout area_at counted_at
+area_chosen c s g P h = h
 
 -- the mark of an area is its note
-mark-noted : (c : Sides) (s : Sheet) (g : PrintRange) → areaLayout c s g .counted .notes .unreachable ≡ planIn (areaLayout c s g) .unreachable
-unfolding areaLayout areaAt countedAt
-mark-noted c s g = refl
+mark_noted : (c : Sides) (s : Sheet) (g : PrintRange) → (area_layout c s g).counted.notes.unreachable ≡ (plan_in (area_layout c s g)).unreachable
+unfolding area_layout area_at counted_at
+mark_noted c s g = refl
 
-module _ (s : Sheet) (content : (c : Sides) × (contentSides (s .settings) ≡ given c) × (mag (c .width) < 2 ^ 53) × (mag (c .height) < 2 ^ 53))
+module _ (s : Sheet) (content : (c : Sides) × (content_sides s.settings ≡ given c) × (mag c.width < 2 ^ 53) × (mag c.height < 2 ^ 53))
     (areas : Areas) (rows₀ columns₀ rows columns : List ℕ) (r : Planning)
     (p : Planned (planned s areas rows₀ columns₀) r rows₀ columns₀ rows columns) where
-  pub largest-plan : LargestPlan r s areas
-  unfolding planOf
-  largest-plan = record {
-    largest = λ plan f c e n g x bare-a bare-b fit height width exceeds-a exceeds-b.
+  pub largest_plan : LargestPlan r s areas
+  unfolding plan_of
+  largest_plan = record {
+    largest = λ plan f c e n g x bare_a bare_b fit height width exceeds_a exceeds_b.
         let d = done s areas rows₀ columns₀ rows columns r p plan f in
-        let u = on-rows s areas plan rows columns d n g x in
-        let w = on-columns s areas plan rows columns d n g x in
-        let (k, given-k, width-low, height-low) = content in
-        let low = same-sides given-k e in
-        let same = same-sides (d .sides-are) e in
-        let area : AreaPlan = planIn (areaLayout c s g) in
+        let u = on_rows s areas plan rows columns d n g x in
+        let w = on_columns s areas plan rows columns d n g x in
+        let (k, given_k, width_low, height_low) = content in
+        let low = same_sides given_k e in
+        let same = same_sides d.sides_are e in
+        let area : AreaPlan = plan_in (area_layout c s g) in
         record {
           area = area;
-          is-it = subst (λ (x : Sides). numbered (plansIn (plan .areas)) n ≡ given (planIn (areaLayout x s g))) same (came-to s areas plan rows columns d n g x);
-          so = area-chosen c s g (EachReaches (rowsIn s g) (columnsIn s g) height width)
-              (scale-is (s .settings) c (rowsIn s g) (columnsIn s g) height width fit
-              (plain (c .height) (rowsIn s g) height bare-a exceeds-a (rw low at height-low) (u .even))
-              (plain (c .width) (columnsIn s g) width bare-b exceeds-b (rw low at width-low) (w .even)));
+          is_it = subst (λ (x : Sides). numbered (plans_in plan.areas) n ≡ given (plan_in (area_layout x s g))) same (came_to s areas plan rows columns d n g x);
+          so = area_chosen c s g (EachReaches (rows_in s g) (columns_in s g) height width)
+              (scale_is s.settings c (rows_in s g) (columns_in s g) height width fit
+              (plain c.height (rows_in s g) height bare_a exceeds_a (rw low at height_low) u.even)
+              (plain c.width (columns_in s g) width bare_b exceeds_b (rw low at width_low) w.even));
         };
     noted = λ plan f.
         let d = done s areas rows₀ columns₀ rows columns r p plan f in
-        let c = d .sides in
-        let gs = areasIn areas in
-        ap (λ (x : Plan). x .notes .«fit_unreachable») (sym (d .plan-is))
-        ∙ over-map (λ (l : AreaLayout). l .counted .notes .unreachable) (areaLayout c s) gs
-        ∙ over-same (λ (g : PrintRange). areaLayout c s g .counted .notes .unreachable) (λ (g : PrintRange). planIn (areaLayout c s g) .unreachable)
-        (mark-noted c s) gs
-        ∙ sym (over-map (λ (l : AreaLayout). planIn l .unreachable) (areaLayout c s) gs)
-        ∙ sym (over-map (λ (a : AreaPlan). a .unreachable) planIn (layoutsOf c s gs))
-        ∙ ap (λ (l : List AreaPlan). overAreas (λ (a : AreaPlan). a .unreachable) l) (sym (plans-are s areas plan rows columns d));
+        let c = d.sides in
+        let gs = areas_in areas in
+        ap (λ (x : Plan). x.notes.fit_unreachable) (sym d.plan_is)
+        ∙ over_map (λ (l : AreaLayout). l.counted.notes.unreachable) (area_layout c s) gs
+        ∙ over_same (λ (g : PrintRange). (area_layout c s g).counted.notes.unreachable) (λ (g : PrintRange). (plan_in (area_layout c s g)).unreachable)
+        (mark_noted c s) gs
+        ∙ sym (over_map (λ (l : AreaLayout). (plan_in l).unreachable) (area_layout c s) gs)
+        ∙ sym (over_map (λ (a : AreaPlan). a.unreachable) plan_in (layouts_of c s gs))
+        ∙ ap (λ (l : List AreaPlan). over_areas (λ (a : AreaPlan). a.unreachable) l) (sym (plans_are s areas plan rows columns d));
   }
 
 -- ---- the clauses of the call, in their order
@@ -536,6 +536,6 @@ clauses s areas rows₀ columns₀ rows columns r p = (
   p,
   (
     covers s areas rows₀ columns₀ rows columns r p,
-    (fewest-plan s areas rows₀ columns₀ rows columns r p, largest-plan s (sides-given (s .settings)) areas rows₀ columns₀ rows columns r p),
+    (fewest_plan s areas rows₀ columns₀ rows columns r p, largest_plan s (sides_given s.settings) areas rows₀ columns₀ rows columns r p),
   ),
 )

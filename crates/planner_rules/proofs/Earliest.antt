@@ -1,28 +1,28 @@
 -- `holding` is what document 01 says: a clipped merge that holds b, and none that holds b is earlier by first, then last. Assumes nothing.
-use mathlib.Core.Path.{_≡_, refl}
-use mathlib.Core.Logic.{_⊎_, inl, inr, ⊎-elim}
+use mathlib.Core.Path.{◌≡◌, refl}
+use mathlib.Core.Logic.{◌⊎◌, inl, inr, ⊎_elim}
 use mathlib.Core.Bool.{cond}
-use mathlib.Core.List.{List, [], _∷_}
-use Prim.Native.Nat.{ℕ, zero, suc, _≤_, _<_, min, max}
+use mathlib.Core.List.{List, [], ◌∷◌}
+use Prim.Native.Nat.{ℕ, zero, suc, ◌≤◌, ◌<◌, min, max}
 use native.Mathlib.Omega.{arith}
-use lib.ListN.{length, getD}
+use lib.ListN.{length, get_or}
 use borrow.Author.Tests.{lt-ltb, le-ltb, le-leb, lt-leb}
-use Rattle·planner_rules·specs.specs.declared.runs.Held.{Held}
-use Rattle·planner_rules·specs.specs.declared.runs.Held.the-variants.{Free, By}
-use Rattle·planner_rules·specs.specs.Titles.{holds}
-use Rattle·planner_rules·specs.specs.Runs.{earlier, nearer, holding}
-use Rattle·planner_rules·proofs.proofs.Laws.{either-lt, split}
+use Rattle.planner_rules.specs.declared.runs.Held.{Held}
+use Rattle.planner_rules.specs.declared.runs.Held.TheVariants.{Free, By}
+use Rattle.planner_rules.specs.Titles.{holds}
+use Rattle.planner_rules.specs.Runs.{earlier, nearer, holding}
+use Rattle.planner_rules.proofs.Laws.{either_lt, split}
 
 -- the merge number i, clipped, holds b
 pub record HoldsAt (lo hi b : ℕ) (fs ls : List ℕ) (i : ℕ) : Type 0 where
   pub there : (i < length fs) × (i < length ls)
-  pub past-first : max (getD fs i 0) lo < b
-  pub to-last : b ≤ min (getD ls i 0) hi
+  pub past_first : max (get_or fs i 0) lo < b
+  pub to_last : b ≤ min (get_or ls i 0) hi
 
 -- what is held is a clipped merge that holds b
 abbrev pub Found : ℕ → ℕ → ℕ → List ℕ → List ℕ → Held → Type 0
 Found lo hi b fs ls Free = Unit {0}
-Found lo hi b fs ls (By f l) = (i : ℕ) × HoldsAt lo hi b fs ls i × (f ≡ max (getD fs i 0) lo) × (l ≡ min (getD ls i 0) hi)
+Found lo hi b fs ls (By f l) = (i : ℕ) × HoldsAt lo hi b fs ls i × (f ≡ max (get_or fs i 0) lo) × (l ≡ min (get_or ls i 0) hi)
 
 -- the pair g, m is not before what is held, by first, then last; nothing is held only where there is no such pair
 abbrev pub NotBefore : Held → ℕ → ℕ → Type 0
@@ -32,83 +32,83 @@ NotBefore (By f l) g m = (f < g) ⊎ ((f ≡ g) × (l ≤ m))
 -- "if several hold b, the earliest by first, then last, is used"
 pub record Earliest (lo hi b : ℕ) (fs ls : List ℕ) (held : Held) : Type 0 where
   pub found : Found lo hi b fs ls held
-  pub least : (i : ℕ) → HoldsAt lo hi b fs ls i → NotBefore held (max (getD fs i 0) lo) (min (getD ls i 0) hi)
+  pub least : (i : ℕ) → HoldsAt lo hi b fs ls i → NotBefore held (max (get_or fs i 0) lo) (min (get_or ls i 0) hi)
 
 -- ---- one more pair
 
 -- the pair put in is not before the outcome
-earlier-new : (f l : ℕ) (h : Held) → NotBefore (earlier f l h) f l
+earlier_new : (f l : ℕ) (h : Held) → NotBefore (earlier f l h) f l
 unfolding earlier
-earlier-new f l Free = inr (refl, omega arith)
-earlier-new f l (By g m) =
-    either-lt (λ (h : Held). NotBefore h f l) f g (λ _. inr (refl, omega arith))
-    (λ p. either-lt (λ (h : Held). NotBefore h f l) g f (λ q. inl q) (λ q. inr (refl, omega arith)))
+earlier_new f l Free = inr (refl, omega arith)
+earlier_new f l (By g m) =
+    either_lt (λ (h : Held). NotBefore h f l) f g (λ _. inr (refl, omega arith))
+    (λ p. either_lt (λ (h : Held). NotBefore h f l) g f (λ q. inl q) (λ q. inr (refl, omega arith)))
 
 -- what was not before the one held is not before the outcome
-earlier-old : (f l : ℕ) (h : Held) (x y : ℕ) → NotBefore h x y → NotBefore (earlier f l h) x y
+earlier_old : (f l : ℕ) (h : Held) (x y : ℕ) → NotBefore h x y → NotBefore (earlier f l h) x y
 unfolding earlier
-earlier-old f l Free x y n = absurd n
-earlier-old f l (By g m) x y n =
-    either-lt (λ (h : Held). NotBefore h x y) f g (λ p. inl (⊎-elim (λ (a : g < x). omega arith) (λ (a : (g ≡ x) × (m ≤ y)). omega arith) n))
-    (λ p. either-lt (λ (h : Held). NotBefore h x y) g f (λ q. n)
-    (λ q. ⊎-elim (λ (a : g < x). inl (omega arith)) (λ (a : (g ≡ x) × (m ≤ y)). inr (omega arith, omega arith)) n))
+earlier_old f l Free x y n = absurd n
+earlier_old f l (By g m) x y n =
+    either_lt (λ (h : Held). NotBefore h x y) f g (λ p. inl (⊎_elim (λ (a : g < x). omega arith) (λ (a : (g ≡ x) × (m ≤ y)). omega arith) n))
+    (λ p. either_lt (λ (h : Held). NotBefore h x y) g f (λ q. n)
+    (λ q. ⊎_elim (λ (a : g < x). inl (omega arith)) (λ (a : (g ≡ x) × (m ≤ y)). inr (omega arith, omega arith)) n))
 
 module _ (lo hi b f l : ℕ) (fs ls : List ℕ) where
   outer : {i : ℕ} → HoldsAt lo hi b fs ls i → HoldsAt lo hi b (f ∷ fs) (l ∷ ls) (suc i)
-  outer h = record { there = omega (arith, h .there); past-first = h .past-first; to-last = h .to-last }
+  outer h = record { there = omega (arith, h.there); past_first = h.past_first; to_last = h.to_last }
 
   inner : {i : ℕ} → HoldsAt lo hi b (f ∷ fs) (l ∷ ls) (suc i) → HoldsAt lo hi b fs ls i
-  inner h = record { there = omega (arith, h .there); past-first = h .past-first; to-last = h .to-last }
+  inner h = record { there = omega (arith, h.there); past_first = h.past_first; to_last = h.to_last }
 
-  found-outer : (h : Held) → Found lo hi b fs ls h → Found lo hi b (f ∷ fs) (l ∷ ls) h
-  found-outer Free u = tt
-  found-outer (By g m) u = (suc (u .0), outer (u .1), u .2, u .3)
+  found_outer : (h : Held) → Found lo hi b fs ls h → Found lo hi b (f ∷ fs) (l ∷ ls) h
+  found_outer Free u = tt
+  found_outer (By g m) u = (suc u.0, outer u.1, u.2, u.3)
 
   module _ (p : max f lo < b) (q : b ≤ min l hi) where
     here : HoldsAt lo hi b (f ∷ fs) (l ∷ ls) 0
-    here = record { there = omega arith; past-first = p; to-last = q }
+    here = record { there = omega arith; past_first = p; to_last = q }
 
-    found-new : (h : Held) → Found lo hi b fs ls h → Found lo hi b (f ∷ fs) (l ∷ ls) (earlier (max f lo) (min l hi) h)
+    found_new : (h : Held) → Found lo hi b fs ls h → Found lo hi b (f ∷ fs) (l ∷ ls) (earlier (max f lo) (min l hi) h)
     unfolding earlier
-    found-new Free u = (0, here, refl, refl)
-    found-new (By g m) u =
+    found_new Free u = (0, here, refl, refl)
+    found_new (By g m) u =
         let Is : Held → Type 0 = Found lo hi b (f ∷ fs) (l ∷ ls) in
-        either-lt Is (max f lo) g (λ _. (0, here, refl, refl))
-        (λ x. either-lt Is g (max f lo) (λ _. found-outer (By g m) u)
-        (λ y. split (min l hi) m (λ z. (0, here, refl, omega arith)) (λ z. (suc (u .0), outer (u .1), omega (arith, u .2), omega (arith, u .3)))))
+        either_lt Is (max f lo) g (λ _. (0, here, refl, refl))
+        (λ x. either_lt Is g (max f lo) (λ _. found_outer (By g m) u)
+        (λ y. split (min l hi) m (λ z. (0, here, refl, omega arith)) (λ z. (suc u.0, outer u.1, omega (arith, u.2), omega (arith, u.3)))))
 
-    earliest-new : (h : Held) → Earliest lo hi b fs ls h → Earliest lo hi b (f ∷ fs) (l ∷ ls) (earlier (max f lo) (min l hi) h)
-    earliest-new h e = record { found = found-new h (e .found); least = least }
+    earliest_new : (h : Held) → Earliest lo hi b fs ls h → Earliest lo hi b (f ∷ fs) (l ∷ ls) (earlier (max f lo) (min l hi) h)
+    earliest_new h e = record { found = found_new h e.found; least = least }
       where
         least : (i : ℕ) → HoldsAt lo hi b (f ∷ fs) (l ∷ ls) i
-            → NotBefore (earlier (max f lo) (min l hi) h) (max (getD (f ∷ fs) i 0) lo) (min (getD (l ∷ ls) i 0) hi)
-        least zero o = earlier-new (max f lo) (min l hi) h
-        least (suc i) o = earlier-old (max f lo) (min l hi) h _ _ (e .least i (inner o))
+            → NotBefore (earlier (max f lo) (min l hi) h) (max (get_or (f ∷ fs) i 0) lo) (min (get_or (l ∷ ls) i 0) hi)
+        least zero o = earlier_new (max f lo) (min l hi) h
+        least (suc i) o = earlier_old (max f lo) (min l hi) h _ _ (e.least i (inner o))
 
-  earliest-old : (max f lo < b → b ≤ min l hi → ⊥) → (h : Held) → Earliest lo hi b fs ls h → Earliest lo hi b (f ∷ fs) (l ∷ ls) h
-  earliest-old n h e = record { found = found-outer h (e .found); least = least }
+  earliest_old : (max f lo < b → b ≤ min l hi → ⊥) → (h : Held) → Earliest lo hi b fs ls h → Earliest lo hi b (f ∷ fs) (l ∷ ls) h
+  earliest_old n h e = record { found = found_outer h e.found; least = least }
     where
-      least : (i : ℕ) → HoldsAt lo hi b (f ∷ fs) (l ∷ ls) i → NotBefore h (max (getD (f ∷ fs) i 0) lo) (min (getD (l ∷ ls) i 0) hi)
-      least zero o = absurd (n (o .past-first) (o .to-last))
-      least (suc i) o = e .least i (inner o)
+      least : (i : ℕ) → HoldsAt lo hi b (f ∷ fs) (l ∷ ls) i → NotBefore h (max (get_or (f ∷ fs) i 0) lo) (min (get_or (l ∷ ls) i 0) hi)
+      least zero o = absurd (n o.past_first o.to_last)
+      least (suc i) o = e.least i (inner o)
 
 -- ---- the search
 
 -- the way through the test of `holds`
-by-holds : (P : Held → Type 0) (f l b : ℕ) {x y : Held} → (f < b → b ≤ l → P x) → ((f < b → b ≤ l → ⊥) → P y) → P (cond (holds f l b) x y)
-by-holds P f l b p q =
+by_holds : (P : Held → Type 0) (f l b : ℕ) {x y : Held} → (f < b → b ≤ l → P x) → ((f < b → b ≤ l → ⊥) → P y) → P (cond (holds f l b) x y)
+by_holds P f l b p q =
     split b f (λ h. rw (le-ltb f b h) (q (λ u v. omega arith)))
     (λ h. split b l (λ k. rw (lt-ltb f b h, le-leb b l k) (p h k)) (λ k. rw (lt-ltb f b h, lt-leb b l k) (q (λ u v. omega arith))))
 
-pub holding-earliest : (lo hi b : ℕ) (fs ls : List ℕ) → Earliest lo hi b fs ls (holding lo hi b fs ls)
+pub holding_earliest : (lo hi b : ℕ) (fs ls : List ℕ) → Earliest lo hi b fs ls (holding lo hi b fs ls)
 unfolding holding nearer
-holding-earliest lo hi b [] ls = record { found = tt; least = λ i o. omega (arith, o .there) }
-holding-earliest lo hi b (f ∷ fs) [] = record { found = tt; least = λ i o. omega (arith, o .there) }
-holding-earliest lo hi b (f ∷ fs) (l ∷ ls) =
-    let rest = holding-earliest lo hi b fs ls in
-    by-holds (Earliest lo hi b (f ∷ fs) (l ∷ ls)) (max f lo) (min l hi) b (λ p q. earliest-new lo hi b f l fs ls p q _ rest)
-    (λ n. earliest-old lo hi b f l fs ls n _ rest)
+holding_earliest lo hi b [] ls = record { found = tt; least = λ i o. omega (arith, o.there) }
+holding_earliest lo hi b (f ∷ fs) [] = record { found = tt; least = λ i o. omega (arith, o.there) }
+holding_earliest lo hi b (f ∷ fs) (l ∷ ls) =
+    let rest = holding_earliest lo hi b fs ls in
+    by_holds (Earliest lo hi b (f ∷ fs) (l ∷ ls)) (max f lo) (min l hi) b (λ p q. earliest_new lo hi b f l fs ls p q _ rest)
+    (λ n. earliest_old lo hi b f l fs ls n _ rest)
 
 -- what document 01 asks of a merge besides: one that, clipped, holds b is of more than one slot and meets the stretch
-pub holds-meets : (f l lo hi b : ℕ) → max f lo < b → b ≤ min l hi → (f < l) × (f ≤ hi) × (lo ≤ l)
-holds-meets f l lo hi b p q = omega arith
+pub holds_meets : (f l lo hi b : ℕ) → max f lo < b → b ≤ min l hi → (f < l) × (f ≤ hi) × (lo ≤ l)
+holds_meets f l lo hi b p q = omega arith

@@ -1,104 +1,104 @@
 -- Laws of searches, of the title's resumption and of the merge step (`specs/Slots.antt`, `specs/Runs.antt`), way by way. Assumes nothing.
-use mathlib.Core.Path.{_≡_, _∙_}
-use mathlib.Core.List.{List, [], _∷_}
-use Prim.Native.Nat.{ℕ, zero, suc, _+_, _-_, _≤_, _<_}
+use mathlib.Core.Path.{◌≡◌, ◌∙◌}
+use mathlib.Core.List.{List, [], ◌∷◌}
+use Prim.Native.Nat.{ℕ, zero, suc, ◌+◌, ◌-◌, ◌≤◌, ◌<◌}
 use native.Mathlib.Numerals.{add-one}
 use native.Mathlib.Omega.{arith}
-use lib.ListN.{length, getD, drop, drop-of-length-le}
+use lib.ListN.{length, get_or, drop, drop_of_length-le}
 use lib.Seq.{drop-cons, drop-length}
 use borrow.Author.Tests.{lt-ltb, le-ltb, le-leb, lt-leb}
-use Rattle·planner_rules·specs.specs.declared.runs.Held.{Held}
-use Rattle·planner_rules·specs.specs.declared.titles.Title.{Title}
-use Rattle·planner_rules·specs.specs.declared.titles.Title.the-variants.{Pair}
-use Rattle·planner_rules·proofs.proofs.Laws.{part, rest, either, either-lt, drop-back}
+use Rattle.planner_rules.specs.declared.runs.Held.{Held}
+use Rattle.planner_rules.specs.declared.titles.Title.{Title}
+use Rattle.planner_rules.specs.declared.titles.Title.TheVariants.{Pair}
+use Rattle.planner_rules.proofs.Laws.{part, rest, either, either_lt, drop_back}
 use lib.Dec.{leb, ltb}
-use Rattle·planner_rules·specs.specs.declared.runs.RunEnd.{RunEnd}
-use Rattle·planner_rules·specs.specs.declared.runs.Frame.{Frame}
-use Rattle·planner_rules·specs.specs.declared.runs.Held.the-variants.{Free, By}
-use Rattle·planner_rules·specs.specs.Slots.{below, through}
-use Rattle·planner_rules·specs.specs.Runs.{ends, mergeStep, merged, again, resumed, resumption, filled, taken, holding}
+use Rattle.planner_rules.specs.declared.runs.RunEnd.{RunEnd}
+use Rattle.planner_rules.specs.declared.runs.Frame.{Frame}
+use Rattle.planner_rules.specs.declared.runs.Held.TheVariants.{Free, By}
+use Rattle.planner_rules.specs.Slots.{below, through}
+use Rattle.planner_rules.specs.Runs.{ends, merge_step, merged, again, resumed, resumption, filled, taken, holding}
 
 -- ---- slots below a limit
 
-pub below-yes : (k n : ℕ) (l : List ℕ) → n < length l → getD l n 0 < k → below k (drop n l) ≡ suc (below k (drop (n + 1) l))
+pub below_yes : (k n : ℕ) (l : List ℕ) → n < length l → get_or l n 0 < k → below k (drop n l) ≡ suc (below k (drop (n + 1) l))
 unfolding below
-below-yes k n l h p = rw (add-one, drop-cons l n 0, lt-ltb (getD l n 0) k)
+below_yes k n l h p = rw (add-one, drop-cons l n 0, lt-ltb (get_or l n 0) k)
 
-pub below-no : (k n : ℕ) (l : List ℕ) → n < length l → k ≤ getD l n 0 → below k (drop n l) ≡ 0
+pub below_no : (k n : ℕ) (l : List ℕ) → n < length l → k ≤ get_or l n 0 → below k (drop n l) ≡ 0
 unfolding below
-below-no k n l h p = rw (drop-cons l n 0, le-ltb (getD l n 0) k)
+below_no k n l h p = rw (drop-cons l n 0, le-ltb (get_or l n 0) k)
 
-pub below-end : (k n : ℕ) (l : List ℕ) → length l ≤ n → below k (drop n l) ≡ 0
+pub below_end : (k n : ℕ) (l : List ℕ) → length l ≤ n → below k (drop n l) ≡ 0
 unfolding below
-below-end k n l h = rw (drop-of-length-le l h)
+below_end k n l h = rw (drop_of_length-le l h)
 
 -- ---- the merge step, way by way
 
 module _ (held : Held) (f l n : ℕ) (is : List ℕ) (h : held ≡ By f l) where
-  pub step-start : (s : ℕ) → s ≡ below f is → 0 < s → ends s 0 ≡ mergeStep held n is
-  unfolding mergeStep
-  step-start s e p = rw (h, ← e, lt-ltb 0 s)
+  pub step_start : (s : ℕ) → s ≡ below f is → 0 < s → ends s 0 ≡ merge_step held n is
+  unfolding merge_step
+  step_start s e p = rw (h, ← e, lt-ltb 0 s)
 
-  pub step-far : (s t : ℕ) → s ≡ below f is → s ≤ 0 → t ≡ through l is → n < t → ends t 1 ≡ mergeStep held n is
-  unfolding mergeStep
-  step-far s t e p e′ q = rw (h, ← e, ← e′, le-ltb 0 s, lt-ltb n t)
+  pub step_far : (s t : ℕ) → s ≡ below f is → s ≤ 0 → t ≡ through l is → n < t → ends t 1 ≡ merge_step held n is
+  unfolding merge_step
+  step_far s t e p e' q = rw (h, ← e, ← e', le-ltb 0 s, lt-ltb n t)
 
-  pub step-stay : (s t : ℕ) → s ≡ below f is → s ≤ 0 → t ≡ through l is → t ≤ n → ends n 0 ≡ mergeStep held n is
-  unfolding mergeStep
-  step-stay s t e p e′ q = rw (h, ← e, ← e′, le-ltb 0 s, le-ltb n t)
+  pub step_stay : (s t : ℕ) → s ≡ below f is → s ≤ 0 → t ≡ through l is → t ≤ n → ends n 0 ≡ merge_step held n is
+  unfolding merge_step
+  step_stay s t e p e' q = rw (h, ← e, ← e', le-ltb 0 s, le-ltb n t)
 
 -- ---- the title's resumption
 
 module _ (cap last s n : ℕ) (is ss : List ℕ) where
-  pub again-fits : n < length is → n < length ss → s + getD ss n 0 ≤ cap
-      → again cap last s (drop n is) (drop n ss) ≡ suc (again cap last (s + getD ss n 0) (drop (n + 1) is) (drop (n + 1) ss))
+  pub again_fits : n < length is → n < length ss → s + get_or ss n 0 ≤ cap
+      → again cap last s (drop n is) (drop n ss) ≡ suc (again cap last (s + get_or ss n 0) (drop (n + 1) is) (drop (n + 1) ss))
   unfolding again
-  again-fits h k p = rw (add-one, drop-cons is n 0, drop-cons ss n 0, le-leb (s + getD ss n 0) cap)
+  again_fits h k p = rw (add-one, drop-cons is n 0, drop-cons ss n 0, le-leb (s + get_or ss n 0) cap)
 
-  pub again-title : n < length is → n < length ss → cap < s + getD ss n 0 → getD is n 0 ≤ last
-      → again cap last s (drop n is) (drop n ss) ≡ suc (again cap last (getD ss n 0) (drop (n + 1) is) (drop (n + 1) ss))
+  pub again_title : n < length is → n < length ss → cap < s + get_or ss n 0 → get_or is n 0 ≤ last
+      → again cap last s (drop n is) (drop n ss) ≡ suc (again cap last (get_or ss n 0) (drop (n + 1) is) (drop (n + 1) ss))
   unfolding again
-  again-title h k p q = rw (add-one, drop-cons is n 0, drop-cons ss n 0, lt-leb (s + getD ss n 0) cap, le-leb (getD is n 0) last)
+  again_title h k p q = rw (add-one, drop-cons is n 0, drop-cons ss n 0, lt-leb (s + get_or ss n 0) cap, le-leb (get_or is n 0) last)
 
-  pub again-stops : n < length is → n < length ss → cap < s + getD ss n 0 → last < getD is n 0
+  pub again_stops : n < length is → n < length ss → cap < s + get_or ss n 0 → last < get_or is n 0
       → again cap last s (drop n is) (drop n ss) ≡ 0
   unfolding again
-  again-stops h k p q = rw (drop-cons is n 0, drop-cons ss n 0, lt-leb (s + getD ss n 0) cap, lt-leb (getD is n 0) last)
+  again_stops h k p q = rw (drop-cons is n 0, drop-cons ss n 0, lt-leb (s + get_or ss n 0) cap, lt-leb (get_or is n 0) last)
 
-  pub again-end : length is ≤ n → again cap last s (drop n is) (drop n ss) ≡ 0
+  pub again_end : length is ≤ n → again cap last s (drop n is) (drop n ss) ≡ 0
   unfolding again
-  again-end h = rw (drop-of-length-le is h)
+  again_end h = rw (drop_of_length-le is h)
 
-pub resumed-start : (cap last : ℕ) (is ss : List ℕ) → 0 < length is → 0 < length ss
-    → 1 + again cap last (getD ss 0 0) (drop 1 is) (drop 1 ss) ≡ resumed cap last is ss
+pub resumed_start : (cap last : ℕ) (is ss : List ℕ) → 0 < length is → 0 < length ss
+    → 1 + again cap last (get_or ss 0 0) (drop 1 is) (drop 1 ss) ≡ resumed cap last is ss
 unfolding resumed
-resumed-start cap last [] ss h k = absurd (omega arith)
-resumed-start cap last (i ∷ is) [] h k = absurd (omega arith)
-resumed-start cap last (i ∷ is) (x ∷ xs) h k = omega arith
+resumed_start cap last [] ss h k = absurd (omega arith)
+resumed_start cap last (i ∷ is) [] h k = absurd (omega arith)
+resumed_start cap last (i ∷ is) (x ∷ xs) h k = omega arith
 
 module _ (title : Title) (f l cap n : ℕ) (is ss : List ℕ) (h : title ≡ Pair f l) where
-  pub title-holds : f < getD is n 0 → getD is n 0 ≤ l → n + resumed cap l (part n is) (part n ss) ≡ resumption title cap n is ss
+  pub title_holds : f < get_or is n 0 → get_or is n 0 ≤ l → n + resumed cap l (part n is) (part n ss) ≡ resumption title cap n is ss
   unfolding resumption
-  title-holds p q = rw (h, lt-ltb f (getD is n 0), le-leb (getD is n 0) l, rest n is, rest n ss)
+  title_holds p q = rw (h, lt-ltb f (get_or is n 0), le-leb (get_or is n 0) l, rest n is, rest n ss)
 
-  pub title-before : getD is n 0 ≤ f → n ≡ resumption title cap n is ss
+  pub title_before : get_or is n 0 ≤ f → n ≡ resumption title cap n is ss
   unfolding resumption
-  title-before p = rw (h, le-ltb f (getD is n 0))
+  title_before p = rw (h, le-ltb f (get_or is n 0))
 
-  pub title-after : f < getD is n 0 → l < getD is n 0 → n ≡ resumption title cap n is ss
+  pub title_after : f < get_or is n 0 → l < get_or is n 0 → n ≡ resumption title cap n is ss
   unfolding resumption
-  title-after p q = rw (h, lt-ltb f (getD is n 0), lt-leb (getD is n 0) l)
+  title_after p q = rw (h, lt-ltb f (get_or is n 0), lt-leb (get_or is n 0) l)
 
 -- ---- the whole run
 
 module _ (k : Frame) (is ss : List ℕ) (n : ℕ) (e : n ≡ filled k is ss) where
-  pub taken-all : length is ≤ n → n ≡ taken k is ss
+  pub taken_all : length is ≤ n → n ≡ taken k is ss
   unfolding taken
-  taken-all h = rw (← e, le-ltb n (length is))
+  taken_all h = rw (← e, le-ltb n (length is))
 
-  pub taken-more : n < length is → resumption (k .title) (k .titled) n is ss ≡ taken k is ss
+  pub taken_more : n < length is → resumption k.title k.titled n is ss ≡ taken k is ss
   unfolding taken
-  taken-more h = rw (← e, lt-ltb n (length is))
+  taken_more h = rw (← e, lt-ltb n (length is))
 
 pub below-le : (k : ℕ) (l : List ℕ) → below k l ≤ length l
 unfolding below
@@ -114,40 +114,40 @@ through-le k (i ∷ is) =
 
 -- ---- slots up to the last one at or below a limit, from the end
 
-pub through-none : (k : ℕ) (l : List ℕ) → through k (drop (length l) l) ≡ 0
+pub through_none : (k : ℕ) (l : List ℕ) → through k (drop (length l) l) ≡ 0
 unfolding through
-through-none k l = rw drop-length
+through_none k l = rw drop-length
 
 -- none from i on: the one before decides
-pub through-found : (k i : ℕ) (l : List ℕ) → 0 < i → i ≤ length l → through k (drop i l) ≡ 0 → getD l (i - 1) 0 ≤ k → through k (drop (i - 1) l) ≡ 1
+pub through_found : (k i : ℕ) (l : List ℕ) → 0 < i → i ≤ length l → through k (drop i l) ≡ 0 → get_or l (i - 1) 0 ≤ k → through k (drop (i - 1) l) ≡ 1
 unfolding through
-through-found k i l h q z p = rw (drop-back l i 0, z, le-leb (getD l (i - 1) 0) k)
+through_found k i l h q z p = rw (drop_back l i 0, z, le-leb (get_or l (i - 1) 0) k)
 
-pub through-passed : (k i : ℕ) (l : List ℕ) → 0 < i → i ≤ length l → through k (drop i l) ≡ 0 → k < getD l (i - 1) 0 → through k (drop (i - 1) l) ≡ 0
+pub through_passed : (k i : ℕ) (l : List ℕ) → 0 < i → i ≤ length l → through k (drop i l) ≡ 0 → k < get_or l (i - 1) 0 → through k (drop (i - 1) l) ≡ 0
 unfolding through
-through-passed k i l h q z p = rw (drop-back l i 0, z, lt-leb (getD l (i - 1) 0) k)
+through_passed k i l h q z p = rw (drop_back l i 0, z, lt-leb (get_or l (i - 1) 0) k)
 
 -- what is found from a place on is found from the front
-pub through-front : (k j n : ℕ) (l : List ℕ) → through k (drop j l) ≡ suc n → through k l ≡ j + suc n
+pub through_front : (k j n : ℕ) (l : List ℕ) → through k (drop j l) ≡ suc n → through k l ≡ j + suc n
 unfolding through
-through-front k zero n l e = e ∙ omega arith
-through-front k (suc j) n [] e = absurd (omega arith)
-through-front k (suc j) n (i ∷ is) e =
-    let r : through k is ≡ j + suc n = through-front k j n is e in
+through_front k zero n l e = e ∙ omega arith
+through_front k (suc j) n [] e = absurd (omega arith)
+through_front k (suc j) n (i ∷ is) e =
+    let r : through k is ≡ j + suc n = through_front k j n is e in
     rw (r, lt-ltb 0 (j + suc n) (omega arith)) (omega arith)
 
 -- a run's end is past its first slot and within the slots, and is at most one expansion
 abbrev pub Within : List ℕ → RunEnd → Type 0
-Within is r = (1 ≤ r .slots) × (r .slots ≤ length is) × (r .grown ≤ 1)
+Within is r = (1 ≤ r.slots) × (r.slots ≤ length is) × (r.grown ≤ 1)
 
-mergeStep-within : (held : Held) (n : ℕ) (is : List ℕ) → 1 ≤ n → n ≤ length is → Within is (mergeStep held n is)
-unfolding mergeStep
-mergeStep-within Free n is h k = omega arith
-mergeStep-within (By f l) n is h k =
-    either-lt (Within is) 0 (below f is) (λ p. omega (arith, below-le f is))
-    (λ p. either-lt (Within is) n (through l is) (λ q. omega (arith, through-le l is)) (λ q. omega arith))
+merge_step-within : (held : Held) (n : ℕ) (is : List ℕ) → 1 ≤ n → n ≤ length is → Within is (merge_step held n is)
+unfolding merge_step
+merge_step-within Free n is h k = omega arith
+merge_step-within (By f l) n is h k =
+    either_lt (Within is) 0 (below f is) (λ p. omega (arith, below-le f is))
+    (λ p. either_lt (Within is) n (through l is) (λ q. omega (arith, through-le l is)) (λ q. omega arith))
 
-pub merged-within : (lo hi : ℕ) (fs ls : List ℕ) (n : ℕ) (is : List ℕ) → 1 ≤ n → n ≤ length is → Within is (merged lo hi fs ls n is)
+pub merged_within : (lo hi : ℕ) (fs ls : List ℕ) (n : ℕ) (is : List ℕ) → 1 ≤ n → n ≤ length is → Within is (merged lo hi fs ls n is)
 unfolding merged
-merged-within lo hi fs ls n is h k =
-    either-lt (Within is) n (length is) (λ p. mergeStep-within (holding lo hi (getD is n 0) fs ls) n is h k) (λ p. omega arith)
+merged_within lo hi fs ls n is h k =
+    either_lt (Within is) n (length is) (λ p. merge_step-within (holding lo hi (get_or is n 0) fs ls) n is h k) (λ p. omega arith)

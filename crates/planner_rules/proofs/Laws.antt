@@ -1,19 +1,19 @@
 -- Laws of filling, of lists of runs and of parts of slots (`specs/Slots.antt`, `specs/Runs.antt`), for the loops of `planner`. Assumes nothing.
-use mathlib.Core.Path.{_≡_, refl, sym, ap, _∙_, subst}
-use mathlib.Core.List.{List, [], _∷_, _++_}
-use Prim.Native.Nat.{ℕ, zero, suc, pred, _+_, _-_, _≤_, _<_, _^_, min}
-use native.Mathlib.Nat.{not-suc-le-zero, lt-of-not-le}
-use native.Mathlib.Decide.{decLe}
+use mathlib.Core.Path.{◌≡◌, refl, sym, ap, ◌∙◌, subst}
+use mathlib.Core.List.{List, [], ◌∷◌, ◌++◌}
+use Prim.Native.Nat.{ℕ, zero, suc, pred, ◌+◌, ◌-◌, ◌≤◌, ◌<◌, ◌^◌, min}
+use native.Mathlib.Nat.{not-suc-le-zero, lt_of_not-le}
+use native.Mathlib.Decide.{dec_le}
 use native.Mathlib.Numerals.{add-one}
 use native.Mathlib.Omega.{arith}
-use lib.ListN.{length, getD, take, drop, length-take, length-drop, drop-of-length-le, List·getD-eq-default}
-use lib.Seq.{take-add, drop-cons, drop-drop, drop-length, take-all, getD-drop, getD-take, length-take-le}
+use lib.ListN.{length, get_or, take, drop, length-take, length-drop, drop_of_length-le, get_or-eq_default}
+use lib.Seq.{take-add, drop-cons, drop-drop, drop-length, take_all, get_or-drop, get_or-take, length-take-le}
 use borrow.Author.Tests.{le-leb, lt-leb, lt-ltb, le-ltb}
-use mathlib.Core.Bool.{Bool, true, false, cond, not, _&&_}
+use mathlib.Core.Bool.{Bool, true, false, cond, not, ◌&&◌}
 use lib.Dec.{leb, ltb, lit<}
-use Rattle·planner_rules·specs.specs.Slots.{Small, Rising, Slots, sum, mid}
-use Rattle·planner_rules·specs.specs.Titles.{noMerge}
-use Rattle·planner_rules·specs.specs.Runs.{more, natural, Run, runsBy}
+use Rattle.planner_rules.specs.Slots.{Small, Rising, Slots, sum, mid}
+use Rattle.planner_rules.specs.Titles.{no_merge}
+use Rattle.planner_rules.specs.Runs.{more, natural, Run, runs_by}
 
 -- what holds of both is true of the one picked
 pub either {ℓ} : {X : Type ℓ} (P : X → Type 0) (b : Bool) {x y : X} → P x → P y → P (cond b x y)
@@ -22,52 +22,52 @@ either P false p q = q
 
 -- one number is at most the other, or above it
 pub split {ℓ} : {X : Type ℓ} (a b : ℕ) → (a ≤ b → X) → (b < a → X) → X
-split a b f g = elim (decLe a b) [ yes h ↦ f h | no h ↦ g (lt-of-not-le h) ]
+split a b f g = elim (dec_le a b) [ yes h ↦ f h | no h ↦ g (lt_of_not-le h) ]
 
 -- ---- natural filling
 
 -- the slot at n goes onto the sum
-pub more-yes : (cap s n : ℕ) (l : List ℕ) → n < length l → s + getD l n 0 ≤ cap
-    → more cap s (drop n l) ≡ suc (more cap (s + getD l n 0) (drop (n + 1) l))
+pub more_yes : (cap s n : ℕ) (l : List ℕ) → n < length l → s + get_or l n 0 ≤ cap
+    → more cap s (drop n l) ≡ suc (more cap (s + get_or l n 0) (drop (n + 1) l))
 unfolding more
-more-yes cap s n l h k = rw (add-one, drop-cons l n 0, le-leb (s + getD l n 0) cap)
+more_yes cap s n l h k = rw (add-one, drop-cons l n 0, le-leb (s + get_or l n 0) cap)
 
 -- it does not
-pub more-no : (cap s n : ℕ) (l : List ℕ) → n < length l → cap < s + getD l n 0 → more cap s (drop n l) ≡ 0
+pub more_no : (cap s n : ℕ) (l : List ℕ) → n < length l → cap < s + get_or l n 0 → more cap s (drop n l) ≡ 0
 unfolding more
-more-no cap s n l h k = rw (drop-cons l n 0, lt-leb (s + getD l n 0) cap)
+more_no cap s n l h k = rw (drop-cons l n 0, lt-leb (s + get_or l n 0) cap)
 
 -- none is left
-pub more-end : (cap s n : ℕ) (l : List ℕ) → length l ≤ n → more cap s (drop n l) ≡ 0
+pub more_end : (cap s n : ℕ) (l : List ℕ) → length l ≤ n → more cap s (drop n l) ≡ 0
 unfolding more
-more-end cap s n l h = rw (drop-of-length-le l h)
+more_end cap s n l h = rw (drop_of_length-le l h)
 
 -- as many as stay within the capacity go onto the sum at once
-more-many : (cap s m : ℕ) (l : List ℕ) → m ≤ length l → s + sum (take m l) ≤ cap → more cap s l ≡ m + more cap (s + sum (take m l)) (drop m l)
+more_many : (cap s m : ℕ) (l : List ℕ) → m ≤ length l → s + sum (take m l) ≤ cap → more cap s l ≡ m + more cap (s + sum (take m l)) (drop m l)
 unfolding more sum
-more-many cap s zero l h k = let e : s + 0 ≡ s = omega arith in rw e (omega arith)
-more-many cap s (suc m) [] h k = absurd (omega arith)
-more-many cap s (suc m) (x ∷ xs) h k =
+more_many cap s zero l h k = let e : s + 0 ≡ s = omega arith in rw e (omega arith)
+more_many cap s (suc m) [] h k = absurd (omega arith)
+more_many cap s (suc m) (x ∷ xs) h k =
     let e : s + (x + sum (take m xs)) ≡ s + x + sum (take m xs) = omega arith in
-    rw (le-leb (s + x) cap (omega arith), e) (omega (arith, more-many cap (s + x) m xs (omega arith) (omega arith)))
+    rw (le-leb (s + x) cap (omega arith), e) (omega (arith, more_many cap (s + x) m xs (omega arith) (omega arith)))
 
 -- so the m slots from n on do
-pub more-part : (cap s m n : ℕ) (l : List ℕ) → n + m ≤ length l → s + sum (mid n (n + m) l) ≤ cap
+pub more_part : (cap s m n : ℕ) (l : List ℕ) → n + m ≤ length l → s + sum (mid n (n + m) l) ≤ cap
     → more cap s (drop n l) ≡ m + more cap (s + sum (mid n (n + m) l)) (drop (n + m) l)
-more-part cap s m n l h k =
+more_part cap s m n l h k =
     let e : n + m - n ≡ m = omega arith in
     let q = rw e at k in
-    rw (e, ← drop-drop) (more-many cap s m (drop n l) (simp length-drop (omega arith)) q)
+    rw (e, ← drop-drop) (more_many cap s m (drop n l) (simp length-drop (omega arith)) q)
 
-pub natural-start : (cap : ℕ) (l : List ℕ) → 0 < length l → 1 + more cap (getD l 0 0) (drop 1 l) ≡ natural cap l
+pub natural_start : (cap : ℕ) (l : List ℕ) → 0 < length l → 1 + more cap (get_or l 0 0) (drop 1 l) ≡ natural cap l
 unfolding natural
-natural-start cap [] h = absurd (not-suc-le-zero h)
-natural-start cap (x ∷ xs) h = omega arith
+natural_start cap [] h = absurd (not-suc-le-zero h)
+natural_start cap (x ∷ xs) h = omega arith
 
-pub natural-pos : (cap : ℕ) (l : List ℕ) → 0 < length l → 1 ≤ natural cap l
+pub natural_pos : (cap : ℕ) (l : List ℕ) → 0 < length l → 1 ≤ natural cap l
 unfolding natural
-natural-pos cap [] h = absurd (not-suc-le-zero h)
-natural-pos cap (x ∷ xs) h = omega arith
+natural_pos cap [] h = absurd (not-suc-le-zero h)
+natural_pos cap (x ∷ xs) h = omega arith
 
 more-le : (cap s : ℕ) (l : List ℕ) → more cap s l ≤ length l
 unfolding more
@@ -81,31 +81,31 @@ natural-le cap (x ∷ xs) = omega (arith, more-le cap x xs)
 
 -- ---- the list of runs
 
-pub skip : (at : List ℕ → List ℕ → Run) (k : ℕ) (is ss : List ℕ) → runsBy at k is ss ≡ runsBy at zero (drop k is) (drop k ss)
-unfolding runsBy
+pub skip : (at : List ℕ → List ℕ → Run) (k : ℕ) (is ss : List ℕ) → runs_by at k is ss ≡ runs_by at zero (drop k is) (drop k ss)
+unfolding runs_by
 skip at zero is ss = refl
 skip at (suc k) [] ss = refl
 skip at (suc k) (i ∷ is) [] = none (drop k is)
   where
-    none : (l : List ℕ) → [] ≡ runsBy at zero l []
+    none : (l : List ℕ) → [] ≡ runs_by at zero l []
     none [] = refl
     none (x ∷ l) = refl
 skip at (suc k) (i ∷ is) (s ∷ ss) = skip at k is ss
 
 -- the run at the head, and the runs after it
-pub step : (at : List ℕ → List ℕ → Run) (is ss : List ℕ) → 0 < length is → length is ≡ length ss → 1 ≤ at is ss .slots
-    → runsBy at zero is ss ≡ at is ss ∷ runsBy at zero (drop (at is ss .slots) is) (drop (at is ss .slots) ss)
-unfolding runsBy
+pub step : (at : List ℕ → List ℕ → Run) (is ss : List ℕ) → 0 < length is → length is ≡ length ss → 1 ≤ (at is ss).slots
+    → runs_by at zero is ss ≡ at is ss ∷ runs_by at zero (drop (at is ss).slots is) (drop (at is ss).slots ss)
+unfolding runs_by
 step at [] ss h e p = absurd (not-suc-le-zero h)
 step at (i ∷ is) [] h e p = absurd (omega arith)
 step at (i ∷ is) (s ∷ ss) h e p = go (at (i ∷ is) (s ∷ ss)) p
   where
-    go : (r : Run) → 1 ≤ r .slots → r ∷ runsBy at (pred (r .slots)) is ss ≡ r ∷ runsBy at zero (drop (r .slots) (i ∷ is)) (drop (r .slots) (s ∷ ss))
-    go r h = ap (λ (l : List Run). r ∷ l) (at-slots (r .slots) h)
+    go : (r : Run) → 1 ≤ r.slots → r ∷ runs_by at (pred r.slots) is ss ≡ r ∷ runs_by at zero (drop r.slots (i ∷ is)) (drop r.slots (s ∷ ss))
+    go r h = ap (λ (l : List Run). r ∷ l) (at_slots r.slots h)
       where
-        at-slots : (n : ℕ) → 1 ≤ n → runsBy at (pred n) is ss ≡ runsBy at zero (drop n (i ∷ is)) (drop n (s ∷ ss))
-        at-slots zero h = absurd (not-suc-le-zero h)
-        at-slots (suc n) h = skip at n is ss
+        at_slots : (n : ℕ) → 1 ≤ n → runs_by at (pred n) is ss ≡ runs_by at zero (drop n (i ∷ is)) (drop n (s ∷ ss))
+        at_slots zero h = absurd (not-suc-le-zero h)
+        at_slots (suc n) h = skip at n is ss
 
 -- ---- the part `&l[n..]` of a slice, as the borrow checker gives it
 
@@ -114,72 +114,72 @@ part n l = take (length l - n) (drop n l)
 
 -- it is what is left after n
 pub rest : {A : Type 0} (n : ℕ) (l : List A) → part n l ≡ drop n l
-rest n l = take-all (length l - n) (drop n l) (simp length-drop (omega arith))
+rest n l = take_all (length l - n) (drop n l) (simp length-drop (omega arith))
 
-pub length-part : {A : Type 0} (n : ℕ) (l : List A) → length (part n l) ≡ length l - n
-length-part n l = ap length (rest n l) ∙ length-drop n l
+pub length_part : {A : Type 0} (n : ℕ) (l : List A) → length (part n l) ≡ length l - n
+length_part n l = ap length (rest n l) ∙ length-drop n l
 
 -- indexes still rise in a part
 
 pub rising-drop : (n : ℕ) (xs : List ℕ) → Rising xs → Rising (drop n xs)
-rising-drop n xs r j k h q = rw (getD-drop n xs j 0, getD-drop n xs k 0) (r (n + j) (n + k) (omega arith) (omega (arith, length-drop n xs)))
+rising-drop n xs r j k h q = rw (get_or-drop n xs j 0, get_or-drop n xs k 0) (r (n + j) (n + k) (omega arith) (omega (arith, length-drop n xs)))
 
 pub rising-take : (n : ℕ) (xs : List ℕ) → Rising xs → Rising (take n xs)
 rising-take n xs r j k h q =
-    let l = length-take n xs in rw (getD-take n xs j 0 (omega arith), getD-take n xs k 0 (omega arith)) (r j k h (omega arith))
+    let l = length-take n xs in rw (get_or-take n xs j 0 (omega arith), get_or-take n xs k 0 (omega arith)) (r j k h (omega arith))
 
 small-drop : (n : ℕ) (l : List ℕ) → Small l → Small (drop n l)
-small-drop n l s = record { few = simp length-drop (omega (arith, s .few)); each = λ k. rw getD-drop (s .each (n + k)) }
+small-drop n l s = record { few = simp length-drop (omega (arith, s.few)); each = λ k. rw get_or-drop (s.each (n + k)) }
 
-pub slots-part : (n : ℕ) (is ss : List ℕ) → Slots is ss → Slots (part n is) (part n ss)
-slots-part n is ss h =
-    rw (rest n is, rest n ss) (record { even = simp length-drop (omega arith); small = small-drop n ss (h .small); rising = rising-drop n is (h .rising) })
+pub slots_part : (n : ℕ) (is ss : List ℕ) → Slots is ss → Slots (part n is) (part n ss)
+slots_part n is ss h =
+    rw (rest n is, rest n ss) (record { even = simp length-drop (omega arith); small = small-drop n ss h.small; rising = rising-drop n is h.rising })
 
 -- a turn of a loop that takes run after run: the run at the head, and the runs of the parts after it
-pub turn : (at : List ℕ → List ℕ → Run) (n : ℕ) (is ss : List ℕ) → Slots is ss → 0 < length ss → n ≡ at is ss .slots → 1 ≤ n
-    → runsBy at zero is ss ≡ at is ss ∷ runsBy at zero (part n is) (part n ss)
-turn at n is ss h p e q = rw (rest n is, rest n ss, e) (step at is ss (omega arith) (h .even) (omega arith))
+pub turn : (at : List ℕ → List ℕ → Run) (n : ℕ) (is ss : List ℕ) → Slots is ss → 0 < length ss → n ≡ (at is ss).slots → 1 ≤ n
+    → runs_by at zero is ss ≡ at is ss ∷ runs_by at zero (part n is) (part n ss)
+turn at n is ss h p e q = rw (rest n is, rest n ss, e) (step at is ss (omega arith) h.even (omega arith))
 
 -- no slots, no runs
-pub none : (at : List ℕ → List ℕ → Run) (is ss : List ℕ) → length ss ≤ 0 → runsBy at zero is ss ≡ []
-unfolding runsBy
+pub none : (at : List ℕ → List ℕ → Run) (is ss : List ℕ) → length ss ≤ 0 → runs_by at zero is ss ≡ []
+unfolding runs_by
 none at [] ss h = refl
 none at (i ∷ is) [] h = refl
 none at (i ∷ is) (s ∷ ss) h = absurd (not-suc-le-zero h)
 
 -- ---- a loop that goes down: what stands from i - 1 on
 
-pub drop-back : {A : Type 0} (l : List A) (i : ℕ) (d : A) → 0 < i → i ≤ length l → drop (i - 1) l ≡ getD l (i - 1) d ∷ drop i l
-drop-back l zero d h k = absurd (not-suc-le-zero h)
-drop-back l (suc i) d h k = let e : suc i - 1 ≡ i = omega arith in rw e (drop-cons l i d k)
+pub drop_back : {A : Type 0} (l : List A) (i : ℕ) (d : A) → 0 < i → i ≤ length l → drop (i - 1) l ≡ get_or l (i - 1) d ∷ drop i l
+drop_back l zero d h k = absurd (not-suc-le-zero h)
+drop_back l (suc i) d h k = let e : suc i - 1 ≡ i = omega arith in rw e (drop-cons l i d k)
 
 -- two lists side by side, from where the shorter one ends
-pub run-out : {A B : Type 0} (P : List A → List B → Type 0) (xs : List A) (ys : List B) (i : ℕ) → min (length xs) (length ys) ≤ i
+pub run_out : {A B : Type 0} (P : List A → List B → Type 0) (xs : List A) (ys : List B) (i : ℕ) → min (length xs) (length ys) ≤ i
     → ((r : List B) → P [] r) → ((r : List A) → P r []) → P (drop i xs) (drop i ys)
-run-out P xs ys i h p q =
-    elim (decLe (length xs) i) [
-      | yes k ↦ rw (drop-of-length-le xs k) (p (drop i ys))
-      | no k ↦ let short : length ys ≤ i = omega (arith, lt-of-not-le k) in rw (drop-of-length-le ys short) (q (drop i xs))
+run_out P xs ys i h p q =
+    elim (dec_le (length xs) i) [
+      | yes k ↦ rw (drop_of_length-le xs k) (p (drop i ys))
+      | no k ↦ let short : length ys ≤ i = omega (arith, lt_of_not-le k) in rw (drop_of_length-le ys short) (q (drop i xs))
     ]
 
 module _ (p : ℕ → ℕ → Bool) where
-  none-left : (fs : List ℕ) → noMerge p fs [] ≡ true
-  unfolding noMerge
-  none-left [] = refl
-  none-left (f ∷ fs) = refl
+  none_left : (fs : List ℕ) → no_merge p fs [] ≡ true
+  unfolding no_merge
+  none_left [] = refl
+  none_left (f ∷ fs) = refl
 
-  pub no-merge-end : (i : ℕ) (fs ls : List ℕ) → min (length fs) (length ls) ≤ i → noMerge p (drop i fs) (drop i ls) ≡ true
-  unfolding noMerge
-  no-merge-end i fs ls h = run-out (λ (xs ys : List ℕ). noMerge p xs ys ≡ true) fs ls i h (λ ys. refl) none-left
+  pub no_merge_end : (i : ℕ) (fs ls : List ℕ) → min (length fs) (length ls) ≤ i → no_merge p (drop i fs) (drop i ls) ≡ true
+  unfolding no_merge
+  no_merge_end i fs ls h = run_out (λ (xs ys : List ℕ). no_merge p xs ys ≡ true) fs ls i h (λ ys. refl) none_left
 
-  pub no-merge-back : (i : ℕ) (fs ls : List ℕ) → 0 < i → i ≤ length fs → i ≤ length ls
-      → noMerge p (drop (i - 1) fs) (drop (i - 1) ls) ≡ (not (p (getD fs (i - 1) 0) (getD ls (i - 1) 0)) && noMerge p (drop i fs) (drop i ls))
-  unfolding noMerge
-  no-merge-back i fs ls h k m = rw (drop-back fs i 0, drop-back ls i 0)
+  pub no_merge_back : (i : ℕ) (fs ls : List ℕ) → 0 < i → i ≤ length fs → i ≤ length ls
+      → no_merge p (drop (i - 1) fs) (drop (i - 1) ls) ≡ (not (p (get_or fs (i - 1) 0) (get_or ls (i - 1) 0)) && no_merge p (drop i fs) (drop i ls))
+  unfolding no_merge
+  no_merge_back i fs ls h k m = rw (drop_back fs i 0, drop_back ls i 0)
 
-pub sum-back : (l : List ℕ) (i : ℕ) → 0 < i → i ≤ length l → sum (drop (i - 1) l) ≡ getD l (i - 1) 0 + sum (drop i l)
+pub sum_back : (l : List ℕ) (i : ℕ) → 0 < i → i ≤ length l → sum (drop (i - 1) l) ≡ get_or l (i - 1) 0 + sum (drop i l)
 unfolding sum
-sum-back l i h k = rw (drop-back l i 0)
+sum_back l i h k = rw (drop_back l i 0)
 
 pub sum-none : (l : List ℕ) → 0 ≡ sum (drop (length l) l)
 unfolding sum
@@ -191,18 +191,18 @@ sum-append [] ys = omega arith
 sum-append (x ∷ xs) ys = omega (arith, sum-append xs ys)
 
 -- the sum of the slots up to n, with the m after them, or with one
-pub sum-many : (n m : ℕ) (l : List ℕ) → sum (take (n + m) l) ≡ sum (take n l) + sum (mid n (n + m) l)
-sum-many n m l = let e : n + m - n ≡ m = omega arith in rw (e, take-add) (sum-append (take n l) (take m (drop n l)))
+pub sum_many : (n m : ℕ) (l : List ℕ) → sum (take (n + m) l) ≡ sum (take n l) + sum (mid n (n + m) l)
+sum_many n m l = let e : n + m - n ≡ m = omega arith in rw (e, take-add) (sum-append (take n l) (take m (drop n l)))
 
-pub sum-one : (n : ℕ) (l : List ℕ) → n < length l → sum (take (n + 1) l) ≡ sum (take n l) + getD l n 0
+pub sum_one : (n : ℕ) (l : List ℕ) → n < length l → sum (take (n + 1) l) ≡ sum (take n l) + get_or l n 0
 unfolding sum
-sum-one n l h = rw (take-add, drop-cons l n 0) (sum-append (take n l) (getD l n 0 ∷ []) ∙ omega arith)
+sum_one n l h = rw (take-add, drop-cons l n 0) (sum-append (take n l) (get_or l n 0 ∷ []) ∙ omega arith)
 
 -- eight in two halves, each of two pairs
-pub sum-eight : (l : List ℕ) → length l ≡ 8
-    → getD l 0 0 + getD l 1 0 + (getD l 2 0 + getD l 3 0) + (getD l 4 0 + getD l 5 0 + (getD l 6 0 + getD l 7 0)) ≡ sum l
-sum-eight l e =
-    let at : (i : ℕ) → 0 < i → i ≤ 8 → sum (drop (i - 1) l) ≡ getD l (i - 1) 0 + sum (drop i l) = λ i h k. sum-back l i h (omega (arith, e)) in
+pub sum_eight : (l : List ℕ) → length l ≡ 8
+    → get_or l 0 0 + get_or l 1 0 + (get_or l 2 0 + get_or l 3 0) + (get_or l 4 0 + get_or l 5 0 + (get_or l 6 0 + get_or l 7 0)) ≡ sum l
+sum_eight l e =
+    let at : (i : ℕ) → 0 < i → i ≤ 8 → sum (drop (i - 1) l) ≡ get_or l (i - 1) 0 + sum (drop i l) = λ i h k. sum_back l i h (omega (arith, e)) in
     let none : 0 ≡ sum (drop 8 l) = rw e at (sum-none l) in
     omega (
       arith,
@@ -217,28 +217,28 @@ sum-eight l e =
       at 8 (omega arith) (omega arith),
     )
 
-pub some : (at : List ℕ → List ℕ → Run) (is ss : List ℕ) → 0 < length ss → length is ≡ length ss → 1 ≤ length (runsBy at zero is ss)
-unfolding runsBy
+pub some : (at : List ℕ → List ℕ → Run) (is ss : List ℕ) → 0 < length ss → length is ≡ length ss → 1 ≤ length (runs_by at zero is ss)
+unfolding runs_by
 some at [] ss h e = absurd (omega arith)
 some at (i ∷ is) [] h e = absurd (not-suc-le-zero h)
 some at (i ∷ is) (s ∷ ss) h e = omega arith
 
 pub small-take : (n : ℕ) (l : List ℕ) → n ≤ length l → Small l → Small (take n l)
-small-take n l h s = record { few = simp length-take-le (omega (arith, s .few)); each = each }
+small-take n l h s = record { few = simp length-take-le (omega (arith, s.few)); each = each }
   where
-    each : (k : ℕ) → getD (take n l) k 0 < 2 ^ 30
+    each : (k : ℕ) → get_or (take n l) k 0 < 2 ^ 30
     each k =
-        elim (decLe (suc k) n) [
-          | yes p ↦ rw getD-take (s .each k)
-          | no p ↦ rw (List·getD-eq-default (take n l) 0 {n = k} (simp length-take-le (omega (arith, lt-of-not-le p)))) (lit< tt)
+        elim (dec_le (suc k) n) [
+          | yes p ↦ rw get_or-take (s.each k)
+          | no p ↦ rw (get_or-eq_default (take n l) 0 {n = k} (simp length-take-le (omega (arith, lt_of_not-le p)))) (lit< tt)
         ]
 
 -- the same with what the test says
-pub either-lt {ℓ} : {X : Type ℓ} (P : X → Type 0) (a b : ℕ) {x y : X} → (a < b → P x) → (b ≤ a → P y) → P (cond (ltb a b) x y)
-either-lt P a b {x} {y} f g =
-    elim (decLe (suc a) b) [
+pub either_lt {ℓ} : {X : Type ℓ} (P : X → Type 0) (a b : ℕ) {x y : X} → (a < b → P x) → (b ≤ a → P y) → P (cond (ltb a b) x y)
+either_lt P a b {x} {y} f g =
+    elim (dec_le (suc a) b) [
       | yes h ↦ subst (λ (t : Bool). P (cond t x y)) (sym (lt-ltb a b h)) (f h)
-      | no h ↦ subst (λ (t : Bool). P (cond t x y)) (sym (le-ltb a b (omega (arith, lt-of-not-le h)))) (g (omega (arith, lt-of-not-le h)))
+      | no h ↦ subst (λ (t : Bool). P (cond t x y)) (sym (le-ltb a b (omega (arith, lt_of_not-le h)))) (g (omega (arith, lt_of_not-le h)))
     ]
 
 -- ---- the part `&l[a..e]`
@@ -249,9 +249,9 @@ length-mid a e l h = length-take-le (e - a) (drop a l) (simp length-drop (omega 
 pub small-mid : (a e : ℕ) (l : List ℕ) → e ≤ length l → Small l → Small (mid a e l)
 small-mid a e l h s = small-take (e - a) (drop a l) (simp length-drop (omega arith)) (small-drop a l s)
 
-pub slots-mid : (a e : ℕ) (is ss : List ℕ) → e ≤ length ss → Slots is ss → Slots (mid a e is) (mid a e ss)
-slots-mid a e is ss h s = record {
-  even = length-mid a e is (omega (arith, s .even)) ∙ sym (length-mid a e ss h);
-  small = small-mid a e ss h (s .small);
-  rising = rising-take (e - a) (drop a is) (rising-drop a is (s .rising));
+pub slots_mid : (a e : ℕ) (is ss : List ℕ) → e ≤ length ss → Slots is ss → Slots (mid a e is) (mid a e ss)
+slots_mid a e is ss h s = record {
+  even = length-mid a e is (omega (arith, s.even)) ∙ sym (length-mid a e ss h);
+  small = small-mid a e ss h s.small;
+  rising = rising-take (e - a) (drop a is) (rising-drop a is s.rising);
 }

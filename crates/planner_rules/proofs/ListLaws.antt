@@ -1,182 +1,182 @@
 -- Laws of the whole list of pages: how many there are, what stands in the lent list, and that the list and the page by number agree. Assumes nothing.
-use mathlib.Core.Path.{_≡_, refl, sym, ap, _∙_}
+use mathlib.Core.Path.{◌≡◌, refl, sym, ap, ◌∙◌}
 use mathlib.Core.Bool.{Bool, true, false}
-use mathlib.Core.WellFounded.{Acc, Acc·intro, WellFounded}
-use mathlib.Core.List.{List, [], _∷_, _++_}
-use Prim.Native.Nat.{ℕ, zero, suc, _+_, _-_, _*_, _≤_, _<_, _^_, min, zero-le}
-use native.Mathlib.Nat.{le-refl}
+use mathlib.Core.WellFounded.{Acc, WellFounded}
+use mathlib.Core.List.{List, [], ◌∷◌, ◌++◌}
+use Prim.Native.Nat.{ℕ, zero, suc, ◌+◌, ◌-◌, ◌*◌, ◌≤◌, ◌<◌, ◌^◌, min, zero-le}
+use native.Mathlib.Nat.{le_refl}
 use native.Mathlib.Numerals.{add-one}
 use native.Mathlib.Omega.{arith}
 use lib.Dec.{leb}
 use lib.ListN.{length, take, drop, set, length-take}
-use lib.Seq.{length-take-le, length-front, take-length}
+use lib.Seq.{length-take-le, length_front, take-length}
 use borrow.Author.Tests.{le-leb, lt-leb, leb-true}
-use Rattle·units.specs.Outcome.{Outcome, given, refused}
-use Rattle·planner_rules·specs.specs.declared.pages.AreaPlan.{AreaPlan}
-use Rattle·planner_rules·specs.specs.declared.pages.Page.{Page}
-use Rattle·planner_rules·specs.specs.declared.pages.Plan.{Plan}
-use Rattle·planner_rules·specs.specs.declared.pages.Spot.{Spot}
-use Rattle·planner_rules·specs.specs.Questions.{ask}
-use Rattle·planner_rules·specs.specs.Areas.{plansIn, overAreas}
-use Rattle·planner_rules·specs.specs.Lent.{roomIn}
-use Rattle·planner_rules·specs.specs.Pages.{pagesIn, areasPages, pagesOf, rowRuns, columnRuns, holdsRuns, numbered, pageNumbered, listPages, pagesLent}
-use Rattle·planner_rules·specs.specs.Pages.{countIn, pageCount, walkFrom, pageAfter}
-use Rattle·planner_rules·proofs.proofs.PageLaws.{tag, valueOr, numbered-first, numbered-take}
-use Rattle·planner_rules·proofs.proofs.AreaPages.{areas-length, walk-all, walk-in, walk-more, walk-page}
-use Rattle·planner_rules·proofs.proofs.PagesCode.{rooms-of}
+use Rattle.units.specs.Outcome.{Outcome, given, refused}
+use Rattle.planner_rules.specs.declared.pages.AreaPlan.{AreaPlan}
+use Rattle.planner_rules.specs.declared.pages.Page.{Page}
+use Rattle.planner_rules.specs.declared.pages.Plan.{Plan}
+use Rattle.planner_rules.specs.declared.pages.Spot.{Spot}
+use Rattle.planner_rules.specs.Questions.{ask}
+use Rattle.planner_rules.specs.Areas.{plans_in, over_areas}
+use Rattle.planner_rules.specs.Lent.{room_in}
+use Rattle.planner_rules.specs.Pages.{pages_in, areas_pages, pages_of, row_runs, column_runs, holds_runs, numbered, page_numbered, list_pages, pages_lent}
+use Rattle.planner_rules.specs.Pages.{count_in, page_count, walk_from, page_after}
+use Rattle.planner_rules.proofs.PageLaws.{tag, value_or, numbered_first, numbered_take}
+use Rattle.planner_rules.proofs.AreaPages.{areas_length, walk_all, walk_in, walk_more, walk_page}
+use Rattle.planner_rules.proofs.PagesCode.{rooms_of}
 
 -- ---- how many pages a plan has
 
 module _ (p : Plan) where
   abbrev areas : List AreaPlan
-  areas = plansIn (p .areas)
+  areas = plans_in p.areas
 
   -- where the walk ends that takes off as many pages as the plan says
   abbrev end : Spot
-  end = walkFrom 0 (p .pages) areas
+  end = walk_from 0 p.pages areas
 
-  pub count-within : end .area < length areas → p .pages ≡ pageCount p
-  count-within h = omega (arith, walk-more (p .pages) areas h)
+  pub count_within : end.area < length areas → p.pages ≡ page_count p
+  count_within h = omega (arith, walk_more p.pages areas h)
 
-  pub count-left : length areas ≤ end .area → (end .before ≤ p .pages) × (p .pages - end .before ≡ pageCount p)
-  count-left h = let all = walk-all (p .pages) areas h in (omega (arith, all), omega (arith, all))
+  pub count_left : length areas ≤ end.area → (end.before ≤ p.pages) × (p.pages - end.before ≡ page_count p)
+  count_left h = let all = walk_all p.pages areas h in (omega (arith, all), omega (arith, all))
 
-  pub list-length : (rows columns : List ℕ) → length (pagesOf p rows columns) ≡ pageCount p
-  unfolding pagesOf
-  list-length rows columns =
-      length-take (p .pages) (areasPages (p .order) areas rows columns) ∙ ap (min (p .pages)) (areas-length (p .order) areas rows columns)
+  pub list_length : (rows columns : List ℕ) → length (pages_of p rows columns) ≡ page_count p
+  unfolding pages_of
+  list_length rows columns =
+      length-take p.pages (areas_pages p.order areas rows columns) ∙ ap (min p.pages) (areas_length p.order areas rows columns)
 
 -- ---- what is answered
 
 module _ (p : Plan) (room : ℕ) (rows columns : List ℕ) where
   abbrev all : List Page
-  all = pagesOf p rows columns
+  all = pages_of p rows columns
 
-  pub list-refused : holdsRuns p rows columns ≡ false → refused 11 ≡ listPages p rows columns room
-  unfolding listPages
-  list-refused h = rw h
+  pub list_refused : holds_runs p rows columns ≡ false → refused 11 ≡ list_pages p rows columns room
+  unfolding list_pages
+  list_refused h = rw h
 
-  module _ (h : holdsRuns p rows columns ≡ true) (n : ℕ) (counted : n ≡ pageCount p) where
-    so-many : n ≡ length all
-    so-many = counted ∙ sym (list-length p rows columns)
+  module _ (h : holds_runs p rows columns ≡ true) (n : ℕ) (counted : n ≡ page_count p) where
+    so_many : n ≡ length all
+    so_many = counted ∙ sym (list_length p rows columns)
 
-    pub list-long : room < n → refused 13 ≡ listPages p rows columns room
-    unfolding listPages
-    list-long l = let m : room < length all = omega (arith, so-many) in rw (h, lt-leb (length all) room m)
+    pub list_long : room < n → refused 13 ≡ list_pages p rows columns room
+    unfolding list_pages
+    list_long l = let m : room < length all = omega (arith, so_many) in rw (h, lt-leb (length all) room m)
 
-    pub list-fits : n ≤ room → given n ≡ listPages p rows columns room
-    unfolding listPages
-    list-fits l = let m : length all ≤ room = omega (arith, so-many) in ap given so-many ∙ rw (h, le-leb (length all) room m)
+    pub list_fits : n ≤ room → given n ≡ list_pages p rows columns room
+    unfolding list_pages
+    list_fits l = let m : length all ≤ room = omega (arith, so_many) in ap given so_many ∙ rw (h, le-leb (length all) room m)
 
 -- ---- a lent list, written from the front
 
 module _ {A : Type 0} where
-  pub filled-length : (i : ℕ) (xs ys : List A) → i ≤ length xs → i ≤ length ys → length (take i xs ++ drop i ys) ≡ length ys
-  filled-length i xs ys h g = length-front ys (take i xs) i (length-take-le i xs h ∙ sym (length-take-le i ys g))
+  pub filled_length : (i : ℕ) (xs ys : List A) → i ≤ length xs → i ≤ length ys → length (take i xs ++ drop i ys) ≡ length ys
+  filled_length i xs ys h g = length_front ys (take i xs) i (length-take-le i xs h ∙ sym (length-take-le i ys g))
 
-  filled-suc : (i : ℕ) (xs ys : List A) (x : A) → numbered xs (suc i) ≡ given x → i < length ys → set (take i xs ++ drop i ys) i x ≡ take (suc i) xs ++ drop
+  filled_suc : (i : ℕ) (xs ys : List A) (x : A) → numbered xs (suc i) ≡ given x → i < length ys → set (take i xs ++ drop i ys) i x ≡ take (suc i) xs ++ drop
       (suc i) ys
   unfolding numbered
-  filled-suc i [] ys x e h = let z : _≡_ {A = ℕ} 0 1 = ap tag e in absurd (omega arith)
-  filled-suc i (z ∷ xs) [] x e h = absurd (omega arith)
-  filled-suc zero (z ∷ xs) (y ∷ ys) x e h = ap (λ (w : A). w ∷ ys) (sym (ap (valueOr x) e))
-  filled-suc (suc i) (z ∷ xs) (y ∷ ys) x e h = ap (λ (l : List A). z ∷ l) (filled-suc i xs ys x e (omega arith))
+  filled_suc i [] ys x e h = let z : ◌≡◌ {A = ℕ} 0 1 = ap tag e in absurd (omega arith)
+  filled_suc i (z ∷ xs) [] x e h = absurd (omega arith)
+  filled_suc zero (z ∷ xs) (y ∷ ys) x e h = ap (λ (w : A). w ∷ ys) (sym (ap (value_or x) e))
+  filled_suc (suc i) (z ∷ xs) (y ∷ ys) x e h = ap (λ (l : List A). z ∷ l) (filled_suc i xs ys x e (omega arith))
 
   -- one more
-  pub filled-more : (i : ℕ) (xs ys : List A) (x : A) → numbered xs (suc i) ≡ given x → i < length ys → set (take i xs ++ drop i ys) i x ≡ take
+  pub filled_more : (i : ℕ) (xs ys : List A) (x : A) → numbered xs (suc i) ≡ given x → i < length ys → set (take i xs ++ drop i ys) i x ≡ take
       (i + 1) xs ++ drop (i + 1) ys
-  filled-more i xs ys x e h = rw add-one (filled-suc i xs ys x e h)
+  filled_more i xs ys x e h = rw add-one (filled_suc i xs ys x e h)
 
 -- the offset of an element of 64 bytes fits
-pub offset-fits : (n m : ℕ) → n < m → m * 64 < 2 ^ 63 → n * 64 < 2 ^ 64
-offset-fits n m h k = omega (arith, h, k)
+pub offset_fits : (n m : ℕ) → n < m → m * 64 < 2 ^ 63 → n * 64 < 2 ^ 64
+offset_fits n m h k = omega (arith, h, k)
 
 -- an order by a measure ends
-acc-of : {X : Type 0} (μ : X → ℕ) (k : ℕ) (x : X) → μ x < k → Acc (λ a b. μ a < μ b) x
-acc-of μ zero x h = absurd (omega arith)
-acc-of μ (suc k) x h = Acc·intro x (λ y hy. acc-of μ k y (omega arith))
+acc_of : {X : Type 0} (μ : X → ℕ) (k : ℕ) (x : X) → μ x < k → Acc (λ a b. μ a < μ b) x
+acc_of μ zero x h = absurd (omega arith)
+acc_of μ (suc k) x h = Acc.intro x (λ y hy. acc_of μ k y (omega arith))
 
 pub measured : {X : Type 0} (μ : X → ℕ) → WellFounded {α = X} (λ a b. μ a < μ b)
-measured μ = record { apply = λ x. acc-of μ (suc (μ x)) x (omega arith) }
+measured μ = record { apply = λ x. acc_of μ (suc (μ x)) x (omega arith) }
 
 -- ---- what the questions say of the count
 
 abbrev two : Bool → Bool → ℕ → Outcome ℕ
 two b d n = ask 11 b (ask 13 d (given n))
 
-all-yes : (b d : Bool) (n i : ℕ) → i < countIn (two b d n) → (b ≡ true) × (d ≡ true) × (i < n)
-all-yes false d n i h = absurd (omega arith)
-all-yes true false n i h = absurd (omega arith)
-all-yes true true n i h = (refl, refl, h)
+all_yes : (b d : Bool) (n i : ℕ) → i < count_in (two b d n) → (b ≡ true) × (d ≡ true) × (i < n)
+all_yes false d n i h = absurd (omega arith)
+all_yes true false n i h = absurd (omega arith)
+all_yes true true n i h = (refl, refl, h)
 
-at-most : (b d : Bool) (n m : ℕ) → (d ≡ true → n ≤ m) → countIn (two b d n) ≤ m
-at-most false d n m f = zero-le
-at-most true false n m f = zero-le
-at-most true true n m f = f refl
+at_most : (b d : Bool) (n m : ℕ) → (d ≡ true → n ≤ m) → count_in (two b d n) ≤ m
+at_most false d n m f = zero-le
+at_most true false n m f = zero-le
+at_most true true n m f = f refl
 
-all-lent : (b d : Bool) (xs ys : List Page)
-    → take (countIn (two b d (length xs))) xs ++ drop (countIn (two b d (length xs))) ys ≡ pagesLent (two b d (length xs)) xs ys
-all-lent false d xs ys = refl
-all-lent true false xs ys = refl
-all-lent true true xs ys = ap (λ (l : List Page). l ++ drop (length xs) ys) (take-length xs)
+all_lent : (b d : Bool) (xs ys : List Page)
+    → take (count_in (two b d (length xs))) xs ++ drop (count_in (two b d (length xs))) ys ≡ pages_lent (two b d (length xs)) xs ys
+all_lent false d xs ys = refl
+all_lent true false xs ys = refl
+all_lent true true xs ys = ap (λ (l : List Page). l ++ drop (length xs) ys) (take-length xs)
 
 module _ (p : Plan) (rows columns : List ℕ) (room : ℕ) where
   abbrev pages : List Page
-  pages = pagesOf p rows columns
+  pages = pages_of p rows columns
 
   abbrev fit : Bool
   fit = leb (length pages) room
 
   abbrev count : ℕ
-  count = countIn (listPages p rows columns room)
+  count = count_in (list_pages p rows columns room)
 
-  pub count-room : count ≤ room
-  unfolding listPages
-  count-room = at-most (holdsRuns p rows columns) fit (length pages) room (leb-true (length pages) room)
+  pub count_room : count ≤ room
+  unfolding list_pages
+  count_room = at_most (holds_runs p rows columns) fit (length pages) room (leb-true (length pages) room)
 
-  pub count-pages-of : count ≤ length pages
-  unfolding listPages
-  count-pages-of = at-most (holdsRuns p rows columns) fit (length pages) (length pages) (λ _. le-refl (length pages))
+  pub count_pages_of : count ≤ length pages
+  unfolding list_pages
+  count_pages_of = at_most (holds_runs p rows columns) fit (length pages) (length pages) (λ _. le_refl (length pages))
 
   -- what `page_after` relies on for the page that has i pages before it
-  pub page-asked : (i : ℕ) → i < count
-      → (rowRuns (plansIn (p .areas)) ≤ roomIn rows) × ((columnRuns (plansIn (p .areas)) ≤ roomIn columns) × (i < overAreas pagesIn (plansIn (p .areas))))
-  unfolding listPages
-  page-asked i h =
-      let y = all-yes (holdsRuns p rows columns) fit (length pages) i h in
-      let rooms = rooms-of p rows columns (y .0) in
-      let low = y .2 in
-      (rooms .0, (rooms .1, omega (arith, low, list-length p rows columns)))
+  pub page_asked : (i : ℕ) → i < count
+      → (row_runs (plans_in p.areas) ≤ room_in rows) × ((column_runs (plans_in p.areas) ≤ room_in columns) × (i < over_areas pages_in (plans_in p.areas)))
+  unfolding list_pages
+  page_asked i h =
+      let y = all_yes (holds_runs p rows columns) fit (length pages) i h in
+      let rooms = rooms_of p rows columns y.0 in
+      let low = y.2 in
+      (rooms.0, (rooms.1, omega (arith, low, list_length p rows columns)))
 
   -- that page is the next of the list
-  pub page-next : (i : ℕ) → i < count → numbered pages (suc i) ≡ given (pageAfter p rows columns i)
-  unfolding pagesOf pageAfter
-  page-next i h =
-      let areas = plansIn (p .areas) in
-      let within : suc i ≤ p .pages = omega (arith, count-pages-of, list-length p rows columns) in
-      numbered-take (p .pages) (areasPages (p .order) areas rows columns) (suc i) within
-      ∙ walk-page (p .order) areas rows columns i (walk-in i areas (page-asked i h .1 .1))
+  pub page_next : (i : ℕ) → i < count → numbered pages (suc i) ≡ given (page_after p rows columns i)
+  unfolding pages_of page_after
+  page_next i h =
+      let areas = plans_in p.areas in
+      let within : suc i ≤ p.pages = omega (arith, count_pages_of, list_length p rows columns) in
+      numbered_take p.pages (areas_pages p.order areas rows columns) (suc i) within
+      ∙ walk_page p.order areas rows columns i (walk_in i areas (page_asked i h).1.1)
 
 -- when all are written
-pub pages-lent : (p : Plan) (rows columns : List ℕ) (ys : List Page)
-    → let outcome = listPages p rows columns (length ys) in
-    take (countIn outcome) (pagesOf p rows columns) ++ drop (countIn outcome) ys ≡ pagesLent outcome (pagesOf p rows columns) ys
-unfolding listPages
-pages-lent p rows columns ys = all-lent (holdsRuns p rows columns) (leb (length (pagesOf p rows columns)) (length ys)) (pagesOf p rows columns) ys
+pub pages_lent_lem : (p : Plan) (rows columns : List ℕ) (ys : List Page)
+    → let outcome = list_pages p rows columns (length ys) in
+    take (count_in outcome) (pages_of p rows columns) ++ drop (count_in outcome) ys ≡ pages_lent outcome (pages_of p rows columns) ys
+unfolding list_pages
+pages_lent_lem p rows columns ys = all_lent (holds_runs p rows columns) (leb (length (pages_of p rows columns)) (length ys)) (pages_of p rows columns) ys
 
 -- ---- the list and the page by number
 
 -- where every question up to 13 is answered yes, a page by number is one of the list
-by-number : (b d : Bool) (xs ys : List Page) (n k : ℕ) → two b d (length xs) ≡ given n → k ≤ n
-    → numbered (pagesLent (two b d (length xs)) xs ys) k ≡ ask 11 b (numbered xs k)
-by-number false d xs ys n k e h = let z : _≡_ {A = ℕ} 0 1 = ap tag e in absurd (omega arith)
-by-number true false xs ys n k e h = let z : _≡_ {A = ℕ} 0 1 = ap tag e in absurd (omega arith)
-by-number true true xs ys n k e h = let z : length xs ≡ n = ap countIn e in numbered-first xs (drop (length xs) ys) k (omega arith)
+by_number : (b d : Bool) (xs ys : List Page) (n k : ℕ) → two b d (length xs) ≡ given n → k ≤ n
+    → numbered (pages_lent (two b d (length xs)) xs ys) k ≡ ask 11 b (numbered xs k)
+by_number false d xs ys n k e h = let z : ◌≡◌ {A = ℕ} 0 1 = ap tag e in absurd (omega arith)
+by_number true false xs ys n k e h = let z : ◌≡◌ {A = ℕ} 0 1 = ap tag e in absurd (omega arith)
+by_number true true xs ys n k e h = let z : length xs ≡ n = ap count_in e in numbered_first xs (drop (length xs) ys) k (omega arith)
 
 -- "For a plan left as it was answered, both give the same pages, numbers 1 to its count.": of any plan whose list was written, the k-th of
 -- the lent list is what the page by its number k is, up to as many as were written
-pub list-agrees : (p : Plan) (rows columns : List ℕ) (old : List Page) (n k : ℕ) → listPages p rows columns (length old) ≡ given n → k ≤ n
-    → numbered (pagesLent (listPages p rows columns (length old)) (pagesOf p rows columns) old) k ≡ pageNumbered p rows columns k
-unfolding listPages pageNumbered
-list-agrees p rows columns old n k e h =
-    by-number (holdsRuns p rows columns) (leb (length (pagesOf p rows columns)) (length old)) (pagesOf p rows columns) old n k e h
+pub list_agrees : (p : Plan) (rows columns : List ℕ) (old : List Page) (n k : ℕ) → list_pages p rows columns (length old) ≡ given n → k ≤ n
+    → numbered (pages_lent (list_pages p rows columns (length old)) (pages_of p rows columns) old) k ≡ page_numbered p rows columns k
+unfolding list_pages page_numbered
+list_agrees p rows columns old n k e h =
+    by_number (holds_runs p rows columns) (leb (length (pages_of p rows columns)) (length old)) (pages_of p rows columns) old n k e h

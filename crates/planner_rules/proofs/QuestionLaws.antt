@@ -1,124 +1,124 @@
 -- Laws of `specs/Questions.antt`'s definitions: for the loops of crate `planner_questions`, and what a "yes" says of every item. Assumes nothing.
-use mathlib.Core.Path.{_≡_, refl, sym, ap, _∙_}
-use mathlib.Core.Bool.{Bool, true, false, _&&_, and-true, and-false}
-use mathlib.Core.List.{List, [], _∷_}
-use Prim.Native.Nat.{ℕ, zero, suc, _+_, _-_, _≤_, _<_, _^_, min}
-use native.Mathlib.Nat.{lt-of-not-le}
-use native.Mathlib.Decide.{decLe}
+use mathlib.Core.Path.{◌≡◌, refl, sym, ap, ◌∙◌}
+use mathlib.Core.Bool.{Bool, true, false, ◌&&◌, and-true, and-false}
+use mathlib.Core.List.{List, [], ◌∷◌}
+use Prim.Native.Nat.{ℕ, zero, suc, ◌+◌, ◌-◌, ◌≤◌, ◌<◌, ◌^◌, min}
+use native.Mathlib.Nat.{lt_of_not-le}
+use native.Mathlib.Decide.{dec_le}
 use native.Mathlib.Numerals.{add-one}
 use native.Mathlib.Omega.{arith}
-use lib.Bits.{bitOr, or-lt, or-add-and, and-le-l, and-le-r}
+use lib.Bits.{bit_or, or_lt, or_add_and, and_le_l, and_le_r}
 use lib.Dec.{leb, ltb}
-use lib.ListN.{length, getD, drop, drop-of-length-le}
+use lib.ListN.{length, get_or, drop, drop_of_length-le}
 use lib.Seq.{drop-cons}
 use borrow.Author.Tests.{le-leb, lt-leb, leb-true, ltb-true}
-use Rattle·planner_rules·specs.specs.Slots.{Slots}
-use Rattle·units.specs.Outcome.{Outcome, refused}
-use Rattle·planner_rules·specs.specs.Questions.{ask, noOr, allOrdered, allWithin, rising, risingWithin, allSmall}
-use Rattle·planner_rules·proofs.proofs.Laws.{drop-back, run-out}
+use Rattle.planner_rules.specs.Slots.{Slots}
+use Rattle.units.specs.Outcome.{Outcome, refused}
+use Rattle.planner_rules.specs.Questions.{ask, no_or, all_ordered, all_within, rising, rising_within, all_small}
+use Rattle.planner_rules.proofs.Laws.{drop_back, run_out}
 
 -- ---- questions one after another, and the number of the first no
 
 -- a no refuses with its number, if what comes after it does so with the number that comes after
-pub asked-no : {A : Type 0} (n : ℕ) (b : Bool) (k : ℕ) (o : Outcome A) → (0 < k → o ≡ refused k) → 0 < noOr n b k → ask n b o ≡ refused (noOr n b k)
-asked-no n true k o f h = f h
-asked-no n false k o f h = refl
+pub asked_no : {A : Type 0} (n : ℕ) (b : Bool) (k : ℕ) (o : Outcome A) → (0 < k → o ≡ refused k) → 0 < no_or n b k → ask n b o ≡ refused (no_or n b k)
+asked_no n true k o f h = f h
+asked_no n false k o f h = refl
 
 -- none: the answer is yes, and there is none after it
-pub asked-yes : (n : ℕ) (b : Bool) (k : ℕ) → 0 < n → 0 ≡ noOr n b k → (b ≡ true) × (0 ≡ k)
-asked-yes n true k p e = (refl, e)
-asked-yes n false k p e = absurd (omega arith)
+pub asked_yes : (n : ℕ) (b : Bool) (k : ℕ) → 0 < n → 0 ≡ no_or n b k → (b ≡ true) × (0 ≡ k)
+asked_yes n true k p e = (refl, e)
+asked_yes n false k p e = absurd (omega arith)
 
 -- a first no stays the first, whatever is asked after the questions that were asked
-pub no-stays : (n : ℕ) (b : Bool) (k more : ℕ) → (0 < k → k ≡ more) → 0 < noOr n b k → noOr n b k ≡ noOr n b more
-no-stays n true k more f h = f h
-no-stays n false k more f h = refl
+pub no_stays : (n : ℕ) (b : Bool) (k more : ℕ) → (0 < k → k ≡ more) → 0 < no_or n b k → no_or n b k ≡ no_or n b more
+no_stays n true k more f h = f h
+no_stays n false k more f h = refl
 
 -- and where there was none, what is asked after them decides
-pub yes-then : (n : ℕ) (b : Bool) (k more rest : ℕ) → 0 < n → (k ≡ 0 → rest ≡ more) → noOr n b k ≡ 0 → rest ≡ noOr n b more
-yes-then n true k more rest p f e = f e
-yes-then n false k more rest p f e = absurd (omega arith)
+pub yes_then : (n : ℕ) (b : Bool) (k more rest : ℕ) → 0 < n → (k ≡ 0 → rest ≡ more) → no_or n b k ≡ 0 → rest ≡ no_or n b more
+yes_then n true k more rest p f e = f e
+yes_then n false k more rest p f e = absurd (omega arith)
 
 -- no number refuses nothing
-pub no-number : {A : Type 0} (o : Outcome A) → 0 < 0 → o ≡ refused 0
-no-number o h = absurd (omega arith)
+pub no_number : {A : Type 0} (o : Outcome A) → 0 < 0 → o ≡ refused 0
+no_number o h = absurd (omega arith)
 
 -- ---- the loops: the item at n decides, or none is left
 
-none-below : (fs : List ℕ) → allOrdered fs [] ≡ true
-unfolding allOrdered
-none-below [] = refl
-none-below (f ∷ fs) = refl
+none_below : (fs : List ℕ) → all_ordered fs [] ≡ true
+unfolding all_ordered
+none_below [] = refl
+none_below (f ∷ fs) = refl
 
 module _ (n : ℕ) (fs ls : List ℕ) where
-  pub ordered-yes : n < length fs → n < length ls → getD fs n 0 ≤ getD ls n 0
-      → allOrdered (drop n fs) (drop n ls) ≡ allOrdered (drop (n + 1) fs) (drop (n + 1) ls)
-  unfolding allOrdered
-  ordered-yes h k p = rw (add-one, drop-cons fs n 0, drop-cons ls n 0, le-leb (getD fs n 0) (getD ls n 0))
+  pub ordered_yes : n < length fs → n < length ls → get_or fs n 0 ≤ get_or ls n 0
+      → all_ordered (drop n fs) (drop n ls) ≡ all_ordered (drop (n + 1) fs) (drop (n + 1) ls)
+  unfolding all_ordered
+  ordered_yes h k p = rw (add-one, drop-cons fs n 0, drop-cons ls n 0, le-leb (get_or fs n 0) (get_or ls n 0))
 
-  pub ordered-no : n < length fs → n < length ls → getD ls n 0 < getD fs n 0 → allOrdered (drop n fs) (drop n ls) ≡ false
-  unfolding allOrdered
-  ordered-no h k p = rw (drop-cons fs n 0, drop-cons ls n 0, lt-leb (getD fs n 0) (getD ls n 0))
+  pub ordered_no : n < length fs → n < length ls → get_or ls n 0 < get_or fs n 0 → all_ordered (drop n fs) (drop n ls) ≡ false
+  unfolding all_ordered
+  ordered_no h k p = rw (drop-cons fs n 0, drop-cons ls n 0, lt-leb (get_or fs n 0) (get_or ls n 0))
 
-  pub ordered-end : min (length fs) (length ls) ≤ n → allOrdered (drop n fs) (drop n ls) ≡ true
-  unfolding allOrdered
-  ordered-end h = run-out (λ (xs ys : List ℕ). allOrdered xs ys ≡ true) fs ls n h (λ ys. refl) none-below
+  pub ordered_end : min (length fs) (length ls) ≤ n → all_ordered (drop n fs) (drop n ls) ≡ true
+  unfolding all_ordered
+  ordered_end h = run_out (λ (xs ys : List ℕ). all_ordered xs ys ≡ true) fs ls n h (λ ys. refl) none_below
 
 module _ (limit n : ℕ) (l : List ℕ) where
-  pub within-yes : n < length l → getD l n 0 ≤ limit → allWithin limit (drop n l) ≡ allWithin limit (drop (n + 1) l)
-  unfolding allWithin
-  within-yes h p = rw (add-one, drop-cons l n 0, le-leb (getD l n 0) limit)
+  pub within_yes : n < length l → get_or l n 0 ≤ limit → all_within limit (drop n l) ≡ all_within limit (drop (n + 1) l)
+  unfolding all_within
+  within_yes h p = rw (add-one, drop-cons l n 0, le-leb (get_or l n 0) limit)
 
-  pub within-no : n < length l → limit < getD l n 0 → allWithin limit (drop n l) ≡ false
-  unfolding allWithin
-  within-no h p = rw (drop-cons l n 0, lt-leb (getD l n 0) limit)
+  pub within_no : n < length l → limit < get_or l n 0 → all_within limit (drop n l) ≡ false
+  unfolding all_within
+  within_no h p = rw (drop-cons l n 0, lt-leb (get_or l n 0) limit)
 
-  pub within-end : length l ≤ n → allWithin limit (drop n l) ≡ true
-  unfolding allWithin
-  within-end h = rw (drop-of-length-le l h)
+  pub within_end : length l ≤ n → all_within limit (drop n l) ≡ true
+  unfolding all_within
+  within_end h = rw (drop_of_length-le l h)
 
 -- the bits of two numbers together make a number within 30 bits, if both are
-or-small : (a b : ℕ) → leb (bitOr a b) 1073741823 ≡ (leb a 1073741823 && leb b 1073741823)
+or-small : (a b : ℕ) → leb (bit_or a b) 1073741823 ≡ (leb a 1073741823 && leb b 1073741823)
 or-small a b =
-    let sum = or-add-and a b in
-    elim (decLe a 1073741823) [
-      | no p ↦ rw (lt-leb a 1073741823 (lt-of-not-le p), lt-leb (bitOr a b) 1073741823 (omega (arith, lt-of-not-le p, sum, and-le-r a b)))
+    let sum = or_add_and a b in
+    elim (dec_le a 1073741823) [
+      | no p ↦ rw (lt-leb a 1073741823 (lt_of_not-le p), lt-leb (bit_or a b) 1073741823 (omega (arith, lt_of_not-le p, sum, and_le_r a b)))
       | yes p ↦
-          elim (decLe b 1073741823) [
+          elim (dec_le b 1073741823) [
             | no q ↦ rw (
               le-leb a 1073741823 p,
-              lt-leb b 1073741823 (lt-of-not-le q),
-              lt-leb (bitOr a b) 1073741823
-                  (omega (arith, lt-of-not-le q, sum, and-le-l a b)),
+              lt-leb b 1073741823 (lt_of_not-le q),
+              lt-leb (bit_or a b) 1073741823
+                  (omega (arith, lt_of_not-le q, sum, and_le_l a b)),
             )
             | yes q ↦
-                rw (le-leb a 1073741823 p, le-leb b 1073741823 q, le-leb (bitOr a b) 1073741823 (omega (arith, or-lt 30 a b (omega arith) (omega arith))))
+                rw (le-leb a 1073741823 p, le-leb b 1073741823 q, le-leb (bit_or a b) 1073741823 (omega (arith, or_lt 30 a b (omega arith) (omega arith))))
           ]
     ]
 
 -- one size more, from the last one back
-pub small-back : (i bits : ℕ) (l : List ℕ) → 0 < i → i ≤ length l → leb bits 1073741823 ≡ allSmall (drop i l)
-    → leb (bitOr (getD l (i - 1) 0) bits) 1073741823 ≡ allSmall (drop (i - 1) l)
-unfolding allSmall allWithin
-small-back i bits l h k e = or-small (getD l (i - 1) 0) bits ∙ rw (drop-back l i 0) (rw e)
+pub small_back : (i bits : ℕ) (l : List ℕ) → 0 < i → i ≤ length l → leb bits 1073741823 ≡ all_small (drop i l)
+    → leb (bit_or (get_or l (i - 1) 0) bits) 1073741823 ≡ all_small (drop (i - 1) l)
+unfolding all_small all_within
+small_back i bits l h k e = or-small (get_or l (i - 1) 0) bits ∙ rw (drop_back l i 0) (rw e)
 
 -- one index more, from the last one back
-pub rising-back : (i : ℕ) (l : List ℕ) → 1 < i → i ≤ length l
-    → rising (drop (i - 1 - 1) l) ≡ (ltb (getD l (i - 1 - 1) 0) (getD l (i - 1) 0) && rising (drop (i - 1) l))
+pub rising_back : (i : ℕ) (l : List ℕ) → 1 < i → i ≤ length l
+    → rising (drop (i - 1 - 1) l) ≡ (ltb (get_or l (i - 1 - 1) 0) (get_or l (i - 1) 0) && rising (drop (i - 1) l))
 unfolding rising
-rising-back i l h k =
+rising_back i l h k =
     let p : 0 < i - 1 = omega arith in
     let q : i - 1 ≤ length l = omega arith in
     let z : 0 < i = omega arith in
-    rw (drop-back l (i - 1) 0 p q, drop-back l i 0 z k)
+    rw (drop_back l (i - 1) 0 p q, drop_back l i 0 z k)
 
-pub rising-end : (n : ℕ) (l : List ℕ) → length l ≤ n + 1 → rising (drop n l) ≡ true
+pub rising_end : (n : ℕ) (l : List ℕ) → length l ≤ n + 1 → rising (drop n l) ≡ true
 unfolding rising
-rising-end zero [] h = refl
-rising-end zero (i ∷ []) h = refl
-rising-end zero (i ∷ (j ∷ is)) h = absurd (omega arith)
-rising-end (suc n) [] h = refl
-rising-end (suc n) (i ∷ is) h = rising-end n is (omega arith)
+rising_end zero [] h = refl
+rising_end zero (i ∷ []) h = refl
+rising_end zero (i ∷ (j ∷ is)) h = absurd (omega arith)
+rising_end (suc n) [] h = refl
+rising_end (suc n) (i ∷ is) h = rising_end n is (omega arith)
 
 -- ---- what a "yes" says
 
@@ -126,74 +126,74 @@ pub both : (a b : Bool) → (a && b) ≡ true → (a ≡ true) × (b ≡ true)
 both true b h = (refl, h)
 both false b h = (h, cc)
 
-pub within-each : (limit : ℕ) (l : List ℕ) → allWithin limit l ≡ true → (k : ℕ) → getD l k 0 ≤ limit
-unfolding allWithin
-within-each limit [] h k = omega arith
-within-each limit (x ∷ l) h zero = leb-true x limit (both (leb x limit) (allWithin limit l) h .0)
-within-each limit (x ∷ l) h (suc k) = within-each limit l (both (leb x limit) (allWithin limit l) h .1) k
+pub within_each : (limit : ℕ) (l : List ℕ) → all_within limit l ≡ true → (k : ℕ) → get_or l k 0 ≤ limit
+unfolding all_within
+within_each limit [] h k = omega arith
+within_each limit (x ∷ l) h zero = leb-true x limit (both (leb x limit) (all_within limit l) h).0
+within_each limit (x ∷ l) h (suc k) = within_each limit l (both (leb x limit) (all_within limit l) h).1 k
 
-rising-tail : (i : ℕ) (is : List ℕ) → rising (i ∷ is) ≡ true → rising is ≡ true
+rising_tail : (i : ℕ) (is : List ℕ) → rising (i ∷ is) ≡ true → rising is ≡ true
 unfolding rising
-rising-tail i [] h = refl
-rising-tail i (j ∷ is) h = both (ltb i j) (rising (j ∷ is)) h .1
+rising_tail i [] h = refl
+rising_tail i (j ∷ is) h = (both (ltb i j) (rising (j ∷ is)) h).1
 
-rising-head : (i : ℕ) (is : List ℕ) → rising (i ∷ is) ≡ true → (k : ℕ) → k < length is → i < getD is k 0
+rising_head : (i : ℕ) (is : List ℕ) → rising (i ∷ is) ≡ true → (k : ℕ) → k < length is → i < get_or is k 0
 unfolding rising
-rising-head i [] h k p = absurd (omega arith)
-rising-head i (j ∷ is) h zero p = ltb-true i j (both (ltb i j) (rising (j ∷ is)) h .0)
-rising-head i (j ∷ is) h (suc k) p =
+rising_head i [] h k p = absurd (omega arith)
+rising_head i (j ∷ is) h zero p = ltb-true i j (both (ltb i j) (rising (j ∷ is)) h).0
+rising_head i (j ∷ is) h (suc k) p =
     let b = both (ltb i j) (rising (j ∷ is)) h in
-    omega (arith, ltb-true i j (b .0), rising-head j is (b .1) k (omega arith))
+    omega (arith, ltb-true i j b.0, rising_head j is b.1 k (omega arith))
 
 -- of two places the later has the greater index
-pub rises : (is : List ℕ) → rising is ≡ true → (j k : ℕ) → j < k → k < length is → getD is j 0 < getD is k 0
+pub rises : (is : List ℕ) → rising is ≡ true → (j k : ℕ) → j < k → k < length is → get_or is j 0 < get_or is k 0
 rises [] h j k p q = absurd (omega arith)
 rises (i ∷ is) h j zero p q = absurd (omega arith)
-rises (i ∷ is) h zero (suc k) p q = rising-head i is h k (omega arith)
-rises (i ∷ is) h (suc j) (suc k) p q = rises is (rising-tail i is h) j k (omega arith) (omega arith)
+rises (i ∷ is) h zero (suc k) p q = rising_head i is h k (omega arith)
+rises (i ∷ is) h (suc j) (suc k) p q = rises is (rising_tail i is h) j k (omega arith) (omega arith)
 
 -- none is past a limit that the last one is within
-pub within-last : (limit : ℕ) (is : List ℕ) → rising is ≡ true → 0 < length is → leb (getD is (length is - 1) 0) limit ≡ allWithin limit is
-unfolding allWithin
-within-last limit [] h p = absurd (omega arith)
-within-last limit (i ∷ []) h p = sym (and-true (leb i limit))
-within-last limit (i ∷ (j ∷ is)) h p =
-    let last = getD (j ∷ is) (length is) 0 in
+pub within_last : (limit : ℕ) (is : List ℕ) → rising is ≡ true → 0 < length is → leb (get_or is (length is - 1) 0) limit ≡ all_within limit is
+unfolding all_within
+within_last limit [] h p = absurd (omega arith)
+within_last limit (i ∷ []) h p = sym (and-true (leb i limit))
+within_last limit (i ∷ (j ∷ is)) h p =
+    let last = get_or (j ∷ is) (length is) 0 in
     let e : suc (length is) - 1 ≡ length is = omega arith in
-    let rest : leb last limit ≡ allWithin limit (j ∷ is) = rw e at (within-last limit (j ∷ is) (rising-tail i (j ∷ is) h) (omega arith)) in
-    let below : i < last = rising-head i (j ∷ is) h (length is) (omega arith) in
+    let rest : leb last limit ≡ all_within limit (j ∷ is) = rw e at (within_last limit (j ∷ is) (rising_tail i (j ∷ is) h) (omega arith)) in
+    let below : i < last = rising_head i (j ∷ is) h (length is) (omega arith) in
     let f : suc (suc (length is)) - 1 ≡ suc (length is) = omega arith in
     let go : leb last limit ≡ (leb i limit && leb last limit) =
-    elim (decLe last limit) [
+    elim (dec_le last limit) [
       | yes l ↦ rw (le-leb i limit (omega arith))
-      | no l ↦ let q = lt-leb last limit (omega (arith, lt-of-not-le l)) in rw q (sym (and-false (leb i limit)))
+      | no l ↦ let q = lt-leb last limit (omega (arith, lt_of_not-le l)) in rw q (sym (and-false (leb i limit)))
     ] in
     rw f (go ∙ ap (λ (b : Bool). leb i limit && b) rest)
 
 -- an index is at least its place
-pub place-le : (is : List ℕ) → rising is ≡ true → (k : ℕ) → k < length is → k ≤ getD is k 0
-place-le is h zero q = omega arith
-place-le is h (suc k) q = omega (arith, place-le is h k (omega arith), rises is h k (suc k) (omega arith) q)
+pub place_le : (is : List ℕ) → rising is ≡ true → (k : ℕ) → k < length is → k ≤ get_or is k 0
+place_le is h zero q = omega arith
+place_le is h (suc k) q = omega (arith, place_le is h k (omega arith), rises is h k (suc k) (omega arith) q)
 
 -- so there are no more slots than indexes
-pub few : (limit : ℕ) (is : List ℕ) → risingWithin limit is ≡ true → length is ≤ limit + 1
-unfolding risingWithin
+pub few : (limit : ℕ) (is : List ℕ) → rising_within limit is ≡ true → length is ≤ limit + 1
+unfolding rising_within
 few limit is h =
-    let b = both (rising is) (allWithin limit is) h in
-    elim (decLe (length is) 0) [
+    let b = both (rising is) (all_within limit is) h in
+    elim (dec_le (length is) 0) [
       | yes p ↦ omega arith
-      | no p ↦ omega (arith, lt-of-not-le p, place-le is (b .0) (length is - 1) (omega (arith, lt-of-not-le p)), within-each limit is (b .1) (length is - 1))
+      | no p ↦ omega (arith, lt_of_not-le p, place_le is b.0 (length is - 1) (omega (arith, lt_of_not-le p)), within_each limit is b.1 (length is - 1))
     ]
 
-pub rising-of : (limit : ℕ) (is : List ℕ) → risingWithin limit is ≡ true → (j k : ℕ) → j < k → k < length is → getD is j 0 < getD is k 0
-unfolding risingWithin
-rising-of limit is h = rises is (both (rising is) (allWithin limit is) h .0)
+pub rising_of : (limit : ℕ) (is : List ℕ) → rising_within limit is ≡ true → (j k : ℕ) → j < k → k < length is → get_or is j 0 < get_or is k 0
+unfolding rising_within
+rising_of limit is h = rises is (both (rising is) (all_within limit is) h).0
 
-pub small-each : (ss : List ℕ) → allSmall ss ≡ true → (k : ℕ) → getD ss k 0 < 2 ^ 30
-unfolding allSmall
-small-each ss h k = omega (arith, within-each 1073741823 ss h k)
+pub small_each : (ss : List ℕ) → all_small ss ≡ true → (k : ℕ) → get_or ss k 0 < 2 ^ 30
+unfolding all_small
+small_each ss h k = omega (arith, within_each 1073741823 ss h k)
 
 -- after questions 6, 8 and 9 the slots of an axis are what the private functions rely on
-pub slots-of : (limit : ℕ) (is ss : List ℕ) → limit ≤ 1048575 → length is ≡ length ss → risingWithin limit is ≡ true → allSmall ss ≡ true → Slots is ss
-slots-of limit is ss h e r s =
-    record { even = e; small = record { few = omega (arith, few limit is r); each = small-each ss s }; rising = rising-of limit is r }
+pub slots_of : (limit : ℕ) (is ss : List ℕ) → limit ≤ 1048575 → length is ≡ length ss → rising_within limit is ≡ true → all_small ss ≡ true → Slots is ss
+slots_of limit is ss h e r s =
+    record { even = e; small = record { few = omega (arith, few limit is r); each = small_each ss s }; rising = rising_of limit is r }

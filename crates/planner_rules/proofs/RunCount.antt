@@ -1,121 +1,121 @@
 -- An axis has no more runs than slots, and lent lists as long as the slots hold them: question 11. Assumes nothing.
-use mathlib.Core.Path.{_≡_, refl, sym, _∙_}
+use mathlib.Core.Path.{◌≡◌, refl, sym, ◌∙◌}
 use mathlib.Core.Logic.{inl, inr}
-use mathlib.Core.List.{List, [], _∷_, map}
-use Prim.Native.Nat.{ℕ, zero, suc, _*_, _≤_}
-use native.Mathlib.Nat.{mul-le-mul-right}
+use mathlib.Core.List.{List, [], ◌∷◌, map}
+use Prim.Native.Nat.{ℕ, zero, suc, ◌*◌, ◌≤◌}
+use native.Mathlib.Nat.{mul-le-mul_right}
 use native.Mathlib.Omega.{arith}
 use lib.Dec.{leb}
 use lib.IntN.{ℤ}
 use lib.ListN.{length, length-map, length-append, length-take}
 use borrow.Author.Tests.{le-leb}
-use Rattle·units.specs.Outcome.{given, refused, andThen}
-use Rattle·planner_rules·specs.specs.declared.planning.PrintRange.{PrintRange}
-use Rattle·planner_rules·specs.specs.declared.planning.Areas.{Areas}
-use Rattle·planner_rules·specs.specs.Slots.{sum}
-use Rattle·planner_rules·specs.specs.Areas.{eightRanges, areasIn}
-use Rattle·planner_rules·specs.specs.Runs.{Run}
-use Rattle·planner_rules·specs.specs.Scale.{frameFor}
-use Rattle·planner_rules·specs.specs.Lent.{roomIn}
-use Rattle·planner_rules·specs.specs.Pages.{joined, numbered}
-use Rattle·planner_rules·specs.specs.Plan.{AxisInput, Sheet, Sides, rowsIn, columnsIn, bodyOf, spaceOn, cutRuns, pageRuns, AreaLayout, areaAt, areaLayout}
-use Rattle·planner_rules·specs.specs.Plan.{layoutsOf, rowRunsOf, columnRunsOf, layout, withinLimit, roomFor, planned, scaleAt, areaRoom, areaWritten}
-use Rattle·planner_rules·specs.specs.Division.{_∈_, Division}
-use Rattle·planner_rules·specs.specs.Demand.{bodyIndexes, bodySizes}
-use Rattle·planner_rules·proofs.proofs.CutLaws.{few-runs}
-use Rattle·planner_rules·proofs.proofs.PlanLaws.{formed-of, asks-number}
-use Rattle·planner_rules·proofs.proofs.Whole.{axis-division}
-use Rattle·planner_rules·proofs.proofs.BodyLaws.{body-even, body-few}
-use Rattle·planner_rules·proofs.proofs.NoTen.{among, asked, not-given, past-nine}
+use Rattle.units.specs.Outcome.{given, refused, and_then}
+use Rattle.planner_rules.specs.declared.planning.PrintRange.{PrintRange}
+use Rattle.planner_rules.specs.declared.planning.Areas.{Areas}
+use Rattle.planner_rules.specs.Slots.{sum}
+use Rattle.planner_rules.specs.Areas.{eight_ranges, areas_in}
+use Rattle.planner_rules.specs.Runs.{Run}
+use Rattle.planner_rules.specs.Scale.{frame_for}
+use Rattle.planner_rules.specs.Lent.{room_in}
+use Rattle.planner_rules.specs.Pages.{joined, numbered}
+use Rattle.planner_rules.specs.Plan.{AxisInput, Sheet, Sides, rows_in, columns_in, body_of, space_on, cut_runs, page_runs, AreaLayout, area_at, area_layout}
+use Rattle.planner_rules.specs.Plan.{layouts_of, row_runs_of, column_runs_of, layout, within_limit, room_for, planned, scale_at, area_room, area_written}
+use Rattle.planner_rules.specs.Division.{◌∈◌, Division}
+use Rattle.planner_rules.specs.Demand.{body_indexes, body_sizes}
+use Rattle.planner_rules.proofs.CutLaws.{few_runs}
+use Rattle.planner_rules.proofs.PlanLaws.{formed_of, asks_number}
+use Rattle.planner_rules.proofs.Whole.{axis_division}
+use Rattle.planner_rules.proofs.BodyLaws.{body_even, body_few}
+use Rattle.planner_rules.proofs.NoTen.{among, asked, not_given, past_nine}
 
 -- each run has a slot
-sum-most : (ns : List ℕ) → ((m : ℕ) → m ∈ ns → 1 ≤ m) → length ns ≤ sum ns
+sum_most : (ns : List ℕ) → ((m : ℕ) → m ∈ ns → 1 ≤ m) → length ns ≤ sum ns
 unfolding sum
-sum-most [] h = omega arith
-sum-most (n ∷ ns) h =
+sum_most [] h = omega arith
+sum_most (n ∷ ns) h =
     let a = h n (inl refl) in
-    let b = sum-most ns (λ m i. h m (inr i)) in
+    let b = sum_most ns (λ m i. h m (inr i)) in
     omega arith
 
-division-few : (n : ℕ) (ns : List ℕ) → Division n ns → length ns ≤ n
-division-few n ns d = let a = sum-most ns (d .nonempty) in let b = d .whole in omega arith
+division_few : (n : ℕ) (ns : List ℕ) → Division n ns → length ns ≤ n
+division_few n ns d = let a = sum_most ns d.nonempty in let b = d.whole in omega arith
 
-module _ (a : AxisInput) (even : length (a .indexes) ≡ length (a .sizes)) (side : ℤ) (p : ℕ) where
-  cut-few : length (cutRuns side a p) ≤ length (a .indexes)
-  unfolding cutRuns bodyOf
-  cut-few =
-      let d = division-few _ _
-      (axis-division (frameFor (spaceOn side a) (bodyOf a) p) (a .merge-firsts) (a .merge-lasts) (bodyIndexes a) (bodySizes a) (a .breaks)
-      (body-even a even)) in
-      omega (arith, length-map (cutRuns side a p) (λ (r : Run). r .slots), body-even a even, body-few a, d)
+module _ (a : AxisInput) (even : length a.indexes ≡ length a.sizes) (side : ℤ) (p : ℕ) where
+  cut_few : length (cut_runs side a p) ≤ length a.indexes
+  unfolding cut_runs body_of
+  cut_few =
+      let d = division_few _ _
+      (axis_division (frame_for (space_on side a) (body_of a) p) a.merge_firsts a.merge_lasts (body_indexes a) (body_sizes a) a.breaks
+      (body_even a even)) in
+      omega (arith, length-map (cut_runs side a p) (λ (r : Run). r.slots), body_even a even, body_few a, d)
 
   -- no more runs than slots, and one where there are no slots
-  pub page-runs-few : (n : ℕ) → length (a .indexes) ≤ n → 1 ≤ n → length (pageRuns side a p) ≤ n
-  unfolding pageRuns
-  page-runs-few n h k = few-runs (a .first) (cutRuns side a p) n (omega (arith, cut-few)) k
+  pub page_runs_few : (n : ℕ) → length a.indexes ≤ n → 1 ≤ n → length (page_runs side a p) ≤ n
+  unfolding page_runs
+  page_runs_few n h k = few_runs a.first (cut_runs side a p) n (omega (arith, cut_few)) k
 
 -- ---- the plan call
 
 -- as many runs an area
-runs-few : (f : AreaLayout → List Run) (c : Sides) (s : Sheet) (m : ℕ) → ((g : PrintRange) → length (f (areaLayout c s g)) ≤ m) → (gs : List PrintRange)
-    → length (joined (map f (layoutsOf c s gs))) ≤ length gs * m
+runs_few : (f : AreaLayout → List Run) (c : Sides) (s : Sheet) (m : ℕ) → ((g : PrintRange) → length (f (area_layout c s g)) ≤ m) → (gs : List PrintRange)
+    → length (joined (map f (layouts_of c s gs))) ≤ length gs * m
 unfolding joined
-runs-few f c s m h [] = omega arith
-runs-few f c s m h (g ∷ gs) =
-    omega (arith, length-append (f (areaLayout c s g)) (joined (map f (layoutsOf c s gs))), h g, runs-few f c s m h gs)
+runs_few f c s m h [] = omega arith
+runs_few f c s m h (g ∷ gs) =
+    omega (arith, length-append (f (area_layout c s g)) (joined (map f (layouts_of c s gs))), h g, runs_few f c s m h gs)
 
 -- 11 of runs that have room
-room-not-eleven : (l : AreaLayout) (row-room column-room : ℕ) → length (l .rows) ≤ row-room → length (l .columns) ≤ column-room
-    → areaRoom l row-room column-room ≡ refused 11 → ⊥
-room-not-eleven l row-room column-room hr hc e =
-    not-given l 11 (rw (le-leb (length (l .rows)) row-room hr, le-leb (length (l .columns)) column-room hc) at e)
+room_not_eleven : (l : AreaLayout) (row_room column_room : ℕ) → length l.rows ≤ row_room → length l.columns ≤ column_room
+    → area_room l row_room column_room ≡ refused 11 → ⊥
+room_not_eleven l row_room column_room hr hc e =
+    not_given l 11 (rw (le-leb (length l.rows) row_room hr, le-leb (length l.columns) column_room hc) at e)
 
 module _ (s : Sheet) (areas : Areas) (rows columns : List ℕ) where
   -- lists with room for as many runs as slots, for each area, never meet 11
-  pub never-eleven : (m n : ℕ) → length (s .row-indexes) ≤ m → 1 ≤ m → areas .count * m ≤ roomIn rows
-      → length (s .column-indexes) ≤ n → 1 ≤ n → areas .count * n ≤ roomIn columns → planned s areas rows columns ≡ refused 11 → ⊥
-  unfolding planned roomFor withinLimit layout areaLayout areaAt among
-  never-eleven m n ra oa ha rb ob hb e =
-      let w = past-nine s areas _ 11 refl e in
-      let gs = areasIn areas in
-      let even = formed-of s gs (w .yes .six) in
-      let c = w .sides in
-      let ls = layoutsOf c s gs in
-      let some : length gs ≤ areas .count = omega (arith, length-take (areas .count) (eightRanges areas)) in
-      let fr : length (rowRunsOf ls) ≤ roomIn rows =
+  pub never_eleven : (m n : ℕ) → length s.row_indexes ≤ m → 1 ≤ m → areas.count * m ≤ room_in rows
+      → length s.column_indexes ≤ n → 1 ≤ n → areas.count * n ≤ room_in columns → planned s areas rows columns ≡ refused 11 → ⊥
+  unfolding planned room_for within_limit layout area_layout area_at among
+  never_eleven m n ra oa ha rb ob hb e =
+      let w = past_nine s areas _ 11 refl e in
+      let gs = areas_in areas in
+      let even = formed_of s gs w.yes.six in
+      let c = w.sides in
+      let ls = layouts_of c s gs in
+      let some : length gs ≤ areas.count = omega (arith, length-take areas.count (eight_ranges areas)) in
+      let fr : length (row_runs_of ls) ≤ room_in rows =
       omega (
         arith,
-        runs-few (λ (l : AreaLayout). l .rows) c s m (λ g. page-runs-few (rowsIn s g) (even .rows-even) (c .height) _ m ra oa) gs,
-        mul-le-mul-right m some,
+        runs_few (λ (l : AreaLayout). l.rows) c s m (λ g. page_runs_few (rows_in s g) even.rows_even c.height _ m ra oa) gs,
+        mul-le-mul_right m some,
       ) in
-      let fc : length (columnRunsOf ls) ≤ roomIn columns =
+      let fc : length (column_runs_of ls) ≤ room_in columns =
       omega (
         arith,
-        runs-few (λ (l : AreaLayout). l .columns) c s n (λ g. page-runs-few (columnsIn s g) (even .columns-even) (c .width) _ n rb ob) gs,
-        mul-le-mul-right n some,
+        runs_few (λ (l : AreaLayout). l.columns) c s n (λ g. page_runs_few (columns_in s g) even.columns_even c.width _ n rb ob) gs,
+        mul-le-mul_right n some,
       ) in
       let l = layout c s gs in
-      let few = leb (l .plan .pages) (s .settings .«page_limit») in
-      not-given l 11 (asked 12 11 few (given l) (λ i. omega arith)
-      (rw (le-leb (length (rowRunsOf ls)) (roomIn rows) fr, le-leb (length (columnRunsOf ls)) (roomIn columns) fc) at (w .after)) .1)
+      let few = leb l.plan.pages s.settings.page_limit in
+      not_given l 11 (asked 12 11 few (given l) (λ i. omega arith)
+      (rw (le-leb (length (row_runs_of ls)) (room_in rows) fr, le-leb (length (column_runs_of ls)) (room_in columns) fc) at w.after)).1
 
   -- one area's lists as long as the slots, with room for one run, never meet 11
-  pub area-never-eleven : (n p : ℕ) → 1 ≤ p → length (s .row-indexes) ≤ roomIn rows → 1 ≤ roomIn rows → length (s .column-indexes) ≤ roomIn columns
-      → 1 ≤ roomIn columns → areaWritten s areas n p rows columns ≡ refused 11 → ⊥
-  unfolding areaWritten numbered areaAt among
-  area-never-eleven n p h ra oa rb ob e =
-      let w = past-nine s areas _ 11 refl e in
-      let even = formed-of s (areasIn areas) (w .yes .six) in
-      let c = w .sides in
-      go (areasIn areas) n (λ (g : PrintRange). areaAt c (rowsIn s g) (columnsIn s g) (scaleAt p))
-      (λ g. page-runs-few (rowsIn s g) (even .rows-even) (c .height) p (roomIn rows) ra oa)
-      (λ g. page-runs-few (columnsIn s g) (even .columns-even) (c .width) p (roomIn columns) rb ob)
-      (sym (asks-number c s areas n p rows columns h) ∙ w .after)
+  pub area_never_eleven : (n p : ℕ) → 1 ≤ p → length s.row_indexes ≤ room_in rows → 1 ≤ room_in rows → length s.column_indexes ≤ room_in columns
+      → 1 ≤ room_in columns → area_written s areas n p rows columns ≡ refused 11 → ⊥
+  unfolding area_written numbered area_at among
+  area_never_eleven n p h ra oa rb ob e =
+      let w = past_nine s areas _ 11 refl e in
+      let even = formed_of s (areas_in areas) w.yes.six in
+      let c = w.sides in
+      go (areas_in areas) n (λ (g : PrintRange). area_at c (rows_in s g) (columns_in s g) (scale_at p))
+      (λ g. page_runs_few (rows_in s g) even.rows_even c.height p (room_in rows) ra oa)
+      (λ g. page_runs_few (columns_in s g) even.columns_even c.width p (room_in columns) rb ob)
+      (sym (asks_number c s areas n p rows columns h) ∙ w.after)
     where
-      go : (xs : List PrintRange) (k : ℕ) (f : PrintRange → AreaLayout) → ((g : PrintRange) → length (f g .rows) ≤ roomIn rows)
-          → ((g : PrintRange) → length (f g .columns) ≤ roomIn columns)
-          → andThen (numbered xs k) (λ (g : PrintRange). areaRoom (f g) (roomIn rows) (roomIn columns)) ≡ refused 11 → ⊥
-      go [] k f hr hc q = let z : _≡_ {A = ℕ} 14 11 = cc in omega arith
-      go (x ∷ xs) zero f hr hc q = let z : _≡_ {A = ℕ} 14 11 = cc in omega arith
-      go (x ∷ xs) (suc zero) f hr hc q = room-not-eleven (f x) (roomIn rows) (roomIn columns) (hr x) (hc x) q
+      go : (xs : List PrintRange) (k : ℕ) (f : PrintRange → AreaLayout) → ((g : PrintRange) → length (f g).rows ≤ room_in rows)
+          → ((g : PrintRange) → length (f g).columns ≤ room_in columns)
+          → and_then (numbered xs k) (λ (g : PrintRange). area_room (f g) (room_in rows) (room_in columns)) ≡ refused 11 → ⊥
+      go [] k f hr hc q = let z : ◌≡◌ {A = ℕ} 14 11 = cc in omega arith
+      go (x ∷ xs) zero f hr hc q = let z : ◌≡◌ {A = ℕ} 14 11 = cc in omega arith
+      go (x ∷ xs) (suc zero) f hr hc q = room_not_eleven (f x) (room_in rows) (room_in columns) (hr x) (hc x) q
       go (x ∷ xs) (suc (suc k)) f hr hc q = go xs (suc k) f hr hc q

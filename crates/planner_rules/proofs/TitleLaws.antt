@@ -1,78 +1,78 @@
 -- Laws of `specs/Titles.antt`'s definitions: the loops of crate `planner_titles`, that the bound on passes cuts nothing off, and what callers may
 -- rely on. Assumes nothing.
-use mathlib.Core.Path.{_≡_, refl, sym, ap, ap₂, _∙_, subst}
-use mathlib.Core.Bool.{Bool, true, false, cond, not, _&&_, true≢false}
-use mathlib.Core.List.{List, [], _∷_}
-use mathlib.Core.Logic.{_⊎_, inl, inr, ⊎-elim}
-use Prim.Native.Nat.{ℕ, zero, suc, _+_, _-_, _*_, _^_, _≤_, _<_, min, max}
-use native.Mathlib.Nat.{lt-of-not-le}
-use native.Mathlib.Decide.{decLe}
+use mathlib.Core.Path.{◌≡◌, refl, sym, ap, ap₂, ◌∙◌, subst}
+use mathlib.Core.Bool.{Bool, true, false, cond, not, ◌&&◌, true≢false}
+use mathlib.Core.List.{List, [], ◌∷◌}
+use mathlib.Core.Logic.{◌⊎◌, inl, inr, ⊎_elim}
+use Prim.Native.Nat.{ℕ, zero, suc, ◌+◌, ◌-◌, ◌*◌, ◌^◌, ◌≤◌, ◌<◌, min, max}
+use native.Mathlib.Nat.{lt_of_not-le}
+use native.Mathlib.Decide.{dec_le}
 use native.Mathlib.Numerals.{add-one}
 use native.Mathlib.Omega.{arith}
 use lib.Dec.{leb, eqb}
-use lib.ListN.{length, getD, take, drop, length-drop}
+use lib.ListN.{length, get_or, take, drop, length-drop}
 use lib.Seq.{drop-cons, drop-drop}
 use borrow.Author.Tests.{le-leb, lt-leb, leb-true, eq-eqb, eqb-true}
-use Rattle·planner_rules·specs.specs.declared.titles.Title.{Title}
-use Rattle·planner_rules·specs.specs.declared.titles.Title.the-variants.{Absent, Pair}
-use Rattle·planner_rules·specs.specs.declared.titles.Normalized.{Normalized}
-use Rattle·planner_rules·specs.specs.declared.titles.Span.{Span}
-use Rattle·planner_rules·specs.specs.Slots.{Small, Slots, sum, below, mid}
-use Rattle·planner_rules·specs.specs.Titles.{bodyStart, titleTotal, noMerge, widenTo, widens, pass, sameSpan, still, expandedTo, passes, expand, normalized}
-use Rattle·planner_rules·specs.specs.Titles.{widenedFrom, widened}
-use Rattle·planner_rules·specs.specs.Questions.{allWithin}
-use Rattle·planner_rules·proofs.proofs.Laws.{either, run-out, slots-mid}
-use Rattle·planner_rules·proofs.proofs.EndLaws.{below-le}
-use Rattle·planner_rules·proofs.proofs.QuestionLaws.{both}
+use Rattle.planner_rules.specs.declared.titles.Title.{Title}
+use Rattle.planner_rules.specs.declared.titles.Title.TheVariants.{Absent, Pair}
+use Rattle.planner_rules.specs.declared.titles.Normalized.{Normalized}
+use Rattle.planner_rules.specs.declared.titles.Span.{Span}
+use Rattle.planner_rules.specs.Slots.{Small, Slots, sum, below, mid}
+use Rattle.planner_rules.specs.Titles.{body_start, title_total, no_merge, widen_to, widens, pass, same_span, still, expanded_to, passes, expand, normalized}
+use Rattle.planner_rules.specs.Titles.{widened_from, widened}
+use Rattle.planner_rules.specs.Questions.{all_within}
+use Rattle.planner_rules.proofs.Laws.{either, run_out, slots_mid}
+use Rattle.planner_rules.proofs.EndLaws.{below-le}
+use Rattle.planner_rules.proofs.QuestionLaws.{both}
 
 abbrev pub span : ℕ → ℕ → Span
 span f l = record { first = f; last = l }
 
 -- ---- one pass
 
-pub pass-step : (n : ℕ) (fs ls : List ℕ) (s : Span) → n < length fs → n < length ls
-    → pass (drop n fs) (drop n ls) s ≡ pass (drop (n + 1) fs) (drop (n + 1) ls) (widenTo s (getD fs n 0) (getD ls n 0))
+pub pass_step : (n : ℕ) (fs ls : List ℕ) (s : Span) → n < length fs → n < length ls
+    → pass (drop n fs) (drop n ls) s ≡ pass (drop (n + 1) fs) (drop (n + 1) ls) (widen_to s (get_or fs n 0) (get_or ls n 0))
 unfolding pass
-pass-step n fs ls s h k = rw (add-one, drop-cons fs n 0, drop-cons ls n 0)
+pass_step n fs ls s h k = rw (add-one, drop-cons fs n 0, drop-cons ls n 0)
 
-none-left : (fs : List ℕ) (s : Span) → pass fs [] s ≡ s
+none_left : (fs : List ℕ) (s : Span) → pass fs [] s ≡ s
 unfolding pass
-none-left [] s = refl
-none-left (f ∷ fs) s = refl
+none_left [] s = refl
+none_left (f ∷ fs) s = refl
 
-pub pass-end : (n : ℕ) (fs ls : List ℕ) (s : Span) → min (length fs) (length ls) ≤ n → pass (drop n fs) (drop n ls) s ≡ s
+pub pass_end : (n : ℕ) (fs ls : List ℕ) (s : Span) → min (length fs) (length ls) ≤ n → pass (drop n fs) (drop n ls) s ≡ s
 unfolding pass
-pass-end n fs ls s h = run-out (λ (xs ys : List ℕ). pass xs ys s ≡ s) fs ls n h (λ ys. refl) (λ xs. none-left xs s)
+pass_end n fs ls s h = run_out (λ (xs ys : List ℕ). pass xs ys s ≡ s) fs ls n h (λ ys. refl) (λ xs. none_left xs s)
 
 -- the first m merges, and then the others
-pass-split : (m : ℕ) (fs ls : List ℕ) (s : Span) → m ≤ length fs → m ≤ length ls
+pass_split : (m : ℕ) (fs ls : List ℕ) (s : Span) → m ≤ length fs → m ≤ length ls
     → pass (drop m fs) (drop m ls) (pass (take m fs) (take m ls) s) ≡ pass fs ls s
 unfolding pass
-pass-split zero fs ls s h k = refl
-pass-split (suc m) [] ls s h k = absurd (omega arith)
-pass-split (suc m) (f ∷ fs) [] s h k = absurd (omega arith)
-pass-split (suc m) (f ∷ fs) (l ∷ ls) s h k = pass-split m fs ls (widenTo s f l) (omega arith) (omega arith)
+pass_split zero fs ls s h k = refl
+pass_split (suc m) [] ls s h k = absurd (omega arith)
+pass_split (suc m) (f ∷ fs) [] s h k = absurd (omega arith)
+pass_split (suc m) (f ∷ fs) (l ∷ ls) s h k = pass_split m fs ls (widen_to s f l) (omega arith) (omega arith)
 
 -- the merges from one place to another, and those from there on
-pub pass-part : (i e : ℕ) (fs ls : List ℕ) (s : Span) → i ≤ e → e ≤ length fs → e ≤ length ls
+pub pass_part : (i e : ℕ) (fs ls : List ℕ) (s : Span) → i ≤ e → e ≤ length fs → e ≤ length ls
     → pass (drop e fs) (drop e ls) (pass (mid i e fs) (mid i e ls) s) ≡ pass (drop i fs) (drop i ls) s
-pass-part i e fs ls s h k q =
+pass_part i e fs ls s h k q =
     let on : i + (e - i) ≡ e = omega arith in
     rw (drop-drop (e - i) i fs, drop-drop (e - i) i ls, on)
-    at (pass-split (e - i) (drop i fs) (drop i ls) s (omega (arith, length-drop i fs)) (omega (arith, length-drop i ls)))
+    at (pass_split (e - i) (drop i fs) (drop i ls) s (omega (arith, length-drop i fs)) (omega (arith, length-drop i ls)))
 
 -- ---- widening
 
 -- a merge that lies within the span, or apart from it, changes nothing
-widenTo-not : (s : Span) (f l : ℕ) → not (widens s f l) ≡ true → widenTo s f l ≡ s
-unfolding widenTo
-widenTo-not s f l h = picked (leb f (s .last)) (leb (s .first) l) (leb (s .first) f && leb l (s .last)) within h
+widen_to-not : (s : Span) (f l : ℕ) → not (widens s f l) ≡ true → widen_to s f l ≡ s
+unfolding widen_to
+widen_to-not s f l h = picked (leb f s.last) (leb s.first l) (leb s.first f && leb l s.last) within h
   where
-    within : (leb (s .first) f && leb l (s .last)) ≡ true → span (min (s .first) f) (max (s .last) l) ≡ s
+    within : (leb s.first f && leb l s.last) ≡ true → span (min s.first f) (max s.last l) ≡ s
     within w =
-        let e = both (leb (s .first) f) (leb l (s .last)) w in
-        let low : min (s .first) f ≡ s .first = omega (arith, leb-true (s .first) f (e .0)) in
-        let high : max (s .last) l ≡ s .last = omega (arith, leb-true l (s .last) (e .1)) in
+        let e = both (leb s.first f) (leb l s.last) w in
+        let low : min s.first f ≡ s.first = omega (arith, leb-true s.first f e.0) in
+        let high : max s.last l ≡ s.last = omega (arith, leb-true l s.last e.1) in
         ap₂ span low high
 
     picked : {t : Span} (a b w : Bool) → (w ≡ true → t ≡ s) → not (a && (b && not w)) ≡ true → cond (a && b) t s ≡ s
@@ -82,71 +82,71 @@ widenTo-not s f l h = picked (leb f (s .last)) (leb (s .first) l) (leb (s .first
     picked false b w e n = refl
 
 -- nor do merges of which none widens it
-pub pass-none : (s : Span) (fs ls : List ℕ) → noMerge (widens s) fs ls ≡ true → pass fs ls s ≡ s
-unfolding pass noMerge
-pass-none s [] ls h = refl
-pass-none s (f ∷ fs) [] h = refl
-pass-none s (f ∷ fs) (l ∷ ls) h =
-    let e = both (not (widens s f l)) (noMerge (widens s) fs ls) h in rw (widenTo-not s f l (e .0)) (pass-none s fs ls (e .1))
+pub pass_none : (s : Span) (fs ls : List ℕ) → no_merge (widens s) fs ls ≡ true → pass fs ls s ≡ s
+unfolding pass no_merge
+pass_none s [] ls h = refl
+pass_none s (f ∷ fs) [] h = refl
+pass_none s (f ∷ fs) (l ∷ ls) h =
+    let e = both (not (widens s f l)) (no_merge (widens s) fs ls) h in rw (widen_to-not s f l e.0) (pass_none s fs ls e.1)
 
 -- t reaches as far as s both ways
 pub record Wider (s t : Span) : Type 0 where
-  pub down : t .first ≤ s .first
-  pub up : s .last ≤ t .last
+  pub down : t.first ≤ s.first
+  pub up : s.last ≤ t.last
 
 -- what becomes of a span at a merge: nothing, or the merge meets it, is not within it, and is within what comes of it
 pub data Step (s : Span) (f l : ℕ) (t : Span) : Type 0 where
   stays : t ≡ s → Step s f l t
-  grows : Wider s t → t .first ≤ f → l ≤ t .last → (leb (s .first) f && leb l (s .last)) ≡ false → Step s f l t
+  grows : Wider s t → t.first ≤ f → l ≤ t.last → (leb s.first f && leb l s.last) ≡ false → Step s f l t
 
-pub step-of : (s : Span) (f l : ℕ) → Step s f l (widenTo s f l)
-unfolding widenTo
-step-of s f l =
-    elim (decLe f (s .last)) [
-      | no h ↦ rw (lt-leb f (s .last) (lt-of-not-le h)) (stays refl)
+pub step_of : (s : Span) (f l : ℕ) → Step s f l (widen_to s f l)
+unfolding widen_to
+step_of s f l =
+    elim (dec_le f s.last) [
+      | no h ↦ rw (lt-leb f s.last (lt_of_not-le h)) (stays refl)
       | yes h ↦
-          elim (decLe (s .first) l) [
-            | no k ↦ rw (le-leb f (s .last) h, lt-leb (s .first) l (lt-of-not-le k)) (stays refl)
-            | yes k ↦ rw (le-leb f (s .last) h, le-leb (s .first) l k) (met h k)
+          elim (dec_le s.first l) [
+            | no k ↦ rw (le-leb f s.last h, lt-leb s.first l (lt_of_not-le k)) (stays refl)
+            | yes k ↦ rw (le-leb f s.last h, le-leb s.first l k) (met h k)
           ]
     ]
   where
-    met : f ≤ s .last → s .first ≤ l → Step s f l (span (min (s .first) f) (max (s .last) l))
+    met : f ≤ s.last → s.first ≤ l → Step s f l (span (min s.first f) (max s.last l))
     met h k =
-        elim (decLe (s .first) f) [
-          | no p ↦ grows (record { down = omega arith; up = omega arith }) (omega arith) (omega arith) (rw (lt-leb (s .first) f (lt-of-not-le p)))
+        elim (dec_le s.first f) [
+          | no p ↦ grows (record { down = omega arith; up = omega arith }) (omega arith) (omega arith) (rw (lt-leb s.first f (lt_of_not-le p)))
           | yes p ↦
-              elim (decLe l (s .last)) [
+              elim (dec_le l s.last) [
                 | no q ↦ grows (record { down = omega arith; up = omega arith }) (omega arith) (omega arith)
-                    (rw (le-leb (s .first) f p, lt-leb l (s .last) (lt-of-not-le q)))
+                    (rw (le-leb s.first f p, lt-leb l s.last (lt_of_not-le q)))
                 | yes q ↦
-                    let e : min (s .first) f ≡ s .first = omega arith in
-                    let e′ : max (s .last) l ≡ s .last = omega arith in
-                    stays (ap₂ span e e′)
+                    let e : min s.first f ≡ s.first = omega arith in
+                    let e' : max s.last l ≡ s.last = omega arith in
+                    stays (ap₂ span e e')
               ]
         ]
 
-widenTo-wider : (s : Span) (f l : ℕ) → Wider s (widenTo s f l)
-widenTo-wider s f l =
-    elim (step-of s f l) [
+widen_to_wider : (s : Span) (f l : ℕ) → Wider s (widen_to s f l)
+widen_to_wider s f l =
+    elim (step_of s f l) [
       | stays e ↦ rw e (record { down = omega arith; up = omega arith })
       | grows w p q r ↦ w
     ]
 
-pub pass-wider : (fs ls : List ℕ) (s : Span) → Wider s (pass fs ls s)
+pub pass_wider : (fs ls : List ℕ) (s : Span) → Wider s (pass fs ls s)
 unfolding pass
-pass-wider [] ls s = record { down = omega arith; up = omega arith }
-pass-wider (f ∷ fs) [] s = record { down = omega arith; up = omega arith }
-pass-wider (f ∷ fs) (l ∷ ls) s =
-    let a = widenTo-wider s f l in
-    let b = pass-wider fs ls (widenTo s f l) in
+pass_wider [] ls s = record { down = omega arith; up = omega arith }
+pass_wider (f ∷ fs) [] s = record { down = omega arith; up = omega arith }
+pass_wider (f ∷ fs) (l ∷ ls) s =
+    let a = widen_to_wider s f l in
+    let b = pass_wider fs ls (widen_to s f l) in
     record { down = omega arith; up = omega arith }
 
 -- ---- a changing pass takes in a merge
 
 -- 1 for a merge within the span
 unfoldable pub one : Span → ℕ → ℕ → ℕ
-one s f l = cond (leb (s .first) f && leb l (s .last)) 1 0
+one s f l = cond (leb s.first f && leb l s.last) 1 0
 
 -- how many merges lie within the span
 unfoldable pub inside : Span → List ℕ → List ℕ → ℕ
@@ -156,292 +156,292 @@ inside s (f ∷ fs) (l ∷ ls) = one s f l + inside s fs ls
 
 one-le : (s : Span) (f l : ℕ) → one s f l ≤ 1
 unfolding one
-one-le s f l = go (leb (s .first) f && leb l (s .last))
+one-le s f l = go (leb s.first f && leb l s.last)
   where
     go : (b : Bool) → cond b 1 0 ≤ 1
     go true = omega arith
     go false = omega arith
 
-one-in : (s : Span) (f l : ℕ) → s .first ≤ f → l ≤ s .last → one s f l ≡ 1
+one_in : (s : Span) (f l : ℕ) → s.first ≤ f → l ≤ s.last → one s f l ≡ 1
 unfolding one
-one-in s f l h k = rw (le-leb (s .first) f, le-leb l (s .last))
+one_in s f l h k = rw (le-leb s.first f, le-leb l s.last)
 
-one-out : (s : Span) (f l : ℕ) → (leb (s .first) f && leb l (s .last)) ≡ false → one s f l ≡ 0
+one_out : (s : Span) (f l : ℕ) → (leb s.first f && leb l s.last) ≡ false → one s f l ≡ 0
 unfolding one
-one-out s f l h = rw h
+one_out s f l h = rw h
 
-one-wider : (s t : Span) (f l : ℕ) → Wider s t → one s f l ≤ one t f l
+one_wider : (s t : Span) (f l : ℕ) → Wider s t → one s f l ≤ one t f l
 unfolding one
-one-wider s t f l w =
-    elim (decLe (s .first) f) [
-      | no p ↦ rw (lt-leb (s .first) f (lt-of-not-le p)) (omega arith)
+one_wider s t f l w =
+    elim (dec_le s.first f) [
+      | no p ↦ rw (lt-leb s.first f (lt_of_not-le p)) (omega arith)
       | yes p ↦
-          elim (decLe l (s .last)) [
-            | no q ↦ rw (le-leb (s .first) f p, lt-leb l (s .last) (lt-of-not-le q)) (omega arith)
-            | yes q ↦ rw (le-leb (s .first) f p, le-leb l (s .last) q, le-leb (t .first) f (omega arith), le-leb l (t .last) (omega arith)) (omega arith)
+          elim (dec_le l s.last) [
+            | no q ↦ rw (le-leb s.first f p, lt-leb l s.last (lt_of_not-le q)) (omega arith)
+            | yes q ↦ rw (le-leb s.first f p, le-leb l s.last q, le-leb t.first f (omega arith), le-leb l t.last (omega arith)) (omega arith)
           ]
     ]
 
-pub inside-le : (s : Span) (fs ls : List ℕ) → inside s fs ls ≤ length fs
+pub inside_le : (s : Span) (fs ls : List ℕ) → inside s fs ls ≤ length fs
 unfolding inside
-inside-le s [] ls = omega arith
-inside-le s (f ∷ fs) [] = omega arith
-inside-le s (f ∷ fs) (l ∷ ls) = omega (arith, one-le s f l, inside-le s fs ls)
+inside_le s [] ls = omega arith
+inside_le s (f ∷ fs) [] = omega arith
+inside_le s (f ∷ fs) (l ∷ ls) = omega (arith, one-le s f l, inside_le s fs ls)
 
-inside-wider : (s t : Span) (fs ls : List ℕ) → Wider s t → inside s fs ls ≤ inside t fs ls
+inside_wider : (s t : Span) (fs ls : List ℕ) → Wider s t → inside s fs ls ≤ inside t fs ls
 unfolding inside
-inside-wider s t [] ls w = omega arith
-inside-wider s t (f ∷ fs) [] w = omega arith
-inside-wider s t (f ∷ fs) (l ∷ ls) w = omega (arith, one-wider s t f l w, inside-wider s t fs ls w)
+inside_wider s t [] ls w = omega arith
+inside_wider s t (f ∷ fs) [] w = omega arith
+inside_wider s t (f ∷ fs) (l ∷ ls) w = omega (arith, one_wider s t f l w, inside_wider s t fs ls w)
 
 -- one merge more, that the span takes no notice of
 beside : (s t : Span) (f l : ℕ) (fs ls : List ℕ) → Wider s t → (t ≡ s) ⊎ (inside s fs ls < inside t fs ls)
     → (t ≡ s) ⊎ (one s f l + inside s fs ls < one t f l + inside t fs ls)
 beside s t f l fs ls w (inl h) = inl h
-beside s t f l fs ls w (inr h) = inr (omega (arith, one-wider s t f l w))
+beside s t f l fs ls w (inr h) = inr (omega (arith, one_wider s t f l w))
 
-pub takes-in : (fs ls : List ℕ) (s : Span) → (pass fs ls s ≡ s) ⊎ (inside s fs ls < inside (pass fs ls s) fs ls)
+pub takes_in : (fs ls : List ℕ) (s : Span) → (pass fs ls s ≡ s) ⊎ (inside s fs ls < inside (pass fs ls s) fs ls)
 unfolding pass inside
-takes-in [] ls s = inl refl
-takes-in (f ∷ fs) [] s = inl refl
-takes-in (f ∷ fs) (l ∷ ls) s =
-    elim (step-of s f l) [
+takes_in [] ls s = inl refl
+takes_in (f ∷ fs) [] s = inl refl
+takes_in (f ∷ fs) (l ∷ ls) s =
+    elim (step_of s f l) [
       | stays e ↦
           subst (λ (x : Span). (pass fs ls x ≡ s) ⊎ (one s f l + inside s fs ls < one (pass fs ls x) f l + inside (pass fs ls x) fs ls)) (sym e)
-          (beside s (pass fs ls s) f l fs ls (pass-wider fs ls s) (takes-in fs ls s))
+          (beside s (pass fs ls s) f l fs ls (pass_wider fs ls s) (takes_in fs ls s))
       | grows w p q r ↦
-          let t = pass fs ls (widenTo s f l) in
-          let v = pass-wider fs ls (widenTo s f l) in
+          let t = pass fs ls (widen_to s f l) in
+          let v = pass_wider fs ls (widen_to s f l) in
           let u : Wider s t = record { down = omega arith; up = omega arith } in
-          inr (omega (arith, one-out s f l r, one-in t f l (omega arith) (omega arith), inside-wider s t fs ls u))
+          inr (omega (arith, one_out s f l r, one_in t f l (omega arith) (omega arith), inside_wider s t fs ls u))
     ]
 
 -- ---- until a pass changes nothing
 
-same-refl : (s : Span) → sameSpan s s ≡ true
-unfolding sameSpan
-same-refl s = rw (eq-eqb (s .first) (s .first) refl, eq-eqb (s .last) (s .last) refl)
+same_refl : (s : Span) → same_span s s ≡ true
+unfolding same_span
+same_refl s = rw (eq-eqb s.first s.first refl, eq-eqb s.last s.last refl)
 
-pub same-eq : (s t : Span) → sameSpan s t ≡ true → s ≡ t
-unfolding sameSpan
-same-eq s t h =
-    let b = both (eqb (s .first) (t .first)) (eqb (s .last) (t .last)) h in
-    ap₂ span (eqb-true (s .first) (t .first) (b .0)) (eqb-true (s .last) (t .last) (b .1))
+pub same_eq : (s t : Span) → same_span s t ≡ true → s ≡ t
+unfolding same_span
+same_eq s t h =
+    let b = both (eqb s.first t.first) (eqb s.last t.last) h in
+    ap₂ span (eqb-true s.first t.first b.0) (eqb-true s.last t.last b.1)
 
 module _ (fs ls : List ℕ) where
   -- a pass that changes takes in one merge more
   pub more : (s : Span) → still fs ls s ≡ false → inside s fs ls < inside (pass fs ls s) fs ls
   unfolding still
   more s h =
-      ⊎-elim (λ e. let z : true ≡ false = sym (same-refl s) ∙ (sym (ap (sameSpan s) e) ∙ h) in absurd (never z)) (λ p. p) (takes-in fs ls s)
+      ⊎_elim (λ e. let z : true ≡ false = sym (same_refl s) ∙ (sym (ap (same_span s) e) ∙ h) in absurd (never z)) (λ p. p) (takes_in fs ls s)
     where
       never : true ≡ false → ⊥
-      never e = let z : _≡_ {A = ℕ} 0 1 = cc in omega arith
+      never e = let z : ◌≡◌ {A = ℕ} 0 1 = cc in omega arith
 
-  pub passes-still : (k : ℕ) (s : Span) (n : ℕ) → still fs ls s ≡ true → passes fs ls k (still fs ls s) s n ≡ expandedTo s n
+  pub passes_still : (k : ℕ) (s : Span) (n : ℕ) → still fs ls s ≡ true → passes fs ls k (still fs ls s) s n ≡ expanded_to s n
   unfolding passes
-  passes-still zero s n h = refl
-  passes-still (suc k) s n h = rw h
+  passes_still zero s n h = refl
+  passes_still (suc k) s n h = rw h
 
-  pub passes-more : (k : ℕ) (s : Span) (n : ℕ) → 0 < k → still fs ls s ≡ false
+  pub passes_more : (k : ℕ) (s : Span) (n : ℕ) → 0 < k → still fs ls s ≡ false
       → passes fs ls k (still fs ls s) s n ≡ passes fs ls (k - 1) (still fs ls (pass fs ls s)) (pass fs ls s) (n + 1)
   unfolding passes
-  passes-more zero s n p h = absurd (omega arith)
-  passes-more (suc k) s n p h = let e : suc k - 1 ≡ k = omega arith in rw (h, e, add-one)
+  passes_more zero s n p h = absurd (omega arith)
+  passes_more (suc k) s n p h = let e : suc k - 1 ≡ k = omega arith in rw (h, e, add-one)
 
-  ends-still : (s : Span) (f l : ℕ) → still fs ls s ≡ true → Pair (s .first) (s .last) ≡ Pair f l → pass fs ls (span f l) ≡ span f l
+  ends_still : (s : Span) (f l : ℕ) → still fs ls s ≡ true → Pair s.first s.last ≡ Pair f l → pass fs ls (span f l) ≡ span f l
   unfolding still
-  ends-still s f l h t =
-      let p : s .first ≡ f = cc in
-      let q : s .last ≡ l = cc in
+  ends_still s f l h t =
+      let p : s.first ≡ f = cc in
+      let q : s.last ≡ l = cc in
       let e : s ≡ span f l = ap₂ span p q in
-      sym (same-eq (span f l) (pass fs ls (span f l)) (subst (λ (x : Span). sameSpan x (pass fs ls x) ≡ true) e h))
+      sym (same_eq (span f l) (pass fs ls (span f l)) (subst (λ (x : Span). same_span x (pass fs ls x) ≡ true) e h))
 
   -- where the bound is no less than the merges outside the span, a pass over the result changes nothing
   settles : (k : ℕ) (b : Bool) (s : Span) (n f l : ℕ) → still fs ls s ≡ b → length fs ≤ k + inside s fs ls
-      → passes fs ls k b s n .title ≡ Pair f l → pass fs ls (span f l) ≡ span f l
+      → (passes fs ls k b s n).title ≡ Pair f l → pass fs ls (span f l) ≡ span f l
   unfolding passes
-  settles zero true s n f l e h t = ends-still s f l e t
-  settles zero false s n f l e h t = absurd (omega (arith, more s e, inside-le (pass fs ls s) fs ls))
-  settles (suc k) true s n f l e h t = ends-still s f l e t
+  settles zero true s n f l e h t = ends_still s f l e t
+  settles zero false s n f l e h t = absurd (omega (arith, more s e, inside_le (pass fs ls s) fs ls))
+  settles (suc k) true s n f l e h t = ends_still s f l e t
   settles (suc k) false s n f l e h t = settles k (still fs ls (pass fs ls s)) (pass fs ls s) (suc n) f l refl (omega (arith, more s e)) t
 
   -- so the bound cuts nothing off: "passes repeat until one changes nothing"
-  pub settled : (f l g m : ℕ) → expand fs ls f l .title ≡ Pair g m → pass fs ls (span g m) ≡ span g m
+  pub settled : (f l g m : ℕ) → (expand fs ls f l).title ≡ Pair g m → pass fs ls (span g m) ≡ span g m
   unfolding expand
   settled f l g m t = settles (length fs) (still fs ls (span f l)) (span f l) 0 g m refl (omega arith) t
 
   -- ---- the outer loop: after a pass from s to t, by what `same_span` said of the two
 
   module _ (s t : Span) (e : t ≡ pass fs ls s) where
-    pub still-of : (r b : Bool) → r ≡ sameSpan s t → r ≡ b → still fs ls s ≡ b
+    pub still_of : (r b : Bool) → r ≡ same_span s t → r ≡ b → still fs ls s ≡ b
     unfolding still
-    still-of r b p q = rw (← e, ← p) q
+    still_of r b p q = rw (← e, ← p) q
 
-    pub turn-count : (n : ℕ) → still fs ls s ≡ false → n ≤ inside s fs ls → n + 1 ≤ inside t fs ls
-    turn-count n h p = rw e (omega (arith, more s h))
+    pub turn_count : (n : ℕ) → still fs ls s ≡ false → n ≤ inside s fs ls → n + 1 ≤ inside t fs ls
+    turn_count n h p = rw e (omega (arith, more s h))
 
-    pub turn-less : still fs ls s ≡ false → length fs - inside t fs ls < length fs - inside s fs ls
-    turn-less h = rw e (omega (arith, more s h, inside-le (pass fs ls s) fs ls))
+    pub turn_less : still fs ls s ≡ false → length fs - inside t fs ls < length fs - inside s fs ls
+    turn_less h = rw e (omega (arith, more s h, inside_le (pass fs ls s) fs ls))
 
-    pub turn-passes : (n : ℕ) → still fs ls s ≡ false → n ≤ inside s fs ls
+    pub turn_passes : (n : ℕ) → still fs ls s ≡ false → n ≤ inside s fs ls
         → passes fs ls (length fs - (n + 1)) (still fs ls t) t (n + 1) ≡ passes fs ls (length fs - n) (still fs ls s) s n
-    turn-passes n h p =
+    turn_passes n h p =
         let z : length fs - (n + 1) ≡ (length fs - n) - 1 = omega arith in
-        let k : 0 < length fs - n = omega (arith, more s h, inside-le (pass fs ls s) fs ls) in
-        rw (e, z) (sym (passes-more (length fs - n) s n k h))
+        let k : 0 < length fs - n = omega (arith, more s h, inside_le (pass fs ls s) fs ls) in
+        rw (e, z) (sym (passes_more (length fs - n) s n k h))
 
-    pub turn-ends : (k n : ℕ) → still fs ls s ≡ true → expandedTo t n ≡ passes fs ls k (still fs ls s) s n
+    pub turn_ends : (k n : ℕ) → still fs ls s ≡ true → expanded_to t n ≡ passes fs ls k (still fs ls s) s n
     unfolding still
-    turn-ends k n h =
-        ap (λ (x : Span). expandedTo x n) (e ∙ sym (same-eq s (pass fs ls s) h)) ∙ sym (passes-still k s n h)
+    turn_ends k n h =
+        ap (λ (x : Span). expanded_to x n) (e ∙ sym (same_eq s (pass fs ls s) h)) ∙ sym (passes_still k s n h)
 
 -- ---- the title's total
 
 module _ (title : Title) (f l : ℕ) (is ss : List ℕ) (h : title ≡ Pair f l) (a e : ℕ) (p : a ≡ below f is) (q : e ≡ below (l + 1) is) where
-  pub total-some : sum (mid a e ss) ≡ titleTotal title is ss
-  unfolding titleTotal
-  total-some = rw (h, p, q)
+  pub total_some : sum (mid a e ss) ≡ title_total title is ss
+  unfolding title_total
+  total_some = rw (h, p, q)
 
-  pub total-none : e ≤ a → 0 ≡ titleTotal title is ss
-  unfolding titleTotal sum
-  total-none k = let z : e - a ≡ 0 = omega arith in rw (h, ← p, ← q, z)
+  pub total_none : e ≤ a → 0 ≡ title_total title is ss
+  unfolding title_total sum
+  total_none k = let z : e - a ≡ 0 = omega arith in rw (h, ← p, ← q, z)
 
 -- ---- what a widened title is
 
-widenTo-within : (limit : ℕ) (s : Span) (f l : ℕ) → s .last ≤ limit → l ≤ limit → widenTo s f l .last ≤ limit
-unfolding widenTo
-widenTo-within limit s f l h k =
-    either (λ (t : Span). t .last ≤ limit) (leb f (s .last) && leb (s .first) l) (omega arith) h
+widen_to-within : (limit : ℕ) (s : Span) (f l : ℕ) → s.last ≤ limit → l ≤ limit → (widen_to s f l).last ≤ limit
+unfolding widen_to
+widen_to-within limit s f l h k =
+    either (λ (t : Span). t.last ≤ limit) (leb f s.last && leb s.first l) (omega arith) h
 
-pass-within : (limit : ℕ) (fs ls : List ℕ) (s : Span) → allWithin limit ls ≡ true → s .last ≤ limit → pass fs ls s .last ≤ limit
-unfolding pass allWithin
+pass-within : (limit : ℕ) (fs ls : List ℕ) (s : Span) → all_within limit ls ≡ true → s.last ≤ limit → (pass fs ls s).last ≤ limit
+unfolding pass all_within
 pass-within limit [] ls s h k = k
 pass-within limit (f ∷ fs) [] s h k = k
 pass-within limit (f ∷ fs) (l ∷ ls) s h k =
-    let b = both (leb l limit) (allWithin limit ls) h in
-    pass-within limit fs ls (widenTo s f l) (b .1) (widenTo-within limit s f l k (leb-true l limit (b .0)))
+    let b = both (leb l limit) (all_within limit ls) h in
+    pass-within limit fs ls (widen_to s f l) b.1 (widen_to-within limit s f l k (leb-true l limit b.0))
 
-module _ (limit : ℕ) (fs ls : List ℕ) (h : allWithin limit ls ≡ true) where
-  passes-reach : (k : ℕ) (b : Bool) (s : Span) (n g m : ℕ) → s .last ≤ limit → passes fs ls k b s n .title ≡ Pair g m
-      → (g ≤ s .first) × (s .last ≤ m) × (m ≤ limit)
+module _ (limit : ℕ) (fs ls : List ℕ) (h : all_within limit ls ≡ true) where
+  passes_reach : (k : ℕ) (b : Bool) (s : Span) (n g m : ℕ) → s.last ≤ limit → (passes fs ls k b s n).title ≡ Pair g m
+      → (g ≤ s.first) × (s.last ≤ m) × (m ≤ limit)
   unfolding passes
-  passes-reach zero b s n g m p t = reach s p t
+  passes_reach zero b s n g m p t = reach s p t
     where
-      reach : (s : Span) → s .last ≤ limit → Pair (s .first) (s .last) ≡ Pair g m → (g ≤ s .first) × (s .last ≤ m) × (m ≤ limit)
-      reach s p t = let a : s .first ≡ g = cc in let e : s .last ≡ m = cc in omega arith
-  passes-reach (suc k) true s n g m p t =
-      let a : s .first ≡ g = cc in
-      let e : s .last ≡ m = cc in
+      reach : (s : Span) → s.last ≤ limit → Pair s.first s.last ≡ Pair g m → (g ≤ s.first) × (s.last ≤ m) × (m ≤ limit)
+      reach s p t = let a : s.first ≡ g = cc in let e : s.last ≡ m = cc in omega arith
+  passes_reach (suc k) true s n g m p t =
+      let a : s.first ≡ g = cc in
+      let e : s.last ≡ m = cc in
       omega arith
-  passes-reach (suc k) false s n g m p t =
-      let w = pass-wider fs ls s in
-      let r = passes-reach k (still fs ls (pass fs ls s)) (pass fs ls s) (suc n) g m (pass-within limit fs ls s h p) t in
+  passes_reach (suc k) false s n g m p t =
+      let w = pass_wider fs ls s in
+      let r = passes_reach k (still fs ls (pass fs ls s)) (pass fs ls s) (suc n) g m (pass-within limit fs ls s h p) t in
       omega arith
 
   -- it reaches as far as the title did, and not beyond the limit
-  pub expand-reach : (f l g m : ℕ) → l ≤ limit → expand fs ls f l .title ≡ Pair g m → (g ≤ f) × (l ≤ m) × (m ≤ limit)
+  pub expand_reach : (f l g m : ℕ) → l ≤ limit → (expand fs ls f l).title ≡ Pair g m → (g ≤ f) × (l ≤ m) × (m ≤ limit)
   unfolding expand
-  expand-reach f l g m p t = passes-reach (length fs) (still fs ls (span f l)) (span f l) 0 g m p t
+  expand_reach f l g m p t = passes_reach (length fs) (still fs ls (span f l)) (span f l) 0 g m p t
 
-  normal-pair : (title : Title) (f l : ℕ) → normalized limit title .title ≡ Pair f l → (f ≤ l) × (l ≤ limit)
+  normal_pair : (title : Title) (f l : ℕ) → (normalized limit title).title ≡ Pair f l → (f ≤ l) × (l ≤ limit)
   unfolding normalized
-  normal-pair Absent f l t = let z : _≡_ {A = ℕ} 0 1 = cc in absurd (omega arith)
-  normal-pair (Pair a b) f l t = go (leb a b) (leb b limit) refl refl t
+  normal_pair Absent f l t = let z : ◌≡◌ {A = ℕ} 0 1 = cc in absurd (omega arith)
+  normal_pair (Pair a b) f l t = go (leb a b) (leb b limit) refl refl t
     where
       kept : Normalized
       kept = record { title = Pair a b; ignored = 0 }
 
-      go : (x y : Bool) → leb a b ≡ x → leb b limit ≡ y → cond (x && y) kept (record { title = Absent; ignored = 1 }) .title ≡ Pair f l → (f ≤ l)
+      go : (x y : Bool) → leb a b ≡ x → leb b limit ≡ y → (cond (x && y) kept (record { title = Absent; ignored = 1 })).title ≡ Pair f l → (f ≤ l)
           × (l ≤ limit)
-      go true true p q t = let e : a ≡ f = cc in let e′ : b ≡ l = cc in omega (arith, leb-true a b p, leb-true b limit q)
-      go true false p q t = let z : _≡_ {A = ℕ} 0 1 = cc in absurd (omega arith)
-      go false y p q t = let z : _≡_ {A = ℕ} 0 1 = cc in absurd (omega arith)
+      go true true p q t = let e : a ≡ f = cc in let e' : b ≡ l = cc in omega (arith, leb-true a b p, leb-true b limit q)
+      go true false p q t = let z : ◌≡◌ {A = ℕ} 0 1 = cc in absurd (omega arith)
+      go false y p q t = let z : ◌≡◌ {A = ℕ} 0 1 = cc in absurd (omega arith)
 
   -- a widened title is in order and within the limit
-  pub widened-pair : (title : Title) (g m : ℕ) → widened limit title fs ls .title ≡ Pair g m → (g ≤ m) × (m ≤ limit)
-  unfolding widened widenedFrom
-  widened-pair title g m t = go (normalized limit title .title) (normal-pair title) t
+  pub widened_pair : (title : Title) (g m : ℕ) → (widened limit title fs ls).title ≡ Pair g m → (g ≤ m) × (m ≤ limit)
+  unfolding widened widened_from
+  widened_pair title g m t = go (normalized limit title).title (normal_pair title) t
     where
-      go : (x : Title) → ((f l : ℕ) → x ≡ Pair f l → (f ≤ l) × (l ≤ limit)) → widenedFrom fs ls x (normalized limit title .ignored) .title ≡ Pair g m
+      go : (x : Title) → ((f l : ℕ) → x ≡ Pair f l → (f ≤ l) × (l ≤ limit)) → (widened_from fs ls x (normalized limit title).ignored).title ≡ Pair g m
           → (g ≤ m) × (m ≤ limit)
-      go Absent p t = let z : _≡_ {A = ℕ} 0 1 = cc in absurd (omega arith)
-      go (Pair f l) p t = omega (arith, p f l refl, expand-reach f l g m (p f l refl .1) t)
+      go Absent p t = let z : ◌≡◌ {A = ℕ} 0 1 = cc in absurd (omega arith)
+      go (Pair f l) p t = omega (arith, p f l refl, expand_reach f l g m (p f l refl).1 t)
 
-met-widens : (s : Span) (f l : ℕ) → f ≤ s .last → s .first ≤ l → (widenTo s f l .first ≤ f) × (l ≤ widenTo s f l .last)
-unfolding widenTo
-met-widens s f l a b = rw (le-leb f (s .last), le-leb (s .first) l) (omega arith)
+met_widens : (s : Span) (f l : ℕ) → f ≤ s.last → s.first ≤ l → ((widen_to s f l).first ≤ f) × (l ≤ (widen_to s f l).last)
+unfolding widen_to
+met_widens s f l a b = rw (le-leb f s.last, le-leb s.first l) (omega arith)
 
 -- a pass that changes nothing changes nothing at its first merge
-later : (s : Span) (f l : ℕ) (fs ls : List ℕ) → pass fs ls (widenTo s f l) ≡ s → pass fs ls s ≡ s
+later : (s : Span) (f l : ℕ) (fs ls : List ℕ) → pass fs ls (widen_to s f l) ≡ s → pass fs ls s ≡ s
 later s f l fs ls e =
-    let w = widenTo-wider s f l in
-    let v = subst (Wider (widenTo s f l)) e (pass-wider fs ls (widenTo s f l)) in
-    let p : widenTo s f l .first ≡ s .first = omega arith in
-    let q : widenTo s f l .last ≡ s .last = omega arith in
-    let z : widenTo s f l ≡ s = ap₂ span p q in
+    let w = widen_to_wider s f l in
+    let v = subst (Wider (widen_to s f l)) e (pass_wider fs ls (widen_to s f l)) in
+    let p : (widen_to s f l).first ≡ s.first = omega arith in
+    let q : (widen_to s f l).last ≡ s.last = omega arith in
+    let z : widen_to s f l ≡ s = ap₂ span p q in
     subst (λ (x : Span). pass fs ls x ≡ s) z e
 
 -- where a pass changes nothing, a merge that meets the span lies within it: no merge crosses an edge of a widened title
-pub meets-within : (fs ls : List ℕ) (s : Span) → pass fs ls s ≡ s → (k : ℕ) → k < length fs → k < length ls
-    → getD fs k 0 ≤ s .last → s .first ≤ getD ls k 0 → (s .first ≤ getD fs k 0) × (getD ls k 0 ≤ s .last)
+pub meets_within : (fs ls : List ℕ) (s : Span) → pass fs ls s ≡ s → (k : ℕ) → k < length fs → k < length ls
+    → get_or fs k 0 ≤ s.last → s.first ≤ get_or ls k 0 → (s.first ≤ get_or fs k 0) × (get_or ls k 0 ≤ s.last)
 unfolding pass
-meets-within [] ls s e k p q a b = absurd (omega arith)
-meets-within (f ∷ fs) [] s e k p q a b = absurd (omega arith)
-meets-within (f ∷ fs) (l ∷ ls) s e zero p q a b =
-    let w = subst (Wider (widenTo s f l)) e (pass-wider fs ls (widenTo s f l)) in
-    let m = met-widens s f l a b in
+meets_within [] ls s e k p q a b = absurd (omega arith)
+meets_within (f ∷ fs) [] s e k p q a b = absurd (omega arith)
+meets_within (f ∷ fs) (l ∷ ls) s e zero p q a b =
+    let w = subst (Wider (widen_to s f l)) e (pass_wider fs ls (widen_to s f l)) in
+    let m = met_widens s f l a b in
     omega arith
-meets-within (f ∷ fs) (l ∷ ls) s e (suc k) p q a b = meets-within fs ls s (later s f l fs ls e) k (omega arith) (omega arith) a b
+meets_within (f ∷ fs) (l ∷ ls) s e (suc k) p q a b = meets_within fs ls s (later s f l fs ls e) k (omega arith) (omega arith) a b
 
 -- ---- bounds on what a title gives
 
 -- no more notes than merges, and at most one for an ignored title
 module _ (fs ls : List ℕ) where
-  passes-notes : (k : ℕ) (b : Bool) (s : Span) (n : ℕ) → passes fs ls k b s n .expanded ≤ n + k
+  passes_notes : (k : ℕ) (b : Bool) (s : Span) (n : ℕ) → (passes fs ls k b s n).expanded ≤ n + k
   unfolding passes
-  passes-notes zero b s n = omega arith
-  passes-notes (suc k) true s n = omega arith
-  passes-notes (suc k) false s n = omega (arith, passes-notes k (still fs ls (pass fs ls s)) (pass fs ls s) (suc n))
+  passes_notes zero b s n = omega arith
+  passes_notes (suc k) true s n = omega arith
+  passes_notes (suc k) false s n = omega (arith, passes_notes k (still fs ls (pass fs ls s)) (pass fs ls s) (suc n))
 
-  pub expanded-le : (limit : ℕ) (title : Title) → widened limit title fs ls .expanded ≤ length fs
-  unfolding widened widenedFrom expand
-  expanded-le limit title = go (normalized limit title .title) (normalized limit title .ignored)
+  pub expanded_le : (limit : ℕ) (title : Title) → (widened limit title fs ls).expanded ≤ length fs
+  unfolding widened widened_from expand
+  expanded_le limit title = go (normalized limit title).title (normalized limit title).ignored
     where
-      go : (t : Title) (n : ℕ) → widenedFrom fs ls t n .expanded ≤ length fs
+      go : (t : Title) (n : ℕ) → (widened_from fs ls t n).expanded ≤ length fs
       go Absent n = omega arith
-      go (Pair f l) n = omega (arith, passes-notes (length fs) (still fs ls (span f l)) (span f l) 0)
+      go (Pair f l) n = omega (arith, passes_notes (length fs) (still fs ls (span f l)) (span f l) 0)
 
-  pub ignored-le : (limit : ℕ) (title : Title) → widened limit title fs ls .ignored ≤ 1
-  unfolding widened widenedFrom normalized
-  ignored-le limit title = go (normalized limit title .title) (normalized limit title .ignored) (normal title)
+  pub ignored_le : (limit : ℕ) (title : Title) → (widened limit title fs ls).ignored ≤ 1
+  unfolding widened widened_from normalized
+  ignored_le limit title = go (normalized limit title).title (normalized limit title).ignored (normal title)
     where
-      go : (t : Title) (n : ℕ) → n ≤ 1 → widenedFrom fs ls t n .ignored ≤ 1
+      go : (t : Title) (n : ℕ) → n ≤ 1 → (widened_from fs ls t n).ignored ≤ 1
       go Absent n h = h
       go (Pair f l) n h = h
 
-      normal : (title : Title) → normalized limit title .ignored ≤ 1
+      normal : (title : Title) → (normalized limit title).ignored ≤ 1
       normal Absent = omega arith
-      normal (Pair f l) = either (λ (x : Normalized). x .ignored ≤ 1) (leb f l && leb l limit) (omega arith) (omega arith)
+      normal (Pair f l) = either (λ (x : Normalized). x.ignored ≤ 1) (leb f l && leb l limit) (omega arith) (omega arith)
 
 -- and no later than after the limit
-pub body-start-le : (limit : ℕ) (title : Title) (first : ℕ) → first ≤ limit → ((f l : ℕ) → title ≡ Pair f l → l ≤ limit) → bodyStart title first ≤ limit + 1
-unfolding bodyStart
-body-start-le limit Absent first h k = omega arith
-body-start-le limit (Pair f l) first h k =
+pub body_start_le : (limit : ℕ) (title : Title) (first : ℕ) → first ≤ limit → ((f l : ℕ) → title ≡ Pair f l → l ≤ limit) → body_start title first ≤ limit + 1
+unfolding body_start
+body_start_le limit Absent first h k = omega arith
+body_start_le limit (Pair f l) first h k =
     either (λ (n : ℕ). n ≤ limit + 1) (leb f first && leb first l) (omega (arith, k f l refl)) (omega arith)
 
-sum-each : (l : List ℕ) → ((k : ℕ) → getD l k 0 < 2 ^ 30) → sum l ≤ 1073741824 * length l
+sum_each : (l : List ℕ) → ((k : ℕ) → get_or l k 0 < 2 ^ 30) → sum l ≤ 1073741824 * length l
 unfolding sum
-sum-each [] h = omega arith
-sum-each (x ∷ l) h = omega (arith, h 0, sum-each l (λ k. h (suc k)))
+sum_each [] h = omega arith
+sum_each (x ∷ l) h = omega (arith, h 0, sum_each l (λ k. h (suc k)))
 
 pub small-sum : (l : List ℕ) → Small l → sum l ≤ 2 ^ 50
-small-sum l s = omega (arith, sum-each l (s .each), s .few)
+small-sum l s = omega (arith, sum_each l s.each, s.few)
 
-pub title-total-le : (title : Title) (is ss : List ℕ) → Slots is ss → titleTotal title is ss ≤ 2 ^ 50
-unfolding titleTotal
-title-total-le Absent is ss s = omega arith
-title-total-le (Pair f l) is ss s =
-    let e : below (l + 1) is ≤ length ss = omega (arith, below-le (l + 1) is, s .even) in
-    small-sum (mid (below f is) (below (l + 1) is) ss) (slots-mid (below f is) (below (l + 1) is) is ss e s .small)
+pub title_total_le : (title : Title) (is ss : List ℕ) → Slots is ss → title_total title is ss ≤ 2 ^ 50
+unfolding title_total
+title_total_le Absent is ss s = omega arith
+title_total_le (Pair f l) is ss s =
+    let e : below (l + 1) is ≤ length ss = omega (arith, below-le (l + 1) is, s.even) in
+    small-sum (mid (below f is) (below (l + 1) is) ss) (slots_mid (below f is) (below (l + 1) is) is ss e s).small

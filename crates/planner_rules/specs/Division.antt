@@ -1,17 +1,11 @@
 -- The words of demand 3 (document 01, "Scale", from "For demand 3" on, and "Pages"), over plain lists of numbers: a division is its runs'
 -- numbers of slots, in order. Nothing here says how runs are found. Assumes nothing.
-use mathlib.Core.Path.{_≡_}
-use mathlib.Core.Logic.{_⊎_}
-use mathlib.Core.Bool.{cond, _&&_}
-use mathlib.Core.List.{List, [], _∷_, map}
-use Prim.Native.Nat.{ℕ, _+_, _-_, _≤_, _<_}
-use lib.ListN.{length, getD, take, drop}
-use lib.Dec.{ltb}
-use Rattle·planner_rules·specs.specs.Slots.{sum, below}
+use Rattle.std.specs.Prelude.{◌≡◌, ◌⊎◌, cond, ◌&&◌, List, [], ◌∷◌, map, ℕ, ◌+◌, ◌-◌, ◌≤◌, ◌<◌, length, get_or, take, drop, ltb}
+use Rattle.planner_rules.specs.Slots.{sum, below}
 
-infix 40 _∈_
+infix 40 ◌∈◌
 -- x is one of the list
-abbrev pub _∈_ : {A : Type 0} → A → List A → Type 0
+abbrev pub ◌∈◌ : {A : Type 0} → A → List A → Type 0
 x ∈ [] = ⊥
 x ∈ (y ∷ ys) = (x ≡ y) ⊎ (x ∈ ys)
 
@@ -23,13 +17,13 @@ pub record Division (n : ℕ) (ns : List ℕ) : Type 0 where
   pub whole : sum ns ≡ n
 
 -- the places where runs of ns slots start, the first of them at p
-unfoldable pub startsFrom : ℕ → List ℕ → List ℕ
-startsFrom p [] = []
-startsFrom p (n ∷ ns) = p ∷ startsFrom (p + n) ns
+unfoldable pub starts_from : ℕ → List ℕ → List ℕ
+starts_from p [] = []
+starts_from p (n ∷ ns) = p ∷ starts_from (p + n) ns
 
 -- "It cuts at a break when a run starts at the break's position": at each of the places a run starts
 abbrev pub CutsAt : List ℕ → List ℕ → Type 0
-CutsAt places ns = (b : ℕ) → b ∈ places → b ∈ startsFrom 0 ns
+CutsAt places ns = (b : ℕ) → b ∈ places → b ∈ starts_from 0 ns
 
 -- what each run has of a list that is as long as the slots: the first n, then the next
 unfoldable pub pieces : {A : Type 0} → List ℕ → List A → List (List A)
@@ -44,34 +38,34 @@ Within cap sizes ns = (run : List ℕ) → run ∈ pieces ns sizes → 2 ≤ len
 -- fewer runs"
 pub record Fewest (cap : ℕ) (cuts sizes ns : List ℕ) : Type 0 where
   pub division : Division (length sizes) ns
-  pub cuts-at-kept : CutsAt cuts ns
-  pub within-capacity : Within cap sizes ns
-  pub none-fewer : (ms : List ℕ) → Division (length sizes) ms → CutsAt cuts ms → Within cap sizes ms → length ns ≤ length ms
+  pub cuts_at_kept : CutsAt cuts ns
+  pub within_capacity : Within cap sizes ns
+  pub none_fewer : (ms : List ℕ) → Division (length sizes) ms → CutsAt cuts ms → Within cap sizes ms → length ns ≤ length ms
 
 -- the kept manual breaks, where there are no merges and no title: "position = first slot not below the break"; a position past the last kept
 -- one and before the end is kept
-unfoldable pub keptBreaks : List ℕ → ℕ → List ℕ → List ℕ
-keptBreaks is prev [] = []
-keptBreaks is prev (b ∷ bs) =
+unfoldable pub kept_breaks : List ℕ → ℕ → List ℕ → List ℕ
+kept_breaks is prev [] = []
+kept_breaks is prev (b ∷ bs) =
     let p = below b is in
-    let with = p ∷ keptBreaks is p bs in
-    let without = keptBreaks is prev bs in
+    let with = p ∷ kept_breaks is p bs in
+    let without = kept_breaks is prev bs in
     cond (ltb prev p && ltb p (length is)) with without
 
 -- ---- runs
 
 -- the first and the last of some
-abbrev pub firstOf : List ℕ → ℕ
-firstOf xs = getD xs 0 0
+abbrev pub first_of : List ℕ → ℕ
+first_of xs = get_or xs 0 0
 
-abbrev pub lastOf : List ℕ → ℕ
-lastOf xs = getD xs (length xs - 1) 0
+abbrev pub last_of : List ℕ → ℕ
+last_of xs = get_or xs (length xs - 1) 0
 
 -- of runs of ns slots: first, last and size are the first index, the last index and the sum of sizes of what the run has
 pub record Tells (indexes sizes ns firsts lasts totals : List ℕ) : Type 0 where
-  pub firsts-are : firsts ≡ map firstOf (pieces ns indexes)
-  pub lasts-are : lasts ≡ map lastOf (pieces ns indexes)
-  pub totals-are : totals ≡ map sum (pieces ns sizes)
+  pub firsts_are : firsts ≡ map first_of (pieces ns indexes)
+  pub lasts_are : lasts ≡ map last_of (pieces ns indexes)
+  pub totals_are : totals ≡ map sum (pieces ns sizes)
 
 -- runs that firsts, lasts and totals tell are such a division
 pub record FewestRuns (cap : ℕ) (cuts indexes sizes firsts lasts totals : List ℕ) : Type 0 where
@@ -85,16 +79,16 @@ MarkedAt cuts p mark = ((mark ≡ 1) × (p ∈ cuts)) ⊎ ((mark ≡ 0) × ¬ (p
 
 -- so of each run of ns slots
 pub record MarksKept (cuts ns marks : List ℕ) : Type 0 where
-  pub as-many : length marks ≡ length ns
-  pub each : (r : ℕ) → r < length ns → MarkedAt cuts (getD (startsFrom 0 ns) r 0) (getD marks r 0)
+  pub as_many : length marks ≡ length ns
+  pub each : (r : ℕ) → r < length ns → MarkedAt cuts (get_or (starts_from 0 ns) r 0) (get_or marks r 0)
 
 -- ---- covering
 
 -- the index lies in run number r: "from first to last"
 pub record LiesIn (firsts lasts : List ℕ) (index r : ℕ) : Type 0 where
   pub there : r < length firsts
-  pub not-before : getD firsts r 0 ≤ index
-  pub not-after : index ≤ getD lasts r 0
+  pub not_before : get_or firsts r 0 ≤ index
+  pub not_after : index ≤ get_or lasts r 0
 
 -- it lies in exactly one run
 pub record InOneRun (firsts lasts : List ℕ) (index : ℕ) : Type 0 where
@@ -104,4 +98,4 @@ pub record InOneRun (firsts lasts : List ℕ) (index : ℕ) : Type 0 where
 
 -- each slot's index does
 abbrev pub Covered : List ℕ → List ℕ → List ℕ → Type 0
-Covered indexes firsts lasts = (j : ℕ) → j < length indexes → InOneRun firsts lasts (getD indexes j 0)
+Covered indexes firsts lasts = (j : ℕ) → j < length indexes → InOneRun firsts lasts (get_or indexes j 0)

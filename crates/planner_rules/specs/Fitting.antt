@@ -1,12 +1,8 @@
 -- The words of demand 3 on the fit scale (document 01, "Scale", from "For demand 3" on), over plain numbers and lists. Nothing here says
 -- how runs are found or how a permille is searched. Assumes nothing.
-use mathlib.Core.Path.{_≡_}
-use mathlib.Core.Logic.{_⊎_}
-use mathlib.Core.List.{List}
-use Prim.Native.Nat.{ℕ, _+_, _*_, _/_, _≤_}
-use lib.ListN.{length}
-use Rattle·planner_rules·specs.specs.Slots.{sum}
-use Rattle·planner_rules·specs.specs.Division.{_∈_, Division, pieces}
+use Rattle.std.specs.Prelude.{◌≡◌, ◌⊎◌, List, ℕ, ◌+◌, ◌*◌, ◌/◌, ◌≤◌, length}
+use Rattle.planner_rules.specs.Slots.{sum}
+use Rattle.planner_rules.specs.Division.{◌∈◌, Division, pieces}
 
 -- "size plus headings, scaled and rounded, is at most the side"
 abbrev pub RoundedFits : ℕ → ℕ → ℕ → ℕ → Type 0
@@ -30,20 +26,20 @@ pub record Reaches (side headings target : ℕ) (sizes : List ℕ) (permille : �
 
 -- r is the largest number from low to high of which P holds
 pub record Largest (P : ℕ → Type 0) (low high r : ℕ) : Type 0 where
-  pub not-below : low ≤ r
-  pub not-above : r ≤ high
+  pub not_below : low ≤ r
+  pub not_above : r ≤ high
   pub holds : P r
-  pub none-larger : (q : ℕ) → q ≤ high → P q → q ≤ r
+  pub none_larger : (q : ℕ) → q ≤ high → P q → q ≤ r
 
 -- 100 is a permille at which P holds: "the largest permille from 100 to 1,000 was taken at which" it does, and nothing was noted
 pub record Reached (P : ℕ → Type 0) (permille unreachable : ℕ) : Type 0 where
-  pub at-100 : P 100
+  pub at_100 : P 100
   pub largest : Largest P 100 1000 permille
   pub unnoted : unreachable ≡ 0
 
 -- "'unreachable' was noted, once, exactly if 100 is no such permille, and then 100 was taken"
 pub record Missed (P : ℕ → Type 0) (permille unreachable : ℕ) : Type 0 where
-  pub not-at-100 : ¬ (P 100)
+  pub not_at_100 : ¬ (P 100)
   pub taken : permille ≡ 100
   pub noted : unreachable ≡ 1
 

@@ -1,11 +1,7 @@
 -- Document 01, section "Questions in order": 6 to 9 as they are put to lists, and what a "no" does. Assumes nothing.
-use mathlib.Core.Bool.{Bool, true, false, _&&_}
-use mathlib.Core.List.{List, [], _∷_}
-use Prim.Native.Nat.{ℕ}
-use lib.Dec.{leb, ltb, eqb}
-use lib.ListN.{length}
-use Rattle·units.specs.Grid.{largestSize}
-use Rattle·units.specs.Outcome.{Outcome, refused}
+use Rattle.std.specs.Prelude.{Bool, true, false, ◌&&◌, List, [], ◌∷◌, ℕ, leb, ltb, eqb, length}
+use Rattle.units.specs.Grid.{largest_size}
+use Rattle.units.specs.Outcome.{Outcome, refused}
 
 -- "A "no" returns the number": a question by its number and its answer, before what comes after it
 abbrev pub ask : {A : Type 0} → ℕ → Bool → Outcome A → Outcome A
@@ -13,29 +9,29 @@ ask n true rest = rest
 ask n false rest = refused n
 
 -- the number of a question whose answer is no, or the number that comes after it (for the private functions)
-abbrev pub noOr : ℕ → Bool → ℕ → ℕ
-noOr n true rest = rest
-noOr n false rest = n
+abbrev pub no_or : ℕ → Bool → ℕ → ℕ
+no_or n true rest = rest
+no_or n false rest = n
 
 -- 6: "Slices that make up one list equally long"
-abbrev pub equallyLong : List ℕ → List ℕ → Bool
-equallyLong xs ys = eqb (length xs) (length ys)
+abbrev pub equally_long : List ℕ → List ℕ → Bool
+equally_long xs ys = eqb (length xs) (length ys)
 
 -- 6: "firsts not above lasts in .. every MR"
-unfoldable pub allOrdered : List ℕ → List ℕ → Bool
-allOrdered [] ls = true
-allOrdered (f ∷ fs) [] = true
-allOrdered (f ∷ fs) (l ∷ ls) = leb f l && allOrdered fs ls
+unfoldable pub all_ordered : List ℕ → List ℕ → Bool
+all_ordered [] ls = true
+all_ordered (f ∷ fs) [] = true
+all_ordered (f ∷ fs) (l ∷ ls) = leb f l && all_ordered fs ls
 
 -- 6 of an axis, whose range is from first to last: "Slices that make up one list equally long, and firsts not above lasts in AR and every
 -- MR"
-abbrev pub wellFormed : ℕ → ℕ → List ℕ → List ℕ → List ℕ → List ℕ → Bool
-wellFormed first last is ss fs ls = equallyLong is ss && equallyLong fs ls && leb first last && allOrdered fs ls
+abbrev pub well_formed : ℕ → ℕ → List ℕ → List ℕ → List ℕ → List ℕ → Bool
+well_formed first last is ss fs ls = equally_long is ss && equally_long fs ls && leb first last && all_ordered fs ls
 
 -- 7: "every MR inside the grid", whose last index is the limit
-unfoldable pub allWithin : ℕ → List ℕ → Bool
-allWithin limit [] = true
-allWithin limit (l ∷ ls) = leb l limit && allWithin limit ls
+unfoldable pub all_within : ℕ → List ℕ → Bool
+all_within limit [] = true
+all_within limit (l ∷ ls) = leb l limit && all_within limit ls
 
 -- 8: "Slot indexes strictly rising": each is below the next
 unfoldable pub rising : List ℕ → Bool
@@ -44,9 +40,9 @@ rising (i ∷ []) = true
 rising (i ∷ (j ∷ is)) = ltb i j && rising (j ∷ is)
 
 -- 8: "strictly rising and inside the grid"
-unfoldable pub risingWithin : ℕ → List ℕ → Bool
-risingWithin limit is = rising is && allWithin limit is
+unfoldable pub rising_within : ℕ → List ℕ → Bool
+rising_within limit is = rising is && all_within limit is
 
 -- 9: "Sizes 0 to 1,073,741,823"
-unfoldable pub allSmall : List ℕ → Bool
-allSmall ss = allWithin largestSize ss
+unfoldable pub all_small : List ℕ → Bool
+all_small ss = all_within largest_size ss

@@ -1,20 +1,16 @@
 -- Document 01, section "Runs". Everything is said of the slots from a run's first on: is are their indexes, ss their sizes, n how many
 -- the run has so far. Merges are two lists side by side: firsts and lasts. Assumes nothing.
-use mathlib.Core.Bool.{cond}
-use mathlib.Core.List.{List, [], _∷_, _++_}
-use Prim.Native.Nat.{ℕ, zero, suc, pred, _+_, _-_, min, max}
-use lib.ListN.{length, getD, take, drop}
-use lib.Dec.{leb, ltb}
-use Rattle·planner_rules·specs.specs.declared.titles.Title.{Title}
-use Rattle·planner_rules·specs.specs.declared.titles.Title.the-variants.{Absent, Pair}
-use Rattle·planner_rules·specs.specs.declared.runs.Held.{Held}
-use Rattle·planner_rules·specs.specs.declared.runs.Held.the-variants.{Free, By}
-use Rattle·planner_rules·specs.specs.declared.runs.Frame.{Frame}
-use Rattle·planner_rules·specs.specs.declared.runs.RunEnd.{RunEnd}
-use Rattle·planner_rules·specs.specs.declared.runs.Cut.{Cut}
-use Rattle·planner_rules·specs.specs.declared.runs.Tally.{Tally}
-use Rattle·planner_rules·specs.specs.Slots.{sum, below, through, mid}
-use Rattle·planner_rules·specs.specs.Titles.{holds, titleHolds, pastTitle}
+use Rattle.std.specs.Prelude.{cond, List, [], ◌∷◌, ◌++◌, ℕ, zero, suc, pred, ◌+◌, ◌-◌, min, max, length, get_or, take, drop, leb, ltb}
+use Rattle.planner_rules.specs.declared.titles.Title.{Title}
+use Rattle.planner_rules.specs.declared.titles.Title.TheVariants.{Absent, Pair}
+use Rattle.planner_rules.specs.declared.runs.Held.{Held}
+use Rattle.planner_rules.specs.declared.runs.Held.TheVariants.{Free, By}
+use Rattle.planner_rules.specs.declared.runs.Frame.{Frame}
+use Rattle.planner_rules.specs.declared.runs.RunEnd.{RunEnd}
+use Rattle.planner_rules.specs.declared.runs.Cut.{Cut}
+use Rattle.planner_rules.specs.declared.runs.Tally.{Tally}
+use Rattle.planner_rules.specs.Slots.{sum, below, through, mid}
+use Rattle.planner_rules.specs.Titles.{holds, title_holds, past_title}
 
 -- ---- merges
 
@@ -47,12 +43,12 @@ natural cap [] = 0
 natural cap (x ∷ xs) = suc (more cap x xs)
 
 -- "Capacity is titled if the slot at p lies past the title's last, else untitled."
-unfoldable pub capacityAt : Frame → ℕ → ℕ
-capacityAt k i = cond (pastTitle (k .title) i) (k .titled) (k .untitled)
+unfoldable pub capacity_at : Frame → ℕ → ℕ
+capacity_at k i = cond (past_title k.title i) k.titled k.untitled
 
 -- how many slots filling gives the run at the head
 unfoldable pub filled : Frame → List ℕ → List ℕ → ℕ
-filled k is ss = natural (capacityAt k (getD is 0 0)) ss
+filled k is ss = natural (capacity_at k (get_or is 0 0)) ss
 
 -- ---- the title's resumption
 
@@ -73,11 +69,11 @@ resumed cap last (i ∷ is) (x ∷ xs) = suc (again cap last x is xs)
 -- "If the title holds b, taking goes on"
 unfoldable pub resumption : Title → ℕ → ℕ → List ℕ → List ℕ → ℕ
 resumption Absent cap n is ss = n
-resumption (Pair f l) cap n is ss = cond (holds f l (getD is n 0)) (n + resumed cap l (drop n is) (drop n ss)) n
+resumption (Pair f l) cap n is ss = cond (holds f l (get_or is n 0)) (n + resumed cap l (drop n is) (drop n ss)) n
 
 -- "If slots remain, b is the next index."
 unfoldable pub taken : Frame → List ℕ → List ℕ → ℕ
-taken k is ss = cond (ltb (filled k is ss) (length is)) (resumption (k .title) (k .titled) (filled k is ss) is ss) (filled k is ss)
+taken k is ss = cond (ltb (filled k is ss) (length is)) (resumption k.title k.titled (filled k is ss) is ss) (filled k is ss)
 
 -- ---- the merge step
 
@@ -87,14 +83,14 @@ ends n g = record { slots = n; grown = g }
 
 -- "a merge that holds the present b and whose first slot is past p ends the run there; otherwise the run reaches past the merge's last slot,
 -- counting one expansion if that is further. The new boundary is not tested again."
-unfoldable pub mergeStep : Held → ℕ → List ℕ → RunEnd
-mergeStep Free n is = ends n 0
-mergeStep (By f l) n is =
+unfoldable pub merge_step : Held → ℕ → List ℕ → RunEnd
+merge_step Free n is = ends n 0
+merge_step (By f l) n is =
     cond (ltb 0 (below f is)) (ends (below f is) 0) (cond (ltb n (through l is)) (ends (through l is) 1) (ends n 0))
 
 -- the run's end, where n slots were taken: if slots remain, the merge step
 unfoldable pub merged : ℕ → ℕ → List ℕ → List ℕ → ℕ → List ℕ → RunEnd
-merged lo hi fs ls n is = cond (ltb n (length is)) (mergeStep (holding lo hi (getD is n 0) fs ls) n is) (ends n 0)
+merged lo hi fs ls n is = cond (ltb n (length is)) (merge_step (holding lo hi (get_or is n 0) fs ls) n is) (ends n 0)
 
 -- ---- the runs between two cuts
 
@@ -108,101 +104,101 @@ pub record Run : Type 0 where
   pub manual : ℕ
 
 -- the run of the first n slots
-abbrev pub runOf : ℕ → ℕ → List ℕ → List ℕ → Run
-runOf n g is ss = record { first = getD is 0 0; last = getD is (n - 1) 0; size = sum (take n ss); slots = n; grown = g; manual = 0 }
+abbrev pub run_of : ℕ → ℕ → List ℕ → List ℕ → Run
+run_of n g is ss = record { first = get_or is 0 0; last = get_or is (n - 1) 0; size = sum (take n ss); slots = n; grown = g; manual = 0 }
 
 -- where the run at the head ends
-unfoldable pub runEnd : Frame → List ℕ → List ℕ → List ℕ → List ℕ → RunEnd
-runEnd k fs ls is ss = merged (k .lo) (k .hi) fs ls (taken k is ss) is
+unfoldable pub run_end : Frame → List ℕ → List ℕ → List ℕ → List ℕ → RunEnd
+run_end k fs ls is ss = merged k.lo k.hi fs ls (taken k is ss) is
 
 -- the run at the head
 unfoldable pub run : Frame → List ℕ → List ℕ → List ℕ → List ℕ → Run
-run k fs ls is ss = runOf (runEnd k fs ls is ss .slots) (runEnd k fs ls is ss .grown) is ss
+run k fs ls is ss = run_of (run_end k fs ls is ss).slots (run_end k fs ls is ss).grown is ss
 
 -- run after run, where a run that starts at the head of the lists is `at` of them; k slots still belong to the run before
-unfoldable pub runsBy : (List ℕ → List ℕ → Run) → ℕ → List ℕ → List ℕ → List Run
-runsBy at k [] ss = []
-runsBy at k (i ∷ is) [] = []
-runsBy at zero (i ∷ is) (s ∷ ss) = at (i ∷ is) (s ∷ ss) ∷ runsBy at (pred (at (i ∷ is) (s ∷ ss) .slots)) is ss
-runsBy at (suc k) (i ∷ is) (s ∷ ss) = runsBy at k is ss
+unfoldable pub runs_by : (List ℕ → List ℕ → Run) → ℕ → List ℕ → List ℕ → List Run
+runs_by at k [] ss = []
+runs_by at k (i ∷ is) [] = []
+runs_by at zero (i ∷ is) (s ∷ ss) = at (i ∷ is) (s ∷ ss) ∷ runs_by at (pred (at (i ∷ is) (s ∷ ss)).slots) is ss
+runs_by at (suc k) (i ∷ is) (s ∷ ss) = runs_by at k is ss
 
 -- the runs of a stretch
 unfoldable pub runs : Frame → List ℕ → List ℕ → List ℕ → List ℕ → List Run
-runs k fs ls is ss = runsBy (run k fs ls) zero is ss
+runs k fs ls is ss = runs_by (run k fs ls) zero is ss
 
 -- how many expansions they count
 unfoldable pub expansions : List Run → ℕ
 expansions [] = 0
-expansions (r ∷ rs) = r .grown + expansions rs
+expansions (r ∷ rs) = r.grown + expansions rs
 
 -- ---- manual breaks: a cut is a place among the slots
 
 -- a cut, and 1 for a shift
-abbrev pub cutAt : ℕ → ℕ → Cut
-cutAt c s = record { place = c; shifted = s }
+abbrev pub cut_at : ℕ → ℕ → Cut
+cut_at c s = record { place = c; shifted = s }
 
 -- "If a merge holds it, the cut moves to the merge's first slot if that is past the last kept cut, else past its last slot, and a shift is
 -- counted"
 unfoldable pub moved : Held → ℕ → ℕ → List ℕ → Cut
-moved Free prev p is = cutAt p 0
-moved (By f l) prev p is = cutAt (cond (ltb prev (below f is)) (below f is) (through l is)) 1
+moved Free prev p is = cut_at p 0
+moved (By f l) prev p is = cut_at (cond (ltb prev (below f is)) (below f is) (through l is)) 1
 
 -- "Position 0 or the end is skipped; so is a boundary held by the title." Skipped, the cut is the last kept one.
 unfoldable pub placed : Frame → List ℕ → List ℕ → List ℕ → ℕ → ℕ → Cut
 placed k fs ls is prev p =
     cond (ltb 0 p)
     (cond (ltb p (length is))
-    (cond (titleHolds (k .title) (getD is p 0)) (cutAt prev 0) (moved (holding (k .lo) (k .hi) (getD is p 0) fs ls) prev p is))
-    (cutAt prev 0))
-    (cutAt prev 0)
+    (cond (title_holds k.title (get_or is p 0)) (cut_at prev 0) (moved (holding k.lo k.hi (get_or is p 0) fs ls) prev p is))
+    (cut_at prev 0))
+    (cut_at prev 0)
 
 -- "A cut not past the previous one, or at the end, is dropped": the last kept cut stays, and so does the shift
 unfoldable pub kept : ℕ → ℕ → Cut → Cut
-kept n prev c = cond (ltb prev (c .place)) (cond (ltb (c .place) n) c (cutAt prev (c .shifted))) (cutAt prev (c .shifted))
+kept n prev c = cond (ltb prev c.place) (cond (ltb c.place n) c (cut_at prev c.shifted)) (cut_at prev c.shifted)
 
 -- the last kept cut after the break b: "position = first slot not below the break"
-unfoldable pub nextCut : Frame → List ℕ → List ℕ → List ℕ → ℕ → ℕ → Cut
-nextCut k fs ls is prev b = kept (length is) prev (placed k fs ls is prev (below b is))
+unfoldable pub next_cut : Frame → List ℕ → List ℕ → List ℕ → ℕ → ℕ → Cut
+next_cut k fs ls is prev b = kept (length is) prev (placed k fs ls is prev (below b is))
 
 -- ---- the runs of an axis
 
 -- the run with a mark
-abbrev pub withMark : ℕ → Run → Run
-withMark m r = record { first = r .first; last = r .last; size = r .size; slots = r .slots; grown = r .grown; manual = m }
+abbrev pub with_mark : ℕ → Run → Run
+with_mark m r = record { first = r.first; last = r.last; size = r.size; slots = r.slots; grown = r.grown; manual = m }
 
 -- "A kept cut marks its run."
-unfoldable pub firstMarked : ℕ → List Run → List Run
-firstMarked m [] = []
-firstMarked m (r ∷ rs) = withMark m r ∷ rs
+unfoldable pub first_marked : ℕ → List Run → List Run
+first_marked m [] = []
+first_marked m (r ∷ rs) = with_mark m r ∷ rs
 
 -- the runs of the slots from the cut a to the cut e; every cut past 0 is a kept one
 unfoldable pub stretch : Frame → List ℕ → List ℕ → List ℕ → List ℕ → ℕ → ℕ → List Run
-stretch k fs ls is ss a e = firstMarked (min a 1) (runs k fs ls (mid a e is) (mid a e ss))
+stretch k fs ls is ss a e = first_marked (min a 1) (runs k fs ls (mid a e is) (mid a e ss))
 
 -- "Manual breaks in given order": the runs from the last kept cut on; where a break keeps no cut the stretch to it is empty
-unfoldable pub axisRuns : Frame → List ℕ → List ℕ → List ℕ → List ℕ → ℕ → List ℕ → List Run
-axisRuns k fs ls is ss prev [] = stretch k fs ls is ss prev (length ss)
-axisRuns k fs ls is ss prev (b ∷ bs) =
-    stretch k fs ls is ss prev (nextCut k fs ls is prev b .place) ++ axisRuns k fs ls is ss (nextCut k fs ls is prev b .place) bs
+unfoldable pub axis_runs : Frame → List ℕ → List ℕ → List ℕ → List ℕ → ℕ → List ℕ → List Run
+axis_runs k fs ls is ss prev [] = stretch k fs ls is ss prev (length ss)
+axis_runs k fs ls is ss prev (b ∷ bs) =
+    stretch k fs ls is ss prev (next_cut k fs ls is prev b).place ++ axis_runs k fs ls is ss (next_cut k fs ls is prev b).place bs
 
 -- how many shifts the breaks count, from the last kept cut on
 unfoldable pub shifts : Frame → List ℕ → List ℕ → List ℕ → ℕ → List ℕ → ℕ
 shifts k fs ls is prev [] = 0
-shifts k fs ls is prev (b ∷ bs) = nextCut k fs ls is prev b .shifted + shifts k fs ls is (nextCut k fs ls is prev b .place) bs
+shifts k fs ls is prev (b ∷ bs) = (next_cut k fs ls is prev b).shifted + shifts k fs ls is (next_cut k fs ls is prev b).place bs
 
 -- so many runs, expansions and shifts
 abbrev pub tallies : ℕ → ℕ → ℕ → Tally
 tallies n g s = record { runs = n; expansions = g; shifts = s }
 
 -- how many runs, expansions and shifts
-unfoldable pub axisTally : Frame → List ℕ → List ℕ → List ℕ → List ℕ → List ℕ → Tally
-axisTally k fs ls is ss bs =
-    tallies (length (axisRuns k fs ls is ss 0 bs)) (expansions (axisRuns k fs ls is ss 0 bs)) (shifts k fs ls is 0 bs)
+unfoldable pub axis_tally : Frame → List ℕ → List ℕ → List ℕ → List ℕ → List ℕ → Tally
+axis_tally k fs ls is ss bs =
+    tallies (length (axis_runs k fs ls is ss 0 bs)) (expansions (axis_runs k fs ls is ss 0 bs)) (shifts k fs ls is 0 bs)
 
 -- ---- for the private functions
 
 -- the merge that is used, of these merges and of what was found before
-unfoldable pub holdingOnto : ℕ → ℕ → ℕ → List ℕ → List ℕ → Held → Held
-holdingOnto lo hi b [] ls held = held
-holdingOnto lo hi b (f ∷ fs) [] held = held
-holdingOnto lo hi b (f ∷ fs) (l ∷ ls) held = nearer (max f lo) (min l hi) b (holdingOnto lo hi b fs ls held)
+unfoldable pub holding_onto : ℕ → ℕ → ℕ → List ℕ → List ℕ → Held → Held
+holding_onto lo hi b [] ls held = held
+holding_onto lo hi b (f ∷ fs) [] held = held
+holding_onto lo hi b (f ∷ fs) (l ∷ ls) held = nearer (max f lo) (min l hi) b (holding_onto lo hi b fs ls held)

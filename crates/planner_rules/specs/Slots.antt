@@ -1,19 +1,14 @@
 -- Slots and lent lists. The slots of an axis are two lists side by side: their indexes, which rise, and their sizes. Assumes nothing.
-use mathlib.Core.Path.{_≡_}
-use mathlib.Core.List.{List, [], _∷_, _++_}
-use mathlib.Core.Bool.{cond}
-use Prim.Native.Nat.{ℕ, suc, _+_, _-_, _≤_, _<_, _^_}
-use lib.Dec.{leb, ltb}
-use lib.ListN.{length, getD, take, drop}
+use Rattle.std.specs.Prelude.{◌≡◌, List, [], ◌∷◌, ◌++◌, cond, ℕ, suc, ◌+◌, ◌-◌, ◌≤◌, ◌<◌, ◌^◌, leb, ltb, length, get_or, take, drop}
 
 -- what the private functions rely on: few sizes, each small
 pub record Small (sizes : List ℕ) : Type 0 where
   pub few : length sizes ≤ 2 ^ 20
-  pub each : (k : ℕ) → getD sizes k 0 < 2 ^ 30
+  pub each : (k : ℕ) → get_or sizes k 0 < 2 ^ 30
 
 -- "Slot indexes strictly rising": any two of them
 abbrev pub Rising : List ℕ → Type 0
-Rising is = (j k : ℕ) → j < k → k < length is → getD is j 0 < getD is k 0
+Rising is = (j k : ℕ) → j < k → k < length is → get_or is j 0 < get_or is k 0
 
 -- as many indexes as sizes
 pub record Slots (indexes sizes : List ℕ) : Type 0 where

@@ -6,53 +6,16 @@ mod runs;
 mod scale;
 mod titles;
 
-pub use pages::AreaPlan;
-pub use pages::AreaPlans;
-pub use pages::Found;
-pub use pages::Listing;
-pub use pages::Notes;
-pub use pages::Page;
-pub use pages::PageAnswer;
-pub use pages::PageOrder;
-pub use pages::PageRun;
-pub use pages::Place;
-pub use pages::Plan;
-pub use pages::Spot;
-pub use partition::AxisSetup;
-pub use partition::Partition;
-pub use planning::AreaNotes;
-pub use planning::Areas;
-pub use planning::AxisRange;
-pub use planning::CellLimit;
-pub use planning::ContentSides;
-pub use planning::CountedArea;
-pub use planning::CountedAreas;
-pub use planning::FinalCut;
-pub use planning::Planning;
-pub use planning::Prepared;
-pub use planning::PrintRange;
-pub use planning::Ready;
-pub use planning::ReadyArea;
-pub use planning::ReadyTitle;
-pub use planning::RunCounts;
-pub use planning::Settings;
-pub use planning::Shared;
-pub use planning::SidesFound;
-pub use planning::Writing;
-pub use runs::Cut;
-pub use runs::Frame;
-pub use runs::Held;
-pub use runs::RUN_NUMBERS;
-pub use runs::RunEnd;
-pub use runs::Tally;
-pub use scale::ChosenScale;
-pub use scale::Fit;
-pub use scale::PageSide;
-pub use scale::Stretch;
-pub use titles::Axis;
-pub use titles::Expanded;
-pub use titles::Normalized;
-pub use titles::Span;
-pub use titles::Title;
-pub use titles::Widened;
-pub use titles::Widening;
+pub use pages::{
+    AreaPlan, AreaPlans, Found, Listing, Notes, Page, PageAnswer, PageOrder, PageRun, Place, Plan,
+    Spot,
+};
+pub use partition::{AxisSetup, Partition};
+pub use planning::{
+    AreaNotes, Areas, AxisRange, CellLimit, ContentSides, CountedArea, CountedAreas, FinalCut,
+    Planning, Prepared, PrintRange, Ready, ReadyArea, ReadyTitle, RunCounts, Settings, Shared,
+    SidesFound, Writing,
+};
+pub use runs::{Cut, Frame, Held, RUN_NUMBERS, RunEnd, Tally};
+pub use scale::{ChosenScale, Fit, PageSide, Stretch};
+pub use titles::{Axis, Expanded, Normalized, Span, Title, Widened, Widening};

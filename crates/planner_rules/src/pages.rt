@@ -1,11 +1,13 @@
 // Pages: document 01, section "Pages".
 
+#[derive(Drop)]
 pub enum PageOrder {
     DownThenOver,
     OverThenDown,
 }
 
 // How often each of the nine things happened that a reader of the plan is told.
+#[derive(Drop)]
 pub struct Notes {
     pub unknown_paper: u64,
     pub invalid_margins: u64,
@@ -20,6 +22,7 @@ pub struct Notes {
 
 // What an area came to: its scale, 1 where no permille fits it, how many runs of rows and of columns its pages are made of, and whether its
 // bodies are empty.
+#[derive(Drop)]
 pub struct AreaPlan {
     pub permille: u16,
     pub unreachable: u64,
@@ -30,6 +33,7 @@ pub struct AreaPlan {
 }
 
 // What at most eight areas came to, in job order. (Eight fields: an enum that holds an array is not covered.)
+#[derive(Drop)]
 pub struct AreaPlans {
     pub count: usize,
     pub first: AreaPlan,
@@ -43,6 +47,7 @@ pub struct AreaPlans {
 }
 
 // A finished plan. Its runs stand in the lists that were lent to it, area after area.
+#[derive(Drop)]
 pub struct Plan {
     pub areas: AreaPlans,
     pub pages: u64,
@@ -51,6 +56,7 @@ pub struct Plan {
 }
 
 // A run of rows or columns of a page.
+#[derive(Drop)]
 pub struct PageRun {
     pub first: u32,
     pub last: u32,
@@ -60,6 +66,7 @@ pub struct PageRun {
 }
 
 // A page: the numbers of its two runs, from 0 in each area, and the runs.
+#[derive(Drop)]
 pub struct Page {
     pub vertical: usize,
     pub horizontal: usize,
@@ -68,30 +75,35 @@ pub struct Page {
 }
 
 // What `page_numbered` answers: the page, or a refusal with its number.
+#[derive(Drop)]
 pub enum PageAnswer {
     Value(Page),
     Refused(u8),
 }
 
 // What `list_pages` answers: how many pages were written, or a refusal with its number.
+#[derive(Drop)]
 pub enum Listing {
     Value(u64),
     Refused(u8),
 }
 
 // Where a page stands in its area: the numbers of its two runs, from 0.
+#[derive(Drop)]
 pub struct Place {
     pub vertical: usize,
     pub horizontal: usize,
 }
 
 // Where a page stands in a plan: the number of its area, from 0, and how many pages of the area stand before it.
+#[derive(Drop)]
 pub struct Spot {
     pub area: usize,
     pub before: usize,
 }
 
 // The spot of a page, or that there is no such page.
+#[derive(Drop)]
 pub enum Found {
     At(Spot),
     Nothing,

@@ -1,21 +1,19 @@
 // What the plan call takes and answers: document 01, sections "Scale" and "Pages".
-use crate::pages::AreaPlan;
-use crate::pages::AreaPlans;
-use crate::pages::PageOrder;
-use crate::pages::Plan;
+use crate::pages::{AreaPlan, AreaPlans, PageOrder, Plan};
 use crate::scale::Fit;
 use crate::titles::Title;
-use geometry::MarginSetting;
-use geometry::Setting;
+use geometry::{MarginSetting, Setting};
 use units::Fixed;
 
 // The most cells that may lie in at least one area, if there is a limit.
+#[derive(Drop)]
 pub enum CellLimit {
     Absent,
     Given(u64),
 }
 
 // How areas are printed. A target is the most pages in a direction, 0 for any number.
+#[derive(Drop)]
 pub struct Settings {
     pub paper: Setting,
     pub landscape: bool,
@@ -30,6 +28,7 @@ pub struct Settings {
     pub cell_limit: CellLimit,
 }
 
+#[derive(Drop)]
 pub struct PrintRange {
     pub first_row: u32,
     pub first_column: u32,
@@ -38,6 +37,7 @@ pub struct PrintRange {
 }
 
 // The print areas, one to eight, in job order.
+#[derive(Drop)]
 pub struct Areas {
     pub count: usize,
     pub first: PrintRange,
@@ -51,24 +51,28 @@ pub struct Areas {
 }
 
 // What `plan_pages` and `count_pages` answer: the plan, or a refusal with its number.
+#[derive(Drop)]
 pub enum Planning {
     Value(Plan),
     Refused(u8),
 }
 
 // How many runs of rows and of columns.
+#[derive(Drop)]
 pub struct RunCounts {
     pub rows: usize,
     pub columns: usize,
 }
 
 // What `write_area` answers: how many runs it wrote, or a refusal with its number.
+#[derive(Drop)]
 pub enum Writing {
     Value(RunCounts),
     Refused(u8),
 }
 
 // An axis of an area, as the settings make it.
+#[derive(Drop)]
 pub struct AxisRange {
     pub limit: u32,
     pub first: u32,
@@ -79,6 +83,7 @@ pub struct AxisRange {
 }
 
 // A title of the job: as it was asked for, as merges widened it, its total, and its two counts of notes.
+#[derive(Drop)]
 pub struct ReadyTitle {
     pub asked: Title,
     pub title: Title,
@@ -88,6 +93,7 @@ pub struct ReadyTitle {
 }
 
 // An axis of an area that is ready to be cut: what it is fitted by, and where its body stands among the slots.
+#[derive(Drop)]
 pub struct Ready {
     pub fit: Fit,
     pub from: usize,
@@ -95,12 +101,14 @@ pub struct Ready {
 }
 
 // Both axes of an area, ready to be cut.
+#[derive(Drop)]
 pub struct ReadyArea {
     pub rows: Ready,
     pub columns: Ready,
 }
 
 // The final cut of an axis: how many runs its pages are made of, whether its body is empty, and the notes on the cut.
+#[derive(Drop)]
 pub struct FinalCut {
     pub runs: usize,
     pub empty: bool,
@@ -110,6 +118,7 @@ pub struct FinalCut {
 }
 
 // The notes that add up over the areas.
+#[derive(Drop)]
 pub struct AreaNotes {
     pub clamped: u64,
     pub unreachable: u64,
@@ -119,12 +128,14 @@ pub struct AreaNotes {
 }
 
 // What an area was counted to.
+#[derive(Drop)]
 pub struct CountedArea {
     pub area: AreaPlan,
     pub notes: AreaNotes,
 }
 
 // What the areas were counted to: each, all their runs of rows and of columns, their pages and their notes.
+#[derive(Drop)]
 pub struct CountedAreas {
     pub areas: AreaPlans,
     pub rows: usize,
@@ -134,6 +145,7 @@ pub struct CountedAreas {
 }
 
 // The sides of the content, and the notes on paper and margins.
+#[derive(Drop)]
 pub struct ContentSides {
     pub width: Fixed,
     pub height: Fixed,
@@ -142,12 +154,14 @@ pub struct ContentSides {
 }
 
 // What paper and margins come to: the content's sides, or the refusal 10.
+#[derive(Drop)]
 pub enum SidesFound {
     Value(ContentSides),
     CoordinateOverflow,
 }
 
 // What all areas share: how they are printed, the content's sides, and both titles.
+#[derive(Drop)]
 pub struct Shared {
     pub settings: Settings,
     pub sides: ContentSides,
@@ -156,6 +170,7 @@ pub struct Shared {
 }
 
 // What the questions before the runs come to: what all areas share, or a refusal with its number.
+#[derive(Drop)]
 pub enum Prepared {
     Value(Shared),
     Refused(u8),

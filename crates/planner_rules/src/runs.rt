@@ -5,12 +5,14 @@ use crate::titles::Title;
 pub const RUN_NUMBERS: usize = 4;
 
 // What holds a boundary: nothing, or a pair of a first and a last index.
+#[derive(Drop)]
 pub enum Held {
     Free,
     By(u32, u32),
 }
 
 // What the runs of an axis go by: two capacities, the title, and the stretch that merges are clipped to.
+#[derive(Drop)]
 pub struct Frame {
     pub untitled: u64,
     pub titled: u64,
@@ -20,18 +22,21 @@ pub struct Frame {
 }
 
 // Where a run ends: how many slots it has, and 1 where a merge took it further.
+#[derive(Drop)]
 pub struct RunEnd {
     pub slots: usize,
     pub grown: u64,
 }
 
 // The place of a cut, and 1 where a merge moved it.
+#[derive(Drop)]
 pub struct Cut {
     pub place: usize,
     pub shifted: u64,
 }
 
 // What an axis comes to: how many runs, expansions and shifts.
+#[derive(Drop)]
 pub struct Tally {
     pub runs: usize,
     pub expansions: u64,

@@ -3,6 +3,7 @@ use crate::titles::Title;
 use units::Fixed;
 
 // A scale in thousandths, and its two notes.
+#[derive(Drop)]
 pub struct ChosenScale {
     pub permille: u16,
     pub clamp: u64,
@@ -10,6 +11,7 @@ pub struct ChosenScale {
 }
 
 // What an axis has on a page: the content side, the headings, and the title's total.
+#[derive(Drop)]
 pub struct PageSide {
     pub side: Fixed,
     pub headings: u64,
@@ -17,6 +19,7 @@ pub struct PageSide {
 }
 
 // The title of an axis, and the stretch that its merges are clipped to.
+#[derive(Drop)]
 pub struct Stretch {
     pub title: Title,
     pub lo: u32,
@@ -24,6 +27,7 @@ pub struct Stretch {
 }
 
 // An axis to be fitted: its page, its stretch, and the most runs that it may have, 0 for any number.
+#[derive(Drop)]
 pub struct Fit {
     pub page: PageSide,
     pub stretch: Stretch,

@@ -1,18 +1,12 @@
 // What settings come to, before anything is cut: document 01, sections "Paper and content", "Titles" and "Scale".
-use geometry::Content;
-use geometry::Setting;
-use planner_rules::Axis;
-use planner_rules::AxisRange;
-use planner_rules::ChosenScale;
-use planner_rules::ContentSides;
-use planner_rules::PrintRange;
-use planner_rules::Settings;
-use planner_rules::SidesFound;
-use planner_rules::Title;
-ghost use mathlib.Core.Path.{_≡_};
-ghost use mathlib.Core.Bool.{cond};
-ghost use Rattle·planner_rules.specs.Scale.{orElse, fixedScale, meets, middle, scaleOf};
-ghost use Rattle·planner_rules.specs.Plan as call;
+ghost use Rattle.std.specs.Prelude.{◌≡◌, cond};
+ghost use Rattle.planner_rules.specs.Scale.{or_else, fixed_scale, meets, middle, scale_of};
+ghost use Rattle.planner_rules.specs.Plan as call;
+
+use geometry::{Content, Setting};
+use planner_rules::{
+    Axis, AxisRange, ChosenScale, ContentSides, PrintRange, Settings, SidesFound, Title,
+};
 
 // What an absent percent and an absent target mean.
 const DEFAULT_PERCENT: u16 = 100;
@@ -21,7 +15,7 @@ const DEFAULT_TARGET: u16 = 1;
 
 // A setting, or what its absence means.
 fn or_else(setting: Setting, absent: u16) -> u16
-    ensures { λ r. ⌜ r ≡ orElse setting absent ⌝ }
+    ensures { result ≡ or_else setting absent }
 {
     match setting {
         Setting::Absent => absent,
@@ -31,7 +25,7 @@ fn or_else(setting: Setting, absent: u16) -> u16
 
 // The scale of a percent, clamped.
 pub fn fixed_scale(percent: Setting) -> ChosenScale
-    ensures { λ r. ⌜ scaleOf r ≡ fixedScale percent ⌝ }
+    ensures { scale_of result ≡ fixed_scale percent }
 {
     let asked = or_else(percent, DEFAULT_PERCENT);
     if asked < 10 {
@@ -57,14 +51,14 @@ pub fn fixed_scale(percent: Setting) -> ChosenScale
 
 // What headings take of a page, where they are on.
 fn headings_of(on: bool, size: u64) -> u64
-    ensures { λ r. ⌜ r ≡ cond on size 0 ⌝ }
+    ensures { result ≡ cond on size 0 }
 {
     if on { size } else { 0 }
 }
 
 // The rows of a range as they are cut: the grid's last row, the headings, and the most pages downwards.
 pub fn row_range(settings: Settings, range: PrintRange, title: Title) -> AxisRange
-    ensures { λ r. ⌜ call.AreRows r settings range title ⌝ }
+    ensures { call.AreRows result settings range title }
 {
     let target = settings.fit_height;
     AxisRange {
@@ -79,7 +73,7 @@ pub fn row_range(settings: Settings, range: PrintRange, title: Title) -> AxisRan
 
 // The columns of a range, likewise.
 pub fn column_range(settings: Settings, range: PrintRange, title: Title) -> AxisRange
-    ensures { λ r. ⌜ call.AreColumns r settings range title ⌝ }
+    ensures { call.AreColumns result settings range title }
 {
     let target = settings.fit_width;
     AxisRange {
@@ -94,14 +88,14 @@ pub fn column_range(settings: Settings, range: PrintRange, title: Title) -> Axis
 
 // The breaks that are looked at: with fit on, none.
 pub fn looked_at(fit: bool, breaks: usize) -> usize
-    ensures { λ r. ⌜ r ≡ cond fit 0 breaks ⌝ }
+    ensures { result ≡ cond fit 0 breaks }
 {
     if fit { 0 } else { breaks }
 }
 
 // The content's width and height, with what was noted of paper and margins.
 pub fn content_sides(settings: Settings) -> SidesFound
-    ensures { λ r. ⌜ call.sidesOutcome r ≡ call.contentSides settings ⌝ }
+    ensures { call.sides_outcome result ≡ call.content_sides settings }
 {
     let code = settings.paper;
     let margins = settings.margins;
@@ -124,7 +118,7 @@ pub fn content_sides(settings: Settings) -> SidesFound
 
 // A target of 0 bounds nothing.
 pub fn meets_target(target: u16, runs: usize) -> bool
-    ensures { λ r. ⌜ r ≡ meets target runs ⌝ }
+    ensures { result ≡ meets target runs }
 {
     if target == 0 {
         return true;
@@ -134,7 +128,7 @@ pub fn meets_target(target: u16, runs: usize) -> bool
 
 // The Rust's middle: low + (high - low) / 2, rounded up.
 pub fn middle_of(low: u16, high: u16) -> u16
-    ensures { λ r. ⌜ r ≡ middle low high ⌝ }
+    ensures { result ≡ middle low high }
 {
     if high <= low {
         return low;

@@ -1,27 +1,18 @@
 // Rows or columns that are repeated on every page: document 01, section "Titles".
-use planner_compare::greater;
-use planner_compare::lesser;
-use planner_compare::shorter;
-use planner_compare::wide;
-use planner_questions::all_within;
-use planner_questions::pairs_ordered;
-use planner_rules::Axis;
-use planner_rules::Expanded;
-use planner_rules::Normalized;
-use planner_rules::Span;
-use planner_rules::Title;
-use planner_rules::Widened;
-use planner_rules::Widening;
-ghost use mathlib.Core.Path.{_≡_};
-ghost use Rattle·planner_rules.specs.Titles.{bodyStart, limitOf, normalized, noMerge, widens, widenTo, pass, sameSpan, expand, widened, widenTitle};
-ghost use Rattle·planner_rules.specs.Titles.{wideningOutcome};
+ghost use Rattle.std.specs.Prelude.{◌≡◌};
+ghost use Rattle.planner_rules.specs.Titles.{body_start, limit_of, normalized, no_merge, widens, widen_to, pass, same_span, expand, widened, widen_title};
+ghost use Rattle.planner_rules.specs.Titles.{widening_outcome};
+
+use planner_compare::{greater, lesser, shorter, wide};
+use planner_questions::{all_within, pairs_ordered};
+use planner_rules::{Axis, Expanded, Normalized, Span, Title, Widened, Widening};
 
 // So many merges are asked at once whether one of them widens a title.
 const PART: usize = 32;
 
 // The title, unless its first is above its last or its last beyond the limit.
 fn normalize_repeat(title: Title, limit: u32) -> Normalized
-    ensures { λ r. ⌜ r ≡ normalized limit title ⌝ }
+    ensures { result ≡ normalized limit title }
 {
     let Title::Pair(first, last) = title else {
         return Normalized {
@@ -45,7 +36,7 @@ fn normalize_repeat(title: Title, limit: u32) -> Normalized
 
 // The span, widened to a merge that meets it.
 fn widen_to(span: Span, first: u32, last: u32) -> Span
-    ensures { λ r. ⌜ r ≡ widenTo span first last ⌝ }
+    ensures { result ≡ widen_to span first last }
 {
     if first <= span.last {
         if last >= span.first {
@@ -59,7 +50,7 @@ fn widen_to(span: Span, first: u32, last: u32) -> Span
 }
 
 fn same_span(a: Span, b: Span) -> bool
-    ensures { λ r. ⌜ r ≡ sameSpan a b ⌝ }
+    ensures { result ≡ same_span a b }
 {
     if a.first == b.first {
         if a.last == b.last {
@@ -71,7 +62,7 @@ fn same_span(a: Span, b: Span) -> bool
 
 // Whether no merge of these widens the span: all are asked, so that there is no branch on what one of them answers.
 fn none_widens(span: Span, firsts: &[u32], lasts: &[u32]) -> bool
-    ensures { λ r. ⌜ r ≡ noMerge (widens span) (now (firsts .entry)) (now (lasts .entry)) ⌝ }
+    ensures { result ≡ no_merge (widens span) firsts.now lasts.now }
 {
     let first = span.first;
     let last = span.last;
@@ -88,7 +79,7 @@ fn none_widens(span: Span, firsts: &[u32], lasts: &[u32]) -> bool
 
 // What a part of the merges makes of the span.
 fn widen_by_part(span: Span, firsts: &[u32], lasts: &[u32]) -> Span
-    ensures { λ r. ⌜ r ≡ pass (now (firsts .entry)) (now (lasts .entry)) span ⌝ }
+    ensures { result ≡ pass firsts.now lasts.now span }
 {
     if none_widens(span, firsts, lasts) {
         return span;
@@ -105,7 +96,7 @@ fn widen_by_part(span: Span, firsts: &[u32], lasts: &[u32]) -> Span
 
 // Passes over all merges widen the pair, until one changes nothing. A pass takes the merges part by part.
 fn expand_repeat_for_merges(first: u32, last: u32, firsts: &[u32], lasts: &[u32]) -> Expanded
-    ensures { λ r. ⌜ r ≡ expand (now (firsts .entry)) (now (lasts .entry)) first last ⌝ }
+    ensures { result ≡ expand firsts.now lasts.now first last }
 {
     let end = shorter(firsts.len(), lasts.len());
     let mut span = Span { first, last };
@@ -128,7 +119,7 @@ fn expand_repeat_for_merges(first: u32, last: u32, firsts: &[u32], lasts: &[u32]
 
 // The title that the pages repeat: ignored where it does not hold, then widened.
 pub fn widened_title(limit: u32, title: Title, firsts: &[u32], lasts: &[u32]) -> Widened
-    ensures { λ r. ⌜ r ≡ widened limit title (now (firsts .entry)) (now (lasts .entry)) ⌝ }
+    ensures { result ≡ widened limit title firsts.now lasts.now }
 {
     let normal = normalize_repeat(title, limit);
     let ignored = normal.ignored;
@@ -152,7 +143,7 @@ pub fn widened_title(limit: u32, title: Title, firsts: &[u32], lasts: &[u32]) ->
 
 // The title of an axis, normalized and widened by its merges.
 pub fn widen_title(axis: Axis, title: Title, firsts: &[u32], lasts: &[u32]) -> Widening
-    ensures { λ r. ⌜ wideningOutcome r ≡ widenTitle (limitOf axis) title (now (firsts .entry)) (now (lasts .entry)) ⌝ }
+    ensures { widening_outcome result ≡ widen_title (limit_of axis) title firsts.now lasts.now }
 {
     if firsts.len() != lasts.len() {
         return Widening::Refused(6);
@@ -169,7 +160,7 @@ pub fn widen_title(axis: Axis, title: Title, firsts: &[u32], lasts: &[u32]) -> W
 
 // Where the body of a range starts, which may be past the largest index.
 pub fn body_start(title: Title, first: u32) -> u64
-    ensures { λ r. ⌜ r ≡ bodyStart title first ⌝ }
+    ensures { result ≡ body_start title first }
 {
     let Title::Pair(from, to) = title else {
         return wide(first);

@@ -1,11 +1,7 @@
 // The paper codes whose sizes ECMA-376's list decides (document 02, T-01), each upright and in landscape: the paper, and
 // what is left of it by margins that are absent, by 3.5 inches on the left and on the right, and by margins of which a side
 // is the limit. The file `stdout` has the answers of a second implementation, made from the standard's list.
-use geometry::Content;
-use geometry::MarginSetting;
-use geometry::Margins;
-use geometry::PaperGeometry;
-use geometry::Setting;
+use geometry::{Content, MarginSetting, Margins, PaperGeometry, Setting};
 use libc::STDOUT_FILENO;
 use units::Fixed;
 

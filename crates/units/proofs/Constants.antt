@@ -1,12 +1,11 @@
 -- The float constants of the code, by their bit patterns, are the definitions' numbers. Assumes nothing.
-use mathlib.Core.Path.{_≡_, refl}
-use lib.IntN.{pos}
-use lib.Ieee.{ofBits, ofInt, binary64}
+use Rattle.std.proofs.Common.{◌≡◌, pos, refl}
+use lib.Ieee.{of_bits, of_int, binary64}
 
-pub ninety-six : ofBits binary64 4636455816377925632 ≡ ofInt binary64 (pos 96)
-unfolding ofBits ofInt
-ninety-six = refl
+pub ninety_six : of_bits binary64 4636455816377925632 ≡ of_int binary64 (pos 96)
+unfolding of_bits of_int
+ninety_six = refl
 
-pub thousand : ofBits binary64 4652218415073722368 ≡ ofInt binary64 (pos 1024)
-unfolding ofBits ofInt
+pub thousand : of_bits binary64 4652218415073722368 ≡ of_int binary64 (pos 1024)
+unfolding of_bits of_int
 thousand = refl

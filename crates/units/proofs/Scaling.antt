@@ -1,50 +1,45 @@
--- `signedRatio`, by the sign of the length, and that `scaleFixed` and the quotient in `unscaledCapacity` are such ratios. Assumes nothing.
-use mathlib.Core.Path.{_≡_, refl, sym, ap, _∙_}
-use mathlib.Core.Bool.{true, false, true≢false}
-use Prim.Native.Nat.{ℕ, zero, suc, _+_, _*_, _/_, _^_, min}
-use native.Mathlib.Omega.{arith}
-use native.Mathlib.Nat.{zero-div, add-zero}
-use lib.IntN.{ℤ, pos, negsuc, negℤ, natAbs, _*ℤ_}
-use lib.Signed.{leZ, quotZ}
-use borrow.Author.Tests.{ne-eqb}
-use Rattle·units·specs.specs.Outcome.{Outcome, given, andThen}
-use Rattle·units·specs.specs.Units.{inI64, halfUp, halfAway, signedRatio, scaleFixed, lessOf, atLeastOne, unscaledCapacity}
-use Rattle·units·proofs.proofs.Signs.{not-neg, cut-pos, cut-neg}
+-- `signed_ratio`, by the sign of the length, and that `scale_fixed` and the quotient in `unscaled_capacity` are such ratios. Assumes nothing.
+use Rattle.std.proofs.Common.{◌≡◌, ℕ, zero, suc, ◌+◌, ◌*◌, ◌/◌, ◌^◌, min, true, false, ℤ, pos, negsuc, ◌*ℤ◌, neg_ℤ, nat_abs, sym, refl, ap, ◌∙◌, true≢false, add-zero, arith, ne_eqb}
+use native.Mathlib.Nat.{zero-div}
+use lib.Signed.{le_z, quot_z}
+use Rattle.units.specs.Outcome.{Outcome, given, and_then}
+use Rattle.units.specs.Units.{in_i64, half_up, half_away, signed_ratio, scale_fixed, less_of, at_least_one, unscaled_capacity}
+use Rattle.units.proofs.Signs.{not_neg, cut_pos, cut_neg}
 
 -- a number that was cut off above 2^63, with the sign of z
-pub ratio-pos : (z : ℤ) (k h d n : ℕ) → leZ (pos 0) z ≡ true → n ≡ min ((natAbs z * k + h) / d) (2 ^ 63 + 1) → inI64 (pos n) ≡ inI64 (signedRatio z k h d)
-ratio-pos (pos m) k h d n e q = cut-pos ((m * k + h) / d) n q
-ratio-pos (negsuc m) k h d n e q = absurd (true≢false (sym e))
+pub ratio_pos : (z : ℤ) (k h d n : ℕ) → le_z (pos 0) z ≡ true → n ≡ min ((nat_abs z * k + h) / d) (2 ^ 63 + 1) → in_i64 (pos n) ≡ in_i64 (signed_ratio z k h d)
+ratio_pos (pos m) k h d n e q = cut_pos ((m * k + h) / d) n q
+ratio_pos (negsuc m) k h d n e q = absurd (true≢false (sym e))
 
-pub ratio-neg : (z : ℤ) (k h d n : ℕ) → leZ (pos 0) z ≡ false → n ≡ min ((natAbs z * k + h) / d) (2 ^ 63 + 1) → inI64 (negℤ (pos n)) ≡ inI64
-    (signedRatio z k h d)
-ratio-neg (pos m) k h d n e q = absurd (not-neg m e)
-ratio-neg (negsuc m) k h d n e q = cut-neg ((suc m * k + h) / d) n q
+pub ratio-neg : (z : ℤ) (k h d n : ℕ) → le_z (pos 0) z ≡ false → n ≡ min ((nat_abs z * k + h) / d) (2 ^ 63 + 1) → in_i64 (neg_ℤ (pos n)) ≡ in_i64
+    (signed_ratio z k h d)
+ratio-neg (pos m) k h d n e q = absurd (not_neg m e)
+ratio-neg (negsuc m) k h d n e q = cut_neg ((suc m * k + h) / d) n q
 
-halves : (x : ℕ) → (x + 500) / 1000 ≡ halfUp x 1000
+halves : (x : ℕ) → (x + 500) / 1000 ≡ half_up x 1000
 halves x = omega arith
 
-away-neg : (x : ℕ) → negℤ (pos (halfUp x 1000)) ≡ halfAway (negℤ (pos x)) 1000
-away-neg zero = refl
-away-neg (suc x) = refl
+away_neg : (x : ℕ) → neg_ℤ (pos (half_up x 1000)) ≡ half_away (neg_ℤ (pos x)) 1000
+away_neg zero = refl
+away_neg (suc x) = refl
 
 -- half of the divisor added rounds halves away from zero
-pub scaled : (z : ℤ) (p : ℕ) → inI64 (signedRatio z p 500 1000) ≡ scaleFixed z p
-unfolding scaleFixed
-scaled (pos m) p = ap (λ (x : ℕ). inI64 (pos x)) (halves (m * p))
-scaled (negsuc m) p = ap (λ (x : ℕ). inI64 (negℤ (pos x))) (halves (suc m * p)) ∙ ap inI64 (away-neg (suc m * p))
+pub scaled : (z : ℤ) (p : ℕ) → in_i64 (signed_ratio z p 500 1000) ≡ scale_fixed z p
+unfolding scale_fixed
+scaled (pos m) p = ap (λ (x : ℕ). in_i64 (pos x)) (halves (m * p))
+scaled (negsuc m) p = ap (λ (x : ℕ). in_i64 (neg_ℤ (pos x))) (halves (suc m * p)) ∙ ap in_i64 (away_neg (suc m * p))
 
-quot-neg : (x p : ℕ) → negℤ (pos (x / p)) ≡ quotZ (negℤ (pos x)) (pos p)
-quot-neg zero p = ap (λ (y : ℕ). negℤ (pos y)) (zero-div p) ∙ ap pos (sym (zero-div p))
-quot-neg (suc x) p = refl
+quot_neg : (x p : ℕ) → neg_ℤ (pos (x / p)) ≡ quot_z (neg_ℤ (pos x)) (pos p)
+quot_neg zero p = ap (λ (y : ℕ). neg_ℤ (pos y)) (zero-div p) ∙ ap pos (sym (zero-div p))
+quot_neg (suc x) p = refl
 
 -- nothing added cuts toward zero
-quotient : (z : ℤ) (p : ℕ) → signedRatio z 1000 0 p ≡ quotZ (z *ℤ pos 1000) (pos p)
+quotient : (z : ℤ) (p : ℕ) → signed_ratio z 1000 0 p ≡ quot_z (z *ℤ pos 1000) (pos p)
 quotient (pos m) p = ap (λ (x : ℕ). pos (x / p)) (add-zero (m * 1000))
-quotient (negsuc m) p = ap (λ (x : ℕ). negℤ (pos (x / p))) (add-zero (suc m * 1000)) ∙ quot-neg (suc m * 1000) p
+quotient (negsuc m) p = ap (λ (x : ℕ). neg_ℤ (pos (x / p))) (add-zero (suc m * 1000)) ∙ quot_neg (suc m * 1000) p
 
 -- the capacity, by the quotient's outcome
-pub capacity-of : (side : ℤ) (p : ℕ) (t h : ℤ) (o : Outcome ℤ) → (p ≡ 0 → ⊥) → o ≡ inI64 (signedRatio side 1000 0 p)
-    → andThen o (λ (q : ℤ). given (atLeastOne (lessOf (lessOf (given q) (given t)) (given h)))) ≡ unscaledCapacity side p t h
-unfolding unscaledCapacity
-capacity-of side p t h o k e = rw (ne-eqb p 0 k, ← (e ∙ ap inI64 (quotient side p)))
+pub capacity_of : (side : ℤ) (p : ℕ) (t h : ℤ) (o : Outcome ℤ) → (p ≡ 0 → ⊥) → o ≡ in_i64 (signed_ratio side 1000 0 p)
+    → and_then o (λ (q : ℤ). given (at_least_one (less_of (less_of (given q) (given t)) (given h)))) ≡ unscaled_capacity side p t h
+unfolding unscaled_capacity
+capacity_of side p t h o k e = rw (ne_eqb p 0 k, ← (e ∙ ap in_i64 (quotient side p)))

@@ -1,18 +1,17 @@
 // Units of 1/1,024 pixel: document 01, section "Units"; and the grid that they measure.
 mod grid;
 
-pub use grid::LARGEST_SIZE;
-pub use grid::MAX_WORKSHEET_COLUMN;
-pub use grid::MAX_WORKSHEET_ROW;
-ghost use mathlib.Core.Path.{_≡_};
-ghost use Prim.Native.Nat.{_+_, _*_, _/_, _^_, _<_, min};
-ghost use lib.IntN.{pos, natAbs, negℤ, _-ℤ_};
-ghost use Rattle·units·specs.specs.Units.{lengthOutcome, inI64, signedRatio, lessOf, atLeastOne, scaleFixed, unscaledCapacity, inchesToFixed};
+ghost use Rattle.std.specs.Prelude.{◌≡◌, ◌+◌, ◌*◌, ◌/◌, ◌^◌, ◌<◌, min, pos, ◌-ℤ◌, neg_ℤ, unsigned_abs};
+ghost use Rattle.units.specs.Units.{length_outcome, in_i64, signed_ratio, less_of, at_least_one, scale_fixed, unscaled_capacity, inches_to_fixed};
+
+pub use grid::{LARGEST_SIZE, MAX_WORKSHEET_COLUMN, MAX_WORKSHEET_ROW};
 
 // A length in units.
+#[derive(Drop)]
 pub struct Fixed(i64);
 
 // A rectangle in units.
+#[derive(Drop)]
 pub struct Rect {
     pub x: Fixed,
     pub y: Fixed,
@@ -21,6 +20,7 @@ pub struct Rect {
 }
 
 // What a call on lengths answers: the length, or the refusal 10.
+#[derive(Drop)]
 pub enum Length {
     Value(Fixed),
     CoordinateOverflow,
@@ -32,20 +32,20 @@ impl Fixed {
 
     // A length of so many units, and its units.
     pub fn from_raw(raw: i64) -> Self
-        ensures { λ r. ⌜ r .0 ≡ raw ⌝ }
+        ensures { result.0 ≡ raw }
     {
         Self(raw)
     }
 
     pub fn raw(self) -> i64
-        ensures { λ r. ⌜ r ≡ self .0 ⌝ }
+        ensures { result ≡ self.0 }
     {
         self.0
     }
 
     // The length without its sign.
     pub fn magnitude(self) -> u64
-        ensures { λ r. ⌜ r ≡ natAbs (self .0) ⌝ }
+        ensures { result ≡ unsigned_abs self.0 }
     {
         magnitude(self.0)
     }
@@ -53,7 +53,7 @@ impl Fixed {
 
 // |z|
 fn magnitude(z: i64) -> u64
-    ensures { λ r. ⌜ r ≡ natAbs z ⌝ }
+    ensures { result ≡ unsigned_abs z }
 {
     if z >= 0 {
         z as u64
@@ -64,7 +64,7 @@ fn magnitude(z: i64) -> u64
 
 // n where it is an i64
 fn positive(n: u64) -> Length
-    ensures { λ r. ⌜ lengthOutcome r ≡ inI64 (pos n) ⌝ }
+    ensures { length_outcome result ≡ in_i64 (pos n) }
 {
     if n < 0x8000_0000_0000_0000 {
         Length::Value(Fixed(n as i64))
@@ -75,7 +75,7 @@ fn positive(n: u64) -> Length
 
 // -n where it is an i64
 fn negative(n: u64) -> Length
-    ensures { λ r. ⌜ lengthOutcome r ≡ inI64 (negℤ (pos n)) ⌝ }
+    ensures { length_outcome result ≡ in_i64 (neg_ℤ (pos n)) }
 {
     if n == 0 {
         return Length::Value(Fixed::ZERO);
@@ -89,8 +89,8 @@ fn negative(n: u64) -> Length
 
 // (m × k + h) / d, or 2^63 + 1 where it is more: the quotient and the remainder of m apart
 fn ratio(m: u64, k: u16, h: u16, d: u16) -> u64
-    requires { ⌜ 0 < d ⌝ }
-    ensures { λ r. ⌜ r ≡ min ((m * k + h) / d) (2 ^ 63 + 1) ⌝ }
+    requires { 0 < d }
+    ensures { result ≡ min ((m * k + h) / d) (2 ^ 63 + 1) }
 {
     let k = k as u64;
     let d = d as u64;
@@ -112,8 +112,8 @@ fn ratio(m: u64, k: u16, h: u16, d: u16) -> u64
 
 // (|z| × k + h) / d with the sign of z, where it is an i64
 fn signed_ratio(z: i64, k: u16, h: u16, d: u16) -> Length
-    requires { ⌜ 0 < d ⌝ }
-    ensures { λ r. ⌜ lengthOutcome r ≡ inI64 (signedRatio z k h d) ⌝ }
+    requires { 0 < d }
+    ensures { length_outcome result ≡ in_i64 (signed_ratio z k h d) }
 {
     let n = ratio(magnitude(z), k, h, d);
     if z >= 0 { positive(n) } else { negative(n) }
@@ -121,14 +121,14 @@ fn signed_ratio(z: i64, k: u16, h: u16, d: u16) -> Length
 
 // Size × permille / 1,000, halves away from zero.
 pub fn scale_fixed(size: Fixed, permille: u16) -> Length
-    ensures { λ r. ⌜ lengthOutcome r ≡ scaleFixed (size .0) permille ⌝ }
+    ensures { length_outcome result ≡ scale_fixed size.0 permille }
 {
     signed_ratio(size.0, permille, 500, 1000)
 }
 
 // a - b where it is an i64
 fn minus(a: i64, b: i64) -> Length
-    ensures { λ r. ⌜ lengthOutcome r ≡ inI64 (a -ℤ b) ⌝ }
+    ensures { length_outcome result ≡ in_i64 (a -ℤ b) }
 {
     let m = magnitude(a);
     let n = magnitude(b);
@@ -157,7 +157,7 @@ fn minus(a: i64, b: i64) -> Length
 
 // a - b where both are there and the difference is an i64
 pub fn less(a: Length, b: Length) -> Length
-    ensures { λ r. ⌜ lengthOutcome r ≡ lessOf (lengthOutcome a) (lengthOutcome b) ⌝ }
+    ensures { length_outcome result ≡ less_of (length_outcome a) (length_outcome b) }
 {
     let Length::Value(x) = a else {
         return Length::CoordinateOverflow;
@@ -170,7 +170,7 @@ pub fn less(a: Length, b: Length) -> Length
 
 // The length, never under 1, and 1 where it overflowed.
 fn at_least_one(l: Length) -> Fixed
-    ensures { λ r. ⌜ r .0 ≡ atLeastOne (lengthOutcome l) ⌝ }
+    ensures { result.0 ≡ at_least_one (length_outcome l) }
 {
     let Length::Value(a) = l else {
         return Fixed(1);
@@ -181,7 +181,7 @@ fn at_least_one(l: Length) -> Fixed
 
 // Side × 1,000 / permille, less titles, less headings, and never under 1.
 pub fn unscaled_capacity(side: Fixed, permille: u16, titles: Fixed, headings: Fixed) -> Length
-    ensures { λ r. ⌜ lengthOutcome r ≡ unscaledCapacity (side .0) permille (titles .0) (headings .0) ⌝ }
+    ensures { length_outcome result ≡ unscaled_capacity side.0 permille titles.0 headings.0 }
 {
     if permille == 0 {
         return Length::CoordinateOverflow;
@@ -196,7 +196,7 @@ pub fn unscaled_capacity(side: Fixed, permille: u16, titles: Fixed, headings: Fi
 
 // Inches × 96 × 1,024, to the nearest unit.
 pub fn inches_to_fixed(inches: f64) -> Length
-    ensures { λ r. ⌜ lengthOutcome r ≡ inchesToFixed inches ⌝ }
+    ensures { length_outcome result ≡ inches_to_fixed inches }
 {
     let raw = inches * 96.0 * 1024.0;
     if raw > -0.5 {

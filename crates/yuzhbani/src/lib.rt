@@ -1,67 +1,50 @@
 // Plans, pages and their text for a program in another language. `rt staticlib yuzhbani` makes an archive of these calls, which C or Rust
 // can link. A plan is handed over as sixty numbers and a page as twelve, in the order that `specs/Numbers.antt` of `yuzhbani_answers` says;
 // what is asked of a plan as sixty-one, in the order that `specs/Request.antt` of `yuzhbani_request` says.
-use job::count_job;
-use job::plan_job;
-use job::write_job_area;
-use job_report::BlockAnswer;
-use job_report::area_block;
-use job_report::area_line;
-use job_report::head_lines;
+ghost use Rattle.std.specs.Prelude.{◌≡◌};
+ghost use Rattle.planner_rules.specs.Questions.{ask};
+ghost use Rattle.planner_rules.specs.Pages.{page_numbered};
+ghost use Rattle.planner_rules.specs.Plan.{planned, plan_outcome, writing_outcome};
+ghost use Rattle.planner_rules.specs.Demand.{CoversPairs, FewestPlan, LargestPlan};
+ghost use Rattle.planner_rules.specs.declared.planning.RunCounts.{RunCounts};
+ghost use Rattle.job.specs.PlanJob as job;
+ghost use Rattle.job_report.specs.Lines.{head_lines, area_line, LinesPut};
+ghost use Rattle.job_report.specs.declared.blocks.Block.{Block};
+ghost use Rattle.job_report.specs.Blocks.{block_pages, block_outcome};
+ghost use Rattle.yuzhbani_answers.specs.Numbers as section;
+ghost use Rattle.yuzhbani_answers.specs.Answers.{answer_to, PageHanded};
+ghost use Rattle.yuzhbani_request.specs.Request.{sheet_requested, areas_from, areas_counted, flags_hold};
+ghost use Rattle.yuzhbani.specs.Calls as calls;
+
+use job::{count_job, plan_job, write_job_area};
+use job_report::{BlockAnswer, area_block, area_line, head_lines};
 use planner::plan_pages;
 use planner_pages::page_numbered;
 use planner_rules::Writing;
-use yuzhbani_answers::plan_from;
-use yuzhbani_answers::put_page;
-use yuzhbani_answers::put_planning;
-use yuzhbani_answers::told;
-use yuzhbani_request::areas_counted;
-use yuzhbani_request::flags_hold;
-use yuzhbani_request::request_from;
-ghost use mathlib.Core.Path.{_≡_};
-ghost use Rattle·planner_rules.specs.Questions.{ask};
-ghost use Rattle·planner_rules.specs.Pages.{pageNumbered};
-ghost use Rattle·planner_rules.specs.Plan.{planned, planOutcome, writingOutcome};
-ghost use Rattle·planner_rules.specs.Demand.{CoversPairs, FewestPlan, LargestPlan};
-ghost use Rattle·planner_rules.specs.declared.planning.RunCounts.{RunCounts};
-ghost use Rattle·job.specs.PlanJob as job;
-ghost use Rattle·job_report.specs.Lines.{headLines, areaLine, LinesPut};
-ghost use Rattle·job_report.specs.declared.blocks.Block.{Block};
-ghost use Rattle·job_report.specs.Blocks.{blockPages, blockOutcome};
-ghost use Rattle·yuzhbani_answers.specs.Numbers as section;
-ghost use Rattle·yuzhbani_answers.specs.Answers.{answerTo, PageHanded};
-ghost use Rattle·yuzhbani_request.specs.Request.{sheetRequested, areasFrom, areasCounted, flagsHold};
-ghost use Rattle·yuzhbani·specs.specs.Calls as calls;
+use yuzhbani_answers::{plan_from, put_page, put_planning, told};
+use yuzhbani_request::{areas_counted, flags_hold, request_from};
 
 // Plans the pages of a job: 0, with the plan's numbers in `numbers` and its runs at the fronts of two lent lists, area after area; or the
 // number of a refusal, and nothing is written.
-#[no_mangle]
+#[unsafe(no_mangle)]
 pub extern "C" fn yuzhbani_plan(
     bytes: &[u8],
     numbers: &mut [u64; 60],
     row_runs: &mut [u64],
     column_runs: &mut [u64],
 ) -> u8
-    ensures planned { λ r. ⌜
-        (let rows₀ = now («row_runs» .entry) in
-        let columns₀ = now («column_runs» .entry) in
-        calls.PlanHanded (job.planJob (now (bytes .entry)) rows₀ columns₀)
-        r (now (numbers .entry)) (now (numbers .exit)) rows₀ columns₀ (now («row_runs» .exit)) (now («column_runs» .exit)))
-        ⌝ }
-    ensures covered { λ r. ⌜
-        (let asked = now (bytes .entry) in
-        CoversPairs (section.told r (now (numbers .exit))) (job.jobSheet asked) (job.jobAreas asked)
-        (now («row_runs» .exit)) (now («column_runs» .exit)))
-        ⌝ }
-    ensures fewest { λ r. ⌜
-        (let asked = now (bytes .entry) in
-        FewestPlan (section.told r (now (numbers .exit))) (job.jobSheet asked) (job.jobAreas asked)
-        (now («row_runs» .exit)) (now («column_runs» .exit)))
-        ⌝ }
-    ensures largest { λ r. ⌜
-        (let asked = now (bytes .entry) in
-        LargestPlan (section.told r (now (numbers .exit))) (job.jobSheet asked) (job.jobAreas asked))
-        ⌝ }
+    ensures planned { let rows₀ = row_runs.old in
+        let columns₀ = column_runs.old in
+        calls.PlanHanded (job.plan_job bytes.now rows₀ columns₀)
+        result numbers.old numbers.new rows₀ columns₀ row_runs.new column_runs.new }
+    ensures covered { let asked = bytes.now in
+        CoversPairs (section.told result numbers.new) (job.job_sheet asked) (job.job_areas asked)
+        row_runs.new column_runs.new }
+    ensures fewest { let asked = bytes.now in
+        FewestPlan (section.told result numbers.new) (job.job_sheet asked) (job.job_areas asked)
+        row_runs.new column_runs.new }
+    ensures largest { let asked = bytes.now in
+        LargestPlan (section.told result numbers.new) (job.job_sheet asked) (job.job_areas asked) }
 {
     let planning = plan_job(bytes, row_runs, column_runs);
     put_planning(planning, numbers)
@@ -69,9 +52,9 @@ pub extern "C" fn yuzhbani_plan(
 
 // Counts the pages of a job: 0, with the numbers of the plan that `yuzhbani_plan` makes in lists that are long enough; or the number of a
 // refusal, and nothing is written.
-#[no_mangle]
+#[unsafe(no_mangle)]
 pub extern "C" fn yuzhbani_count(bytes: &[u8], numbers: &mut [u64; 60]) -> u8
-    ensures { λ r. ⌜ calls.CountHanded (job.countJob (now (bytes .entry))) r (now (numbers .entry)) (now (numbers .exit)) ⌝ }
+    ensures { calls.CountHanded (job.count_job bytes.now) result numbers.old numbers.new }
 {
     let planning = count_job(bytes);
     put_planning(planning, numbers)
@@ -79,11 +62,9 @@ pub extern "C" fn yuzhbani_count(bytes: &[u8], numbers: &mut [u64; 60]) -> u8
 
 // Puts how many runs were written, or nothing, and answers 0, or the number of the refusal.
 fn put_counts(writing: Writing, counts: &mut [u64; 2]) -> u8
-    ensures { λ r. ⌜ r ≡ answerTo (writingOutcome writing) ⌝ }
-    ensures { λ _. ⌜
-        now (counts .exit)
-        ≡ calls.pairIn (λ (n : RunCounts). n .rows) (λ (n : RunCounts). n .columns) (writingOutcome writing) (now (counts .entry))
-        ⌝ }
+    ensures value { result ≡ answer_to (writing_outcome writing) }
+    ensures counts_after { counts.new
+        ≡ calls.pair_in (λ (n : RunCounts). n.rows) (λ (n : RunCounts). n.columns) (writing_outcome writing) counts.old }
 {
     match writing {
         Writing::Value(wrote) => {
@@ -96,7 +77,7 @@ fn put_counts(writing: Writing, counts: &mut [u64; 2]) -> u8
 
 // Writes the runs of the area with a number, from 1, at a permille to the fronts of two lent lists: 0, with how many runs of rows and of columns in
 // `counts`; or the number of a refusal, and nothing is written.
-#[no_mangle]
+#[unsafe(no_mangle)]
 pub extern "C" fn yuzhbani_write_area(
     bytes: &[u8],
     number: u64,
@@ -105,12 +86,10 @@ pub extern "C" fn yuzhbani_write_area(
     row_runs: &mut [u64],
     column_runs: &mut [u64],
 ) -> u8
-    ensures { λ r. ⌜
-        (let rows₀ = now («row_runs» .entry) in
-        let columns₀ = now («column_runs» .entry) in
-        calls.AreaHanded (job.writeJobArea (now (bytes .entry)) number permille rows₀ columns₀)
-        r (now (counts .entry)) (now (counts .exit)) rows₀ columns₀ (now («row_runs» .exit)) (now («column_runs» .exit)))
-        ⌝ }
+    ensures { let rows₀ = row_runs.old in
+        let columns₀ = column_runs.old in
+        calls.AreaHanded (job.write_job_area bytes.now number permille rows₀ columns₀)
+        result counts.old counts.new rows₀ columns₀ row_runs.new column_runs.new }
 {
     let writing = write_job_area(bytes, number, permille, row_runs, column_runs);
     put_counts(writing, counts)
@@ -118,7 +97,7 @@ pub extern "C" fn yuzhbani_write_area(
 
 // Plans the pages of lists: what is asked as sixty-one numbers, the measured slots, merges and breaks as ten lists. It answers and writes as
 // `yuzhbani_plan` does. No area or a ninth is refused with 4, and then a fit or an order that is neither 0 nor 1 with 5, before lists are asked.
-#[no_mangle]
+#[unsafe(no_mangle)]
 pub extern "C" fn yuzhbani_plan_lists(
     request: &[u64; 61],
     row_indexes: &[u32],
@@ -135,37 +114,29 @@ pub extern "C" fn yuzhbani_plan_lists(
     row_runs: &mut [u64],
     column_runs: &mut [u64],
 ) -> u8
-    ensures planned { λ r. ⌜
-        (let asked = now (request .entry) in
-        let sheet = sheetRequested asked (now («row_indexes» .entry)) (now («row_sizes» .entry)) (now («column_indexes» .entry))
-        (now («column_sizes» .entry)) (now («merge_first_rows» .entry)) (now («merge_first_columns» .entry)) (now («merge_last_rows» .entry))
-        (now («merge_last_columns» .entry)) (now («row_breaks» .entry)) (now («column_breaks» .entry)) in
-        let rows₀ = now («row_runs» .entry) in
-        let columns₀ = now («column_runs» .entry) in
-        calls.PlanHanded (ask 4 (areasCounted asked) (ask 5 (flagsHold asked) (planned sheet (areasFrom asked) rows₀ columns₀)))
-        r (now (numbers .entry)) (now (numbers .exit)) rows₀ columns₀ (now («row_runs» .exit)) (now («column_runs» .exit)))
-        ⌝ }
-    ensures covered { λ r. ⌜
-        (let asked = now (request .entry) in
-        let sheet = sheetRequested asked (now («row_indexes» .entry)) (now («row_sizes» .entry)) (now («column_indexes» .entry))
-        (now («column_sizes» .entry)) (now («merge_first_rows» .entry)) (now («merge_first_columns» .entry)) (now («merge_last_rows» .entry))
-        (now («merge_last_columns» .entry)) (now («row_breaks» .entry)) (now («column_breaks» .entry)) in
-        CoversPairs (section.told r (now (numbers .exit))) sheet (areasFrom asked) (now («row_runs» .exit)) (now («column_runs» .exit)))
-        ⌝ }
-    ensures fewest { λ r. ⌜
-        (let asked = now (request .entry) in
-        let sheet = sheetRequested asked (now («row_indexes» .entry)) (now («row_sizes» .entry)) (now («column_indexes» .entry))
-        (now («column_sizes» .entry)) (now («merge_first_rows» .entry)) (now («merge_first_columns» .entry)) (now («merge_last_rows» .entry))
-        (now («merge_last_columns» .entry)) (now («row_breaks» .entry)) (now («column_breaks» .entry)) in
-        FewestPlan (section.told r (now (numbers .exit))) sheet (areasFrom asked) (now («row_runs» .exit)) (now («column_runs» .exit)))
-        ⌝ }
-    ensures largest { λ r. ⌜
-        (let asked = now (request .entry) in
-        let sheet = sheetRequested asked (now («row_indexes» .entry)) (now («row_sizes» .entry)) (now («column_indexes» .entry))
-        (now («column_sizes» .entry)) (now («merge_first_rows» .entry)) (now («merge_first_columns» .entry)) (now («merge_last_rows» .entry))
-        (now («merge_last_columns» .entry)) (now («row_breaks» .entry)) (now («column_breaks» .entry)) in
-        LargestPlan (section.told r (now (numbers .exit))) sheet (areasFrom asked))
-        ⌝ }
+    ensures planned { let asked = request.now in
+        let sheet = sheet_requested asked row_indexes.now row_sizes.now column_indexes.now
+        column_sizes.now merge_first_rows.now merge_first_columns.now merge_last_rows.now
+        merge_last_columns.now row_breaks.now column_breaks.now in
+        let rows₀ = row_runs.old in
+        let columns₀ = column_runs.old in
+        calls.PlanHanded (ask 4 (areas_counted asked) (ask 5 (flags_hold asked) (planned sheet (areas_from asked) rows₀ columns₀)))
+        result numbers.old numbers.new rows₀ columns₀ row_runs.new column_runs.new }
+    ensures covered { let asked = request.now in
+        let sheet = sheet_requested asked row_indexes.now row_sizes.now column_indexes.now
+        column_sizes.now merge_first_rows.now merge_first_columns.now merge_last_rows.now
+        merge_last_columns.now row_breaks.now column_breaks.now in
+        CoversPairs (section.told result numbers.new) sheet (areas_from asked) row_runs.new column_runs.new }
+    ensures fewest { let asked = request.now in
+        let sheet = sheet_requested asked row_indexes.now row_sizes.now column_indexes.now
+        column_sizes.now merge_first_rows.now merge_first_columns.now merge_last_rows.now
+        merge_last_columns.now row_breaks.now column_breaks.now in
+        FewestPlan (section.told result numbers.new) sheet (areas_from asked) row_runs.new column_runs.new }
+    ensures largest { let asked = request.now in
+        let sheet = sheet_requested asked row_indexes.now row_sizes.now column_indexes.now
+        column_sizes.now merge_first_rows.now merge_first_columns.now merge_last_rows.now
+        merge_last_columns.now row_breaks.now column_breaks.now in
+        LargestPlan (section.told result numbers.new) sheet (areas_from asked) }
 {
     if !areas_counted(request) {
         return 4;
@@ -201,7 +172,7 @@ pub extern "C" fn yuzhbani_plan_lists(
 
 // The page of a plan with a number from 1 to its count, of the plan's numbers and the lists that were lent to it: 0, with the page's numbers
 // in `page`; or the number of a refusal, and nothing is written.
-#[no_mangle]
+#[unsafe(no_mangle)]
 pub extern "C" fn yuzhbani_page(
     numbers: &[u64; 60],
     number: u64,
@@ -209,11 +180,9 @@ pub extern "C" fn yuzhbani_page(
     column_runs: &[u64],
     page: &mut [u64; 12],
 ) -> u8
-    ensures { λ r. ⌜
-        PageHanded
-        (pageNumbered (section.planFrom (now (numbers .entry))) (now («row_runs» .entry)) (now («column_runs» .entry)) number)
-        r (now (page .entry)) (now (page .exit))
-        ⌝ }
+    ensures { PageHanded
+        (page_numbered (section.plan_from numbers.now) row_runs.now column_runs.now number)
+        result page.old page.new }
 {
     let plan = plan_from(numbers);
     let answer = page_numbered(plan, number, row_runs, column_runs);
@@ -222,31 +191,27 @@ pub extern "C" fn yuzhbani_page(
 
 // The first two lines of what a plan is told by, of the answer of a plan call and the plan's numbers, or the line of a refusal, at the start
 // of `out`; it answers how many bytes.
-#[no_mangle]
+#[unsafe(no_mangle)]
 pub extern "C" fn yuzhbani_head(answer: u8, numbers: &[u64; 60], out: &mut [u8; 256]) -> usize
-    ensures { λ r. ⌜
-        LinesPut (headLines (planOutcome (section.told answer (now (numbers .entry)))))
-        r (now (out .entry)) (now (out .exit))
-        ⌝ }
+    ensures { LinesPut (head_lines (plan_outcome (section.told answer numbers.now)))
+        result out.old out.new }
 {
     let planning = told(answer, numbers);
     head_lines(planning, out)
 }
 
 // The line before the pages of a later area, by its number from 1 and its permille, at the start of `out`; it answers how many bytes.
-#[no_mangle]
+#[unsafe(no_mangle)]
 pub extern "C" fn yuzhbani_area_line(number: u64, permille: u16, out: &mut [u8; 256]) -> usize
-    ensures { λ r. ⌜ LinesPut (areaLine number permille) r (now (out .entry)) (now (out .exit)) ⌝ }
+    ensures { LinesPut (area_line number permille) result out.old out.new }
 {
     area_line(number, permille, out)
 }
 
 // Puts the two numbers of a block, or nothing, and answers 0, or the number of the refusal.
 fn put_block(answer: BlockAnswer, block: &mut [u64; 2]) -> u8
-    ensures { λ r. ⌜ r ≡ answerTo (blockOutcome answer) ⌝ }
-    ensures { λ _. ⌜
-        now (block .exit) ≡ calls.pairIn (λ (b : Block). b .pages) (λ (b : Block). b .bytes) (blockOutcome answer) (now (block .entry))
-        ⌝ }
+    ensures value { result ≡ answer_to (block_outcome answer) }
+    ensures block_after { block.new ≡ calls.pair_in (λ (b : Block). b.pages) (λ (b : Block). b.bytes) (block_outcome answer) block.old }
 {
     match answer {
         BlockAnswer::Value(held) => {
@@ -260,7 +225,7 @@ fn put_block(answer: BlockAnswer, block: &mut [u64; 2]) -> u8
 // The lines of the pages from a number on, of the area that this page belongs to, as long as there is such a page and 256 of the bytes are left, of
 // the plan's numbers and two lists that hold the area's runs at the front: 0, with how many pages and how many bytes in `block`, and the lines at
 // the start of `out`; or the number of a refusal, and nothing is written.
-#[no_mangle]
+#[unsafe(no_mangle)]
 pub extern "C" fn yuzhbani_block(
     numbers: &[u64; 60],
     from: u64,
@@ -269,11 +234,9 @@ pub extern "C" fn yuzhbani_block(
     block: &mut [u64; 2],
     out: &mut [u8; 65536],
 ) -> u8
-    ensures { λ r. ⌜
-        calls.BlockHanded
-        (blockPages (section.planFrom (now (numbers .entry))) (now («row_runs» .entry)) (now («column_runs» .entry)) from) from
-        r (now (block .entry)) (now (out .entry)) (now (block .exit)) (now (out .exit))
-        ⌝ }
+    ensures { calls.BlockHanded
+        (block_pages (section.plan_from numbers.now) row_runs.now column_runs.now from) from
+        result block.old out.old block.new out.new }
 {
     let plan = plan_from(numbers);
     let answer = area_block(plan, from, row_runs, column_runs, out);

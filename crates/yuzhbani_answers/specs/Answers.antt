@@ -1,43 +1,41 @@
 -- The answer of a call, 0 or the number of a refusal, and the array that is lent for its numbers. Assumes nothing.
-use mathlib.Core.Path.{_≡_}
-use mathlib.Core.List.{List}
-use Prim.Native.Nat.{ℕ}
-use Rattle·units.specs.Outcome.{Outcome, given, refused}
-use Rattle·planner_rules.specs.declared.pages.Page.{Page}
-use Rattle·planner_rules.specs.declared.planning.Planning.{Planning}
-use Rattle·planner_rules.specs.declared.planning.Planning.the-variants.{Value, Refused}
-use Rattle·yuzhbani_answers·specs.specs.Numbers.{planNumbers, pageNumbers, planFrom}
+use Rattle.std.specs.Prelude.{◌≡◌, List, ℕ}
+use Rattle.units.specs.Outcome.{Outcome, given, refused}
+use Rattle.planner_rules.specs.declared.pages.Page.{Page}
+use Rattle.planner_rules.specs.declared.planning.Planning.{Planning}
+use Rattle.planner_rules.specs.declared.planning.Planning.TheVariants.{Value, Refused}
+use Rattle.yuzhbani_answers.specs.Numbers.{plan_numbers, page_numbers, plan_from}
 
 -- 0 where a value was given, else "the number" of the "no"
-abbrev pub answerTo : {A : Type 0} → Outcome A → ℕ
-answerTo (given a) = 0
-answerTo (refused n) = n
+abbrev pub answer_to : {A : Type 0} → Outcome A → ℕ
+answer_to (given a) = 0
+answer_to (refused n) = n
 
 -- ---- of a page call
 
 -- an array that is lent for the numbers of a page: these, or, where the call is refused, what stood there
-abbrev pub pageIn : Outcome Page → List ℕ → List ℕ
-pageIn (given p) old = pageNumbers p
-pageIn (refused n) old = old
+abbrev pub page_in : Outcome Page → List ℕ → List ℕ
+page_in (given p) old = page_numbers p
+page_in (refused n) old = old
 
 -- the answer r of a page call, and its array of numbers, which held `old`
 pub record PageHanded (o : Outcome Page) (r : ℕ) (old numbers : List ℕ) : Type 0 where
-  pub answer : r ≡ answerTo o
-  pub numbers-are : numbers ≡ pageIn o old
+  pub answer : r ≡ answer_to o
+  pub numbers_are : numbers ≡ page_in o old
 
 -- ---- of a plan call
 
 -- 0, or the number of the refusal
-abbrev pub answerOf : Planning → ℕ
-answerOf (Value p) = 0
-answerOf (Refused n) = n
+abbrev pub answer_of : Planning → ℕ
+answer_of (Value p) = 0
+answer_of (Refused n) = n
 
 -- the sixty numbers of a plan, or those that stood there
-abbrev pub numbersOf : Planning → List ℕ → List ℕ
-numbersOf (Value p) old = planNumbers p
-numbersOf (Refused n) old = old
+abbrev pub numbers_of : Planning → List ℕ → List ℕ
+numbers_of (Value p) old = plan_numbers p
+numbers_of (Refused n) old = old
 
 -- a plan is had back from its numbers
 abbrev pub HadBack : Planning → Type 0
-HadBack (Value p) = planFrom (planNumbers p) ≡ p
+HadBack (Value p) = plan_from (plan_numbers p) ≡ p
 HadBack (Refused n) = Unit {0}

@@ -1,19 +1,14 @@
 -- A plan and a page as numbers, for a caller in another language. Assumes nothing.
-use mathlib.Core.Path.{_≡_}
-use mathlib.Core.Bool.{Bool, cond}
-use mathlib.Core.List.{List, [], _∷_, _++_}
-use Prim.Native.Nat.{ℕ, zero, suc, _+_, _*_, _<_, min}
-use lib.Dec.{ltb}
-use lib.ListN.{getD, set}
-use Rattle·planner_rules.specs.declared.pages.PageOrder.{PageOrder}
-use Rattle·planner_rules.specs.declared.pages.PageOrder.the-variants.{DownThenOver, OverThenDown}
-use Rattle·planner_rules.specs.declared.pages.Page.{Page}
-use Rattle·planner_rules.specs.declared.pages.AreaPlan.{AreaPlan}
-use Rattle·planner_rules.specs.declared.pages.AreaPlans.{AreaPlans}
-use Rattle·planner_rules.specs.declared.pages.Plan.{Plan}
-use Rattle·planner_rules.specs.declared.planning.Planning.{Planning}
-use Rattle·planner_rules.specs.declared.planning.Planning.the-variants.{Value, Refused}
-use Rattle·planner_rules.specs.Areas.{eightPlans, noPlan}
+use Rattle.std.specs.Prelude.{◌≡◌, Bool, cond, List, [], ◌∷◌, ◌++◌, ℕ, zero, suc, ◌+◌, ◌*◌, ◌<◌, min, ltb, get_or, set}
+use Rattle.planner_rules.specs.declared.pages.PageOrder.{PageOrder}
+use Rattle.planner_rules.specs.declared.pages.PageOrder.TheVariants.{DownThenOver, OverThenDown}
+use Rattle.planner_rules.specs.declared.pages.Page.{Page}
+use Rattle.planner_rules.specs.declared.pages.AreaPlan.{AreaPlan}
+use Rattle.planner_rules.specs.declared.pages.AreaPlans.{AreaPlans}
+use Rattle.planner_rules.specs.declared.pages.Plan.{Plan}
+use Rattle.planner_rules.specs.declared.planning.Planning.{Planning}
+use Rattle.planner_rules.specs.declared.planning.Planning.TheVariants.{Value, Refused}
+use Rattle.planner_rules.specs.Areas.{eight_plans, no_plan}
 
 -- ---- to numbers
 
@@ -22,118 +17,118 @@ abbrev pub bit : Bool → ℕ
 bit b = cond b 1 0
 
 -- 1 for over then down, as in OD
-abbrev pub orderNumber : PageOrder → ℕ
-orderNumber DownThenOver = 0
-orderNumber OverThenDown = 1
+abbrev pub order_number : PageOrder → ℕ
+order_number DownThenOver = 0
+order_number OverThenDown = 1
 
 -- an area: permille, 1 where no permille fits, row runs, column runs, whether rows and whether columns are empty
-abbrev pub areaNumbers : AreaPlan → List ℕ
-areaNumbers a = a .permille ∷ a .unreachable ∷ a .«row_runs» ∷ a .«column_runs» ∷ bit (a .«rows_empty») ∷ bit (a .«columns_empty») ∷ []
+abbrev pub area_numbers : AreaPlan → List ℕ
+area_numbers a = a.permille ∷ a.unreachable ∷ a.row_runs ∷ a.column_runs ∷ bit a.rows_empty ∷ bit a.columns_empty ∷ []
 
 -- areas, one after another
-abbrev pub areasNumbers : List AreaPlan → List ℕ
-areasNumbers [] = []
-areasNumbers (a ∷ rest) = areaNumbers a ++ areasNumbers rest
+abbrev pub areas_numbers : List AreaPlan → List ℕ
+areas_numbers [] = []
+areas_numbers (a ∷ rest) = area_numbers a ++ areas_numbers rest
 
 -- how many areas there are, pages, order, the nine notes in order, and the eight areas; behind the last that counts, nothing is meant
-unfoldable pub planNumbers : Plan → List ℕ
-planNumbers p =
-    p .areas .count ∷ p .pages ∷ orderNumber (p .order)
-    ∷ p .notes .«unknown_paper» ∷ p .notes .«invalid_margins» ∷ p .notes .«scale_clamped» ∷ p .notes .«fit_unreachable» ∷ p .notes .«titles_ignored»
-    ∷ p .notes .«titles_expanded» ∷ p .notes .«merge_expansions» ∷ p .notes .«break_shifts» ∷ p .notes .«overflowing_runs»
-    ∷ areasNumbers (eightPlans (p .areas))
+unfoldable pub plan_numbers : Plan → List ℕ
+plan_numbers p =
+    p.areas.count ∷ p.pages ∷ order_number p.order
+    ∷ p.notes.unknown_paper ∷ p.notes.invalid_margins ∷ p.notes.scale_clamped ∷ p.notes.fit_unreachable ∷ p.notes.titles_ignored
+    ∷ p.notes.titles_expanded ∷ p.notes.merge_expansions ∷ p.notes.break_shifts ∷ p.notes.overflowing_runs
+    ∷ areas_numbers (eight_plans p.areas)
 
 -- "A page has its vertical and horizontal run numbers from 0 and both runs", rows first; "A run has first, last, size, empty-body mark, manual-break mark."
-unfoldable pub pageNumbers : Page → List ℕ
-pageNumbers p =
-    p .vertical ∷ p .horizontal
-    ∷ p .rows .first ∷ p .rows .last ∷ p .rows .size ∷ bit (p .rows .«empty_body») ∷ bit (p .rows .«manual_break»)
-    ∷ p .columns .first ∷ p .columns .last ∷ p .columns .size ∷ bit (p .columns .«empty_body») ∷ bit (p .columns .«manual_break») ∷ []
+unfoldable pub page_numbers : Page → List ℕ
+page_numbers p =
+    p.vertical ∷ p.horizontal
+    ∷ p.rows.first ∷ p.rows.last ∷ p.rows.size ∷ bit p.rows.empty_body ∷ bit p.rows.manual_break
+    ∷ p.columns.first ∷ p.columns.last ∷ p.columns.size ∷ bit p.columns.empty_body ∷ bit p.columns.manual_break ∷ []
 
 -- ---- from numbers, whoever wrote them
 
 -- any number above 0 is a mark that is set
-abbrev pub isSet : ℕ → Bool
-isSet n = ltb 0 n
+abbrev pub is_set : ℕ → Bool
+is_set n = ltb 0 n
 
 -- any number above 0 is over then down
-abbrev pub orderFrom : ℕ → PageOrder
-orderFrom n = cond (isSet n) OverThenDown DownThenOver
+abbrev pub order_from : ℕ → PageOrder
+order_from n = cond (is_set n) OverThenDown DownThenOver
 
 -- the area that six numbers stand for, from a place on; a permille above 65,535 is 65,535
-unfoldable pub areaFrom : List ℕ → ℕ → AreaPlan
-areaFrom ns at = record {
-  permille = min (getD ns at 0) 65535;
-  unreachable = getD ns (at + 1) 0;
-  «row_runs» = getD ns (at + 2) 0;
-  «column_runs» = getD ns (at + 3) 0;
-  «rows_empty» = isSet (getD ns (at + 4) 0);
-  «columns_empty» = isSet (getD ns (at + 5) 0);
+unfoldable pub area_from : List ℕ → ℕ → AreaPlan
+area_from ns at = record {
+  permille = min (get_or ns at 0) 65535;
+  unreachable = get_or ns (at + 1) 0;
+  row_runs = get_or ns (at + 2) 0;
+  column_runs = get_or ns (at + 3) 0;
+  rows_empty = is_set (get_or ns (at + 4) 0);
+  columns_empty = is_set (get_or ns (at + 5) 0);
 }
 
 -- the areas; of more than eight, those that stand there are meant
-unfoldable pub areasFrom : List ℕ → AreaPlans
-areasFrom ns = record {
-  count = getD ns 0 0;
-  first = areaFrom ns 12;
-  second = areaFrom ns 18;
-  third = areaFrom ns 24;
-  fourth = areaFrom ns 30;
-  fifth = areaFrom ns 36;
-  sixth = areaFrom ns 42;
-  seventh = areaFrom ns 48;
-  eighth = areaFrom ns 54;
+unfoldable pub areas_from : List ℕ → AreaPlans
+areas_from ns = record {
+  count = get_or ns 0 0;
+  first = area_from ns 12;
+  second = area_from ns 18;
+  third = area_from ns 24;
+  fourth = area_from ns 30;
+  fifth = area_from ns 36;
+  sixth = area_from ns 42;
+  seventh = area_from ns 48;
+  eighth = area_from ns 54;
 }
 
 -- the plan that sixty numbers stand for
-unfoldable pub planFrom : List ℕ → Plan
-planFrom ns = record {
-  areas = areasFrom ns;
-  pages = getD ns 1 0;
-  order = orderFrom (getD ns 2 0);
+unfoldable pub plan_from : List ℕ → Plan
+plan_from ns = record {
+  areas = areas_from ns;
+  pages = get_or ns 1 0;
+  order = order_from (get_or ns 2 0);
   notes = record {
-    «unknown_paper» = getD ns 3 0;
-    «invalid_margins» = getD ns 4 0;
-    «scale_clamped» = getD ns 5 0;
-    «fit_unreachable» = getD ns 6 0;
-    «titles_ignored» = getD ns 7 0;
-    «titles_expanded» = getD ns 8 0;
-    «merge_expansions» = getD ns 9 0;
-    «break_shifts» = getD ns 10 0;
-    «overflowing_runs» = getD ns 11 0;
+    unknown_paper = get_or ns 3 0;
+    invalid_margins = get_or ns 4 0;
+    scale_clamped = get_or ns 5 0;
+    fit_unreachable = get_or ns 6 0;
+    titles_ignored = get_or ns 7 0;
+    titles_expanded = get_or ns 8 0;
+    merge_expansions = get_or ns 9 0;
+    break_shifts = get_or ns 10 0;
+    overflowing_runs = get_or ns 11 0;
   };
 }
 
 -- what an answer and sixty numbers stand for: 0 is a plan, any other number a refusal
 abbrev pub told : ℕ → List ℕ → Planning
-told zero ns = Value (planFrom ns)
+told zero ns = Value (plan_from ns)
 told (suc n) ns = Refused (suc n)
 
 -- ---- for the private functions
 
 -- numbers with those of an area in their places, from one on
-unfoldable pub areaPut : AreaPlan → ℕ → List ℕ → List ℕ
-areaPut a at ns =
-    set (set (set (set (set (set ns at (a .permille)) (at + 1) (a .unreachable)) (at + 2) (a .«row_runs»)) (at + 3) (a .«column_runs»))
-    (at + 4) (bit (a .«rows_empty»))) (at + 5) (bit (a .«columns_empty»))
+unfoldable pub area_put : AreaPlan → ℕ → List ℕ → List ℕ
+area_put a at ns =
+    set (set (set (set (set (set ns at a.permille) (at + 1) a.unreachable) (at + 2) a.row_runs) (at + 3) a.column_runs)
+    (at + 4) (bit a.rows_empty)) (at + 5) (bit a.columns_empty)
 
 -- numbers with those of so many areas in their places, area k from 12 + 6 k on
-unfoldable pub areasPut : AreaPlans → ℕ → List ℕ → List ℕ
-areasPut as′ zero ns = ns
-areasPut as′ (suc k) ns = areaPut (getD (eightPlans as′) k noPlan) (12 + 6 * k) (areasPut as′ k ns)
+unfoldable pub areas_put : AreaPlans → ℕ → List ℕ → List ℕ
+areas_put as' zero ns = ns
+areas_put as' (suc k) ns = area_put (get_or (eight_plans as') k no_plan) (12 + 6 * k) (areas_put as' k ns)
 
 -- numbers with those of a plan in their places that stand before the areas
-unfoldable pub headPut : Plan → List ℕ → List ℕ
-headPut p ns =
-    set (set (set (set (set (set (set (set (set (set (set (set ns 0 (p .areas .count)) 1 (p .pages)) 2 (orderNumber (p .order)))
-    3 (p .notes .«unknown_paper»)) 4 (p .notes .«invalid_margins»)) 5 (p .notes .«scale_clamped»)) 6 (p .notes .«fit_unreachable»))
-    7 (p .notes .«titles_ignored»)) 8 (p .notes .«titles_expanded»)) 9 (p .notes .«merge_expansions»)) 10 (p .notes .«break_shifts»))
-    11 (p .notes .«overflowing_runs»)
+unfoldable pub head_put : Plan → List ℕ → List ℕ
+head_put p ns =
+    set (set (set (set (set (set (set (set (set (set (set (set ns 0 p.areas.count) 1 p.pages) 2 (order_number p.order))
+    3 p.notes.unknown_paper) 4 p.notes.invalid_margins) 5 p.notes.scale_clamped) 6 p.notes.fit_unreachable)
+    7 p.notes.titles_ignored) 8 p.notes.titles_expanded) 9 p.notes.merge_expansions) 10 p.notes.break_shifts)
+    11 p.notes.overflowing_runs
 
 -- an area is had back from its numbers
 abbrev pub AreaBack : AreaPlan → Type 0
-AreaBack a = areaFrom (areaNumbers a) 0 ≡ a
+AreaBack a = area_from (area_numbers a) 0 ≡ a
 
 -- so are the first areas
 abbrev pub AllBack : AreaPlans → ℕ → Type 0
-AllBack as′ n = (k : ℕ) → k < n → AreaBack (getD (eightPlans as′) k noPlan)
+AllBack as' n = (k : ℕ) → k < n → AreaBack (get_or (eight_plans as') k no_plan)

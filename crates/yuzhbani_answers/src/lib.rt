@@ -1,20 +1,14 @@
 // A plan and a page as numbers, for a caller in another language.
+ghost use Rattle.std.specs.Prelude.{◌≡◌, ◌≤◌, min};
+ghost use Rattle.planner_rules.specs.Pages.{page_outcome};
+ghost use Rattle.yuzhbani_answers.specs.Numbers as section;
+ghost use Rattle.yuzhbani_answers.specs.Answers.{answer_of, numbers_of, HadBack, PageHanded};
+
 use planner_areas::plan_at;
-use planner_rules::AreaPlan;
-use planner_rules::AreaPlans;
-use planner_rules::Notes;
-use planner_rules::PageAnswer;
-use planner_rules::PageOrder;
-use planner_rules::Plan;
-use planner_rules::Planning;
-ghost use mathlib.Core.Path.{_≡_};
-ghost use Prim.Native.Nat.{_≤_, min};
-ghost use Rattle·planner_rules.specs.Pages.{pageOutcome};
-ghost use Rattle·yuzhbani_answers·specs.specs.Numbers as section;
-ghost use Rattle·yuzhbani_answers·specs.specs.Answers.{answerOf, numbersOf, HadBack, PageHanded};
+use planner_rules::{AreaPlan, AreaPlans, Notes, PageAnswer, PageOrder, Plan, Planning};
 
 fn order_number(order: PageOrder) -> u64
-    ensures { λ r. ⌜ r ≡ section.orderNumber order ⌝ }
+    ensures { result ≡ section.order_number order }
 {
     match order {
         PageOrder::DownThenOver => 0,
@@ -23,7 +17,7 @@ fn order_number(order: PageOrder) -> u64
 }
 
 pub fn order_from(n: u64) -> PageOrder
-    ensures { λ r. ⌜ r ≡ section.orderFrom n ⌝ }
+    ensures { result ≡ section.order_from n }
 {
     if n > 0 {
         PageOrder::OverThenDown
@@ -33,14 +27,14 @@ pub fn order_from(n: u64) -> PageOrder
 }
 
 pub fn u16_from(n: u64) -> u16
-    ensures { λ r. ⌜ r ≡ min n 65535 ⌝ }
+    ensures { result ≡ min n 65535 }
 {
     if n < 65535 { n as u16 } else { 65535 }
 }
 
 // The count of areas, the pages, the order and the notes, at the front.
 fn put_head(numbers: &mut [u64; 60], plan: Plan)
-    ensures { λ _. ⌜ now (numbers .exit) ≡ section.headPut plan (now (numbers .entry)) ⌝ }
+    ensures { numbers.new ≡ section.head_put plan numbers.old }
 {
     let order = plan.order;
     let notes = plan.notes;
@@ -60,9 +54,9 @@ fn put_head(numbers: &mut [u64; 60], plan: Plan)
 
 // The six numbers of an area, from a place on.
 fn put_area(numbers: &mut [u64; 60], at: usize, area: AreaPlan)
-    requires { ⌜ at ≤ 54 ⌝ }
-    ensures { λ _. ⌜ now (numbers .exit) ≡ section.areaPut area at (now (numbers .entry)) ⌝ }
-    ensures { λ _. ⌜ section.AreaBack area ⌝ }
+    requires { at ≤ 54 }
+    ensures numbers_after { numbers.new ≡ section.area_put area at numbers.old }
+    ensures area_back { section.AreaBack area }
 {
     numbers[at] = area.permille as u64;
     numbers[at + 1] = area.unreachable;
@@ -73,8 +67,8 @@ fn put_area(numbers: &mut [u64; 60], at: usize, area: AreaPlan)
 }
 
 fn put_areas(numbers: &mut [u64; 60], areas: AreaPlans)
-    ensures { λ _. ⌜ now (numbers .exit) ≡ section.areasPut areas 8 (now (numbers .entry)) ⌝ }
-    ensures { λ _. ⌜ section.AllBack areas 8 ⌝ }
+    ensures numbers_after { numbers.new ≡ section.areas_put areas 8 numbers.old }
+    ensures all_back { section.AllBack areas 8 }
 {
     let mut k = 0;
     while k < 8 {
@@ -84,8 +78,8 @@ fn put_areas(numbers: &mut [u64; 60], areas: AreaPlans)
 }
 
 fn put_plan(numbers: &mut [u64; 60], plan: Plan)
-    ensures { λ _. ⌜ now (numbers .exit) ≡ section.planNumbers plan ⌝ }
-    ensures { λ _. ⌜ section.planFrom (section.planNumbers plan) ≡ plan ⌝ }
+    ensures numbers_after { numbers.new ≡ section.plan_numbers plan }
+    ensures plan_value { section.plan_from (section.plan_numbers plan) ≡ plan }
 {
     *numbers = [0; 60];
     put_head(numbers, plan);
@@ -94,9 +88,9 @@ fn put_plan(numbers: &mut [u64; 60], plan: Plan)
 
 // The answer of a plan call; the numbers of its plan are put, or nothing.
 pub fn put_planning(planning: Planning, numbers: &mut [u64; 60]) -> u8
-    ensures { λ r. ⌜ r ≡ answerOf planning ⌝ }
-    ensures { λ _. ⌜ now (numbers .exit) ≡ numbersOf planning (now (numbers .entry)) ⌝ }
-    ensures { λ _. ⌜ HadBack planning ⌝ }
+    ensures value { result ≡ answer_of planning }
+    ensures numbers_after { numbers.new ≡ numbers_of planning numbers.old }
+    ensures had_back { HadBack planning }
 {
     match planning {
         Planning::Value(plan) => {
@@ -108,8 +102,8 @@ pub fn put_planning(planning: Planning, numbers: &mut [u64; 60]) -> u8
 }
 
 fn area_from(numbers: &[u64; 60], at: usize) -> AreaPlan
-    requires { ⌜ at ≤ 54 ⌝ }
-    ensures { λ r. ⌜ r ≡ section.areaFrom (now (numbers .entry)) at ⌝ }
+    requires { at ≤ 54 }
+    ensures { result ≡ section.area_from numbers.now at }
 {
     AreaPlan {
         permille: u16_from(numbers[at]),
@@ -122,7 +116,7 @@ fn area_from(numbers: &[u64; 60], at: usize) -> AreaPlan
 }
 
 fn areas_from(numbers: &[u64; 60]) -> AreaPlans
-    ensures { λ r. ⌜ r ≡ section.areasFrom (now (numbers .entry)) ⌝ }
+    ensures { result ≡ section.areas_from numbers.now }
 {
     AreaPlans {
         count: numbers[0] as usize,
@@ -138,7 +132,7 @@ fn areas_from(numbers: &[u64; 60]) -> AreaPlans
 }
 
 pub fn plan_from(numbers: &[u64; 60]) -> Plan
-    ensures { λ r. ⌜ r ≡ section.planFrom (now (numbers .entry)) ⌝ }
+    ensures { result ≡ section.plan_from numbers.now }
 {
     Plan {
         areas: areas_from(numbers),
@@ -160,7 +154,7 @@ pub fn plan_from(numbers: &[u64; 60]) -> Plan
 
 // What an answer and sixty numbers stand for.
 pub fn told(answer: u8, numbers: &[u64; 60]) -> Planning
-    ensures { λ r. ⌜ r ≡ section.told answer (now (numbers .entry)) ⌝ }
+    ensures { result ≡ section.told answer numbers.now }
 {
     if answer > 0 {
         return Planning::Refused(answer);
@@ -170,7 +164,7 @@ pub fn told(answer: u8, numbers: &[u64; 60]) -> Planning
 
 // The answer of a page call; the numbers of its page are put, or nothing.
 pub fn put_page(answer: PageAnswer, numbers: &mut [u64; 12]) -> u8
-    ensures { λ r. ⌜ PageHanded (pageOutcome answer) r (now (numbers .entry)) (now (numbers .exit)) ⌝ }
+    ensures { PageHanded (page_outcome answer) result numbers.old numbers.new }
 {
     match answer {
         PageAnswer::Value(page) => {

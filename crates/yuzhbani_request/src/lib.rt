@@ -1,22 +1,16 @@
 // What is asked of a plan beside its lists, as 61 numbers.
-use geometry::MarginSetting;
-use geometry::Setting;
+ghost use Rattle.std.specs.Prelude.{◌≡◌, ◌≤◌};
+ghost use Rattle.yuzhbani_request.specs.Request as section;
+
+use geometry::{MarginSetting, Setting};
 use job_records::MarginBits;
-use job_settings::MarginsRead;
-use job_settings::margin_setting;
+use job_settings::{MarginsRead, margin_setting};
 use planner_compare::index_of;
-use planner_rules::Areas;
-use planner_rules::CellLimit;
-use planner_rules::PrintRange;
-use planner_rules::Settings;
-use planner_rules::Title;
-use yuzhbani_answers::order_from;
-use yuzhbani_answers::u16_from;
-ghost use mathlib.Core.Path.{_≡_};
-ghost use Prim.Native.Nat.{_≤_};
-ghost use Rattle·yuzhbani_request·specs.specs.Request as section;
+use planner_rules::{Areas, CellLimit, PrintRange, Settings, Title};
+use yuzhbani_answers::{order_from, u16_from};
 
 // Settings, areas and titles.
+#[derive(Drop)]
 pub struct Request {
     pub settings: Settings,
     pub areas: Areas,
@@ -25,8 +19,8 @@ pub struct Request {
 }
 
 fn setting_from(request: &[u64; 61], at: usize) -> Setting
-    requires { ⌜ at ≤ 59 ⌝ }
-    ensures { λ r. ⌜ r ≡ section.settingFrom (now (request .entry)) at ⌝ }
+    requires { at ≤ 59 }
+    ensures { result ≡ section.setting_from request.now at }
 {
     if request[at] > 0 {
         Setting::Given(u16_from(request[at + 1]))
@@ -36,8 +30,8 @@ fn setting_from(request: &[u64; 61], at: usize) -> Setting
 }
 
 fn title_from(request: &[u64; 61], at: usize) -> Title
-    requires { ⌜ at ≤ 58 ⌝ }
-    ensures { λ r. ⌜ r ≡ section.titleFrom (now (request .entry)) at ⌝ }
+    requires { at ≤ 58 }
+    ensures { result ≡ section.title_from request.now at }
 {
     if request[at] > 0 {
         Title::Pair(index_of(request[at + 1]), index_of(request[at + 2]))
@@ -47,7 +41,7 @@ fn title_from(request: &[u64; 61], at: usize) -> Title
 }
 
 fn margins_from(request: &[u64; 61]) -> MarginSetting
-    ensures { λ r. ⌜ r ≡ section.marginsFrom (now (request .entry)) ⌝ }
+    ensures { result ≡ section.margins_from request.now }
 {
     if request[3] > 0 {
         margin_setting(MarginsRead::Given(MarginBits {
@@ -64,7 +58,7 @@ fn margins_from(request: &[u64; 61]) -> MarginSetting
 }
 
 fn cell_limit_from(request: &[u64; 61]) -> CellLimit
-    ensures { λ r. ⌜ r ≡ section.cellLimitFrom (now (request .entry)) ⌝ }
+    ensures { result ≡ section.cell_limit_from request.now }
 {
     if request[20] > 0 {
         CellLimit::Given(request[21])
@@ -74,7 +68,7 @@ fn cell_limit_from(request: &[u64; 61]) -> CellLimit
 }
 
 fn settings_from(request: &[u64; 61]) -> Settings
-    ensures { λ r. ⌜ r ≡ section.settingsFrom (now (request .entry)) ⌝ }
+    ensures { result ≡ section.settings_from request.now }
 {
     Settings {
         paper: setting_from(request, 0),
@@ -92,8 +86,8 @@ fn settings_from(request: &[u64; 61]) -> Settings
 }
 
 fn range_from(request: &[u64; 61], at: usize) -> PrintRange
-    requires { ⌜ at ≤ 57 ⌝ }
-    ensures { λ r. ⌜ r ≡ section.rangeFrom (now (request .entry)) at ⌝ }
+    requires { at ≤ 57 }
+    ensures { result ≡ section.range_from request.now at }
 {
     PrintRange {
         first_row: index_of(request[at]),
@@ -104,7 +98,7 @@ fn range_from(request: &[u64; 61], at: usize) -> PrintRange
 }
 
 fn areas_from(request: &[u64; 61]) -> Areas
-    ensures { λ r. ⌜ r ≡ section.areasFrom (now (request .entry)) ⌝ }
+    ensures { result ≡ section.areas_from request.now }
 {
     Areas {
         count: request[22] as usize,
@@ -121,20 +115,20 @@ fn areas_from(request: &[u64; 61]) -> Areas
 
 // 4: one to eight areas are asked for.
 pub fn areas_counted(request: &[u64; 61]) -> bool
-    ensures { λ r. ⌜ r ≡ section.areasCounted (now (request .entry)) ⌝ }
+    ensures { result ≡ section.areas_counted request.now }
 {
     (1 <= request[22]) & (request[22] <= 8)
 }
 
 // 5: a fit and an order are 0 or 1, in numbers as in bytes.
 pub fn flags_hold(request: &[u64; 61]) -> bool
-    ensures { λ r. ⌜ r ≡ section.flagsHold (now (request .entry)) ⌝ }
+    ensures { result ≡ section.flags_hold request.now }
 {
     (request[12] <= 1) & (request[17] <= 1)
 }
 
 pub fn request_from(request: &[u64; 61]) -> Request
-    ensures { λ r. ⌜ r ≡ section.requestFrom (now (request .entry)) ⌝ }
+    ensures { result ≡ section.request_from request.now }
 {
     Request {
         settings: settings_from(request),

@@ -1,44 +1,44 @@
 -- `job_walk::cell_limit_of` meets its contract. Assumes nothing.
 use mathlib.Core.Path.{refl}
-use Rattle·job_records.specs.Records.{UC, records}
-use Rattle·job_walk·specs.specs.Areas.{cellLimitFrom}
-use Rattle·job_walk·specs.specs.Walk.{inPlace}
-use Rattle·job_walk·proofs.proofs.WalkLaws.{Looked, looked-in-place, from-none, from-one}
-use Rattle·job_walk·proofs.proofs.Arms.{found-no-other}
-use borrow.Author.Needs.{needs}
-use Rattle·job_walk·proofs.proofs.cell_limit_of.Statement.{statement}
-use Rattle·job_walk·proofs.proofs.cell_limit_of.Tie as tie
+use Rattle.job_records.specs.Records.{UC, records}
+use Rattle.job_walk.specs.Areas.{cell_limit_from}
+use Rattle.job_walk.specs.Walk.{in_place}
+use Rattle.job_walk.proofs.WalkLaws.{Looked, looked_in_place, from_none, from_one}
+use Rattle.job_walk.proofs.Arms.{found_no_other}
+use borrow.Author.Rules.{rules}
+use Rattle.job_walk.proofs.cell_limit_of.Statement.{statement}
+use Rattle.job_walk.proofs.cell_limit_of.Tie as tie
 
 -- what the search for the record says
 looked : (d : tie.After-find-record) →
     let start : tie.Start = search in
-    Looked UC (inPlace UC (records (start .args .bytes .now))) (d .find-record .result)
-looked d = looked-in-place UC 0 _ (d .find-record .ensures)
+    Looked UC (in_place UC (records start.args.bytes.now)) d.find-record.result
+looked d = looked_in_place UC 0 _ d.find-record.ensures
 
 find-record-requires : tie.Need-find-record-requires
-find-record-requires c κs = search needs
+find-record-requires c κs = search rules
 
 enum-known-found : tie.Need-enum-known-found
-enum-known-found c = search needs
+enum-known-found c = search rules
 
-enum-told : tie.Need-enum-told
-enum-told c = search needs
+enum_told : tie.Need-enum-told
+enum_told c = search rules
 
 returns : tie.Need-returns
-returns c = from-none (looked search) cellLimitFrom (c .enum-told .given .1) refl
+returns c = from_none (looked search) cell_limit_from c.enum_told.given.1 refl
 
 enum-known-found-2 : tie.Need-enum-known-found-2
-enum-known-found-2 c = search needs
+enum-known-found-2 c = search rules
 
 returns-2 : tie.Need-returns-2
 returns-2 c =
     let d : tie.After-found = search in
-    absurd (found-no-other (looked search) (d .found .given .1) (c .match2 .keys2))
+    absurd (found_no_other (looked search) d.found.given.1 c.match2.keys2)
 
 returns-3 : tie.Need-returns-3
 returns-3 c =
     let d : tie.After-found = search in
-    from-one (looked search) cellLimitFrom (d .found .given .1) (c .before .found2 .given .1) (λ t. refl)
+    from_one (looked search) cell_limit_from d.found.given.1 c.before.found2.given.1 (λ t. refl)
 
 pub cell-limit-of-spec : {M : Type 1} → statement M
 cell-limit-of-spec =
@@ -46,7 +46,7 @@ cell-limit-of-spec =
     (tie.spec
     find-record-requires
     enum-known-found
-    enum-told
+    enum_told
     returns
     enum-known-found-2
     returns-2

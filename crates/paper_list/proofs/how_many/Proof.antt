@@ -1,44 +1,44 @@
 -- `paper_list::how_many` is safe and ends: the count is at most the codes passed. The measure is the codes that are left.
 -- Assumes nothing.
-use Prim.Native.Nat.{_≤_, _-_}
+use Prim.Native.Nat.{◌≤◌, ◌-◌}
 use native.Mathlib.Omega.{arith}
-use mathlib.Core.Logic.{⊎-elim}
-use Rattle·paper_list·proofs.proofs.how_many.Statement.{statement}
-use Rattle·paper_list·proofs.proofs.how_many.Tie as tie
+use mathlib.Core.Logic.{⊎_elim}
+use Rattle.paper_list.proofs.how_many.Statement.{statement}
+use Rattle.paper_list.proofs.how_many.Tie as tie
 
-abbrev Inv-loop : tie.InvT-loop
-Inv-loop kind n₀ code₀ n code = (n ≤ code) × (code ≤ 121)
+abbrev invariant-loop : tie.invariant-loop
+invariant-loop kind n₀ code₀ n code = (n ≤ code) × (code ≤ 121)
 
-abbrev μ-loop : tie.MeasureT-loop
-μ-loop kind n₀ code₀ n code = 121 - code
+abbrev decreases-loop : tie.decreases-loop
+decreases-loop kind n₀ code₀ n code = 121 - code
 
-loop-holds : tie.Need-loop-holds Inv-loop μ-loop
+loop-holds : tie.Need-loop-init invariant-loop decreases-loop
 loop-holds c = omega arith
 
-finding-requires : tie.Need-finding-requires Inv-loop μ-loop
+finding-requires : tie.Need-finding-requires invariant-loop decreases-loop
 finding-requires c κs = tt
 
-add-n : tie.Need-add-n Inv-loop μ-loop
+add-n : tie.Need-overflow-add-n invariant-loop decreases-loop
 add-n c = omega arith
 
-add-code : tie.Need-add-code Inv-loop μ-loop
+add-code : tie.Need-overflow-add-code invariant-loop decreases-loop
 add-code c = omega arith
 
-loop-less : tie.Need-loop-less Inv-loop μ-loop
+loop-less : tie.Need-loop-smaller invariant-loop decreases-loop
 loop-less c = omega arith
 
-loop-again : tie.Need-loop-again Inv-loop μ-loop
-loop-again c = ⊎-elim (λ w. omega arith) (λ w. omega arith) (c .if1 .came)
+loop-again : tie.Need-loop-preserved invariant-loop decreases-loop
+loop-again c = ⊎_elim (λ w. omega arith) (λ w. omega arith) c.if1.branch
 
-returns : tie.Need-returns Inv-loop μ-loop
+returns : tie.Need-returns invariant-loop decreases-loop
 returns c = tt
 
 pub how-many-spec : {M : Type 1} → statement M
 how-many-spec =
     tie.close
     (tie.spec
-    Inv-loop
-    μ-loop
+    invariant-loop
+    decreases-loop
     loop-holds
     finding-requires
     add-n

@@ -1,64 +1,64 @@
 -- `planner_cuts::slots_below` meets its contract. The loop's invariant: what is passed, and what the definition still counts from here, is the whole.
 -- Assumes nothing.
-use Rattle·planner_rules.proofs.EndLaws.{below-yes, below-no, below-end}
+use Rattle.planner_rules.proofs.EndLaws.{below_yes, below_no, below_end}
 use lib.ListN.{length, drop}
-use Prim.Native.Nat.{_+_, _-_, _≤_}
-use mathlib.Core.Path.{_≡_}
-use borrow.Author.Needs.{needs}
+use Prim.Native.Nat.{◌+◌, ◌-◌, ◌≤◌}
+use mathlib.Core.Path.{◌≡◌}
+use borrow.Author.Rules.{rules}
 use native.Mathlib.Omega.{arith}
-use Rattle·planner_cuts·proofs.proofs.slots_below.Statement.{statement}
-use Rattle·planner_cuts·proofs.proofs.slots_below.Tie as tie
-use Rattle·planner_rules.specs.Slots.{below}
+use Rattle.planner_cuts.proofs.slots_below.Statement.{statement}
+use Rattle.planner_cuts.proofs.slots_below.Tie as tie
+use Rattle.planner_rules.specs.Slots.{below}
 
-abbrev Inv-loop : tie.InvT-loop
-Inv-loop indexes limit n₀ n = (n ≤ length indexes) × (n + below limit (drop n indexes) ≡ below limit indexes)
+abbrev invariant-loop : tie.invariant-loop
+invariant-loop indexes limit n₀ n = (n ≤ length indexes) × (n + below limit (drop n indexes) ≡ below limit indexes)
 
-abbrev μ-loop : tie.MeasureT-loop
-μ-loop indexes limit n₀ n = length indexes - n
+abbrev decreases-loop : tie.decreases-loop
+decreases-loop indexes limit n₀ n = length indexes - n
 
-loop-holds : tie.Need-loop-holds Inv-loop μ-loop
-loop-holds c = search needs
+loop-holds : tie.Need-loop-init invariant-loop decreases-loop
+loop-holds c = search rules
 
-mul-wide : tie.Need-mul-wide Inv-loop μ-loop
-mul-wide c = search needs
+mul_wide : tie.Need-overflow-mul-wide invariant-loop decreases-loop
+mul_wide c = search rules
 
-shared-slice-read-wide : tie.Need-shared-slice-read-wide Inv-loop μ-loop
-shared-slice-read-wide c = search needs
+shared-slice-read-wide : tie.Need-shared-slice-read-wide invariant-loop decreases-loop
+shared-slice-read-wide c = search rules
 
-wide-requires : tie.Need-wide-requires Inv-loop μ-loop
-wide-requires c κs = search needs
+wide-requires : tie.Need-wide-requires invariant-loop decreases-loop
+wide-requires c κs = search rules
 
-returns : tie.Need-returns Inv-loop μ-loop
+returns : tie.Need-returns invariant-loop decreases-loop
 returns c =
-    let s : tie.Start Inv-loop μ-loop = search in
-    let t : tie.In-loop Inv-loop μ-loop = search in
-    omega (arith, below-no (s .args .limit) (t .before .loop .n) (s .args .indexes .now) (t .loop-test .taken) (omega arith))
+    let s : tie.Start invariant-loop decreases-loop = search in
+    let t : tie.In-loop invariant-loop decreases-loop = search in
+    omega (arith, below_no s.args.limit t.before.loop.n s.args.indexes.now t.loop-test.taken (omega arith))
 
-add-n : tie.Need-add-n Inv-loop μ-loop
-add-n c = search needs
+add-n : tie.Need-overflow-add-n invariant-loop decreases-loop
+add-n c = search rules
 
-loop-less : tie.Need-loop-less Inv-loop μ-loop
-loop-less c = search needs
+loop-less : tie.Need-loop-smaller invariant-loop decreases-loop
+loop-less c = search rules
 
-loop-again : tie.Need-loop-again Inv-loop μ-loop
+loop-again : tie.Need-loop-preserved invariant-loop decreases-loop
 loop-again c =
-    let s : tie.Start Inv-loop μ-loop = search in
-    let t : tie.In-loop Inv-loop μ-loop = search in
-    omega (arith, below-yes (s .args .limit) (t .before .loop .n) (s .args .indexes .now) (t .loop-test .taken) (omega arith))
+    let s : tie.Start invariant-loop decreases-loop = search in
+    let t : tie.In-loop invariant-loop decreases-loop = search in
+    omega (arith, below_yes s.args.limit t.before.loop.n s.args.indexes.now t.loop-test.taken (omega arith))
 
-returns-2 : tie.Need-returns-2 Inv-loop μ-loop
+returns-2 : tie.Need-returns-2 invariant-loop decreases-loop
 returns-2 c =
-    let s : tie.Start Inv-loop μ-loop = search in
-    omega (arith, below-end (s .args .limit) (c .before .loop .n) (s .args .indexes .now) (c .loop-test .left))
+    let s : tie.Start invariant-loop decreases-loop = search in
+    omega (arith, below_end s.args.limit c.before.loop.n s.args.indexes.now c.loop-test.false)
 
 pub slots-below-spec : {M : Type 1} → statement M
 slots-below-spec =
     tie.close
     (tie.spec
-    Inv-loop
-    μ-loop
+    invariant-loop
+    decreases-loop
     loop-holds
-    mul-wide
+    mul_wide
     shared-slice-read-wide
     wide-requires
     returns

@@ -1,57 +1,57 @@
 -- `planner_questions::all_small` meets its contract. The loop goes down, so that its invariant is the definition at the sizes passed. Assumes
 -- nothing.
-use mathlib.Core.Path.{_≡_, sym}
-use Prim.Native.Nat.{_≤_}
+use mathlib.Core.Path.{◌≡◌, sym}
+use Prim.Native.Nat.{◌≤◌}
 use lib.Dec.{leb}
 use lib.ListN.{length, drop}
-use Rattle·planner_rules.proofs.QuestionLaws.{small-back, within-end}
-use Rattle·planner_rules.specs.Questions.{allSmall}
-use borrow.Author.Needs.{needs}
+use Rattle.planner_rules.proofs.QuestionLaws.{small_back, within_end}
+use Rattle.planner_rules.specs.Questions.{all_small}
+use borrow.Author.Rules.{rules}
 use native.Mathlib.Omega.{arith}
-use Rattle·planner_questions·proofs.proofs.all_small.Statement.{statement}
-use Rattle·planner_questions·proofs.proofs.all_small.Tie as tie
+use Rattle.planner_questions.proofs.all_small.Statement.{statement}
+use Rattle.planner_questions.proofs.all_small.Tie as tie
 
-abbrev Inv-loop : tie.InvT-loop
-Inv-loop sizes i₀ bits₀ i bits = (i ≤ length sizes) × (leb bits 1073741823 ≡ allSmall (drop i sizes))
+abbrev invariant-loop : tie.invariant-loop
+invariant-loop sizes i₀ bits₀ i bits = (i ≤ length sizes) × (leb bits 1073741823 ≡ all_small (drop i sizes))
 
-abbrev μ-loop : tie.MeasureT-loop
-μ-loop sizes i₀ bits₀ i bits = i
+abbrev decreases-loop : tie.decreases-loop
+decreases-loop sizes i₀ bits₀ i bits = i
 
-loop-holds : tie.Need-loop-holds Inv-loop μ-loop
-unfolding allSmall
+loop-holds : tie.Need-loop-init invariant-loop decreases-loop
+unfolding all_small
 loop-holds c =
-    let ss = c .args .sizes .now in
-    (omega arith, sym (within-end 1073741823 (length ss) ss (omega arith)))
+    let ss = c.args.sizes.now in
+    (omega arith, sym (within_end 1073741823 (length ss) ss (omega arith)))
 
-sub-i : tie.Need-sub-i Inv-loop μ-loop
-sub-i c = search needs
+sub-i : tie.Need-overflow-sub-i invariant-loop decreases-loop
+sub-i c = search rules
 
-mul-bits : tie.Need-mul-bits Inv-loop μ-loop
-mul-bits c = search needs
+mul-bits : tie.Need-overflow-mul-bits invariant-loop decreases-loop
+mul-bits c = search rules
 
-shared-slice-read-bits : tie.Need-shared-slice-read-bits Inv-loop μ-loop
-shared-slice-read-bits c = search needs
+shared-slice-read-bits : tie.Need-shared-slice-read-bits invariant-loop decreases-loop
+shared-slice-read-bits c = search rules
 
-loop-less : tie.Need-loop-less Inv-loop μ-loop
-loop-less c = search needs
+loop-less : tie.Need-loop-smaller invariant-loop decreases-loop
+loop-less c = search rules
 
-loop-again : tie.Need-loop-again Inv-loop μ-loop
+loop-again : tie.Need-loop-preserved invariant-loop decreases-loop
 loop-again c =
-    let start : tie.Start Inv-loop μ-loop = search in
-    let l = c .before .before .loop in
-    (omega arith, small-back (l .i) (l .bits) (start .args .sizes .now) (omega arith) (l .inv .0) (l .inv .1))
+    let start : tie.Start invariant-loop decreases-loop = search in
+    let l = c.before.before.loop in
+    (omega arith, small_back l.i l.bits start.args.sizes.now (omega arith) l.invariant.0 l.invariant.1)
 
-returns : tie.Need-returns Inv-loop μ-loop
+returns : tie.Need-returns invariant-loop decreases-loop
 returns c =
-    let z : c .before .loop .i ≡ 0 = omega arith in
-    rw z at (c .before .loop .inv .1)
+    let z : c.before.loop.i ≡ 0 = omega arith in
+    rw z at c.before.loop.invariant.1
 
 pub all-small-spec : {M : Type 1} → statement M
 all-small-spec =
     tie.close
     (tie.spec
-    Inv-loop
-    μ-loop
+    invariant-loop
+    decreases-loop
     loop-holds
     sub-i
     mul-bits

@@ -1,13 +1,13 @@
 -- `yuzhbani::yuzhbani_plan_lists` meets its contract: the clauses of `plan_pages`, by what the numbers ask, and by the answer and the numbers
 -- that are handed over. Assumes nothing.
-use Rattle·yuzhbani_request.specs.Request.{sheetRequested, areasFrom, areasCounted, flagsHold}
-use Rattle·yuzhbani·proofs.proofs.Handed.{handed, handed-no, plan-not-zero, request-same}
-use mathlib.Core.Path.{_≡_, sym, _∙_}
+use Rattle.yuzhbani_request.specs.Request.{sheet_requested, areas_from, areas_counted, flags_hold}
+use Rattle.yuzhbani.proofs.Handed.{handed, handed_no, plan_not_zero, request_same}
+use mathlib.Core.Path.{◌≡◌, sym, ◌∙◌}
 use mathlib.Core.Bool.{true}
 use borrow.Author.Tests.{not-true, not-false}
-use borrow.Author.Needs.{needs}
-use Rattle·yuzhbani·proofs.proofs.yuzhbani_plan_lists.Statement.{statement}
-use Rattle·yuzhbani·proofs.proofs.yuzhbani_plan_lists.Tie as tie
+use borrow.Author.Rules.{rules}
+use Rattle.yuzhbani.proofs.yuzhbani_plan_lists.Statement.{statement}
+use Rattle.yuzhbani.proofs.yuzhbani_plan_lists.Tie as tie
 
 abbrev start : tie.After-areas-counted → tie.Start
 start k = search
@@ -19,38 +19,38 @@ abbrev counted : tie.After-request-from → tie.After-areas-counted
 counted k = search
 
 areas-counted-requires : tie.Need-areas-counted-requires
-areas-counted-requires c κs = search needs
+areas-counted-requires c κs = search rules
 
 returns : tie.Need-returns
 returns c =
     let f : tie.After-areas-counted = search in
-    handed-no 3 (sym (f .areas-counted .ensures) ∙ not-true _ (c .if1 .taken)) _ _ _ _ _ _
+    handed_no 3 (sym f.areas-counted.ensures ∙ not-true _ c.if1.true) _ _ _ _ _ _
 
 flags-hold-requires : tie.Need-flags-hold-requires
-flags-hold-requires c κs = search needs
+flags-hold-requires c κs = search rules
 
 returns-2 : tie.Need-returns-2
 returns-2 c =
     let f : tie.After-areas-counted = search in
     let g : tie.After-flags-hold = search in
     let many : tie.Else1 = search in
-    rw (sym (f .areas-counted .ensures) ∙ not-false _ (many .if1 .left))
-    (handed-no 4 (sym (g .flags-hold .ensures) ∙ not-true _ (c .if2 .taken)) _ _ _ _ _ _)
+    rw (sym f.areas-counted.ensures ∙ not-false _ many.if1.left)
+    (handed_no 4 (sym g.flags-hold.ensures ∙ not-true _ c.if2.true) _ _ _ _ _ _)
 
 request-from-requires : tie.Need-request-from-requires
-request-from-requires c κs = search needs
+request-from-requires c κs = search rules
 
 plan-pages-requires : tie.Need-plan-pages-requires
-plan-pages-requires c κs = search needs
+plan-pages-requires c κs = search rules
 
 put-planning-requires : tie.Need-put-planning-requires
-put-planning-requires c κs = search needs
+put-planning-requires c κs = search rules
 
-same-length : tie.Need-same-length
-same-length c = search needs
+same_length : tie.Need-same-length
+same_length c = search rules
 
 same-length-2 : tie.Need-same-length-2
-same-length-2 c = search needs
+same-length-2 c = search rules
 
 returns-3 : tie.Need-returns-3
 returns-3 c =
@@ -60,26 +60,26 @@ returns-3 c =
     let g : tie.After-flags-hold = search in
     let many : tie.Else1 = search in
     let asked : tie.Else2 = search in
-    let a = start f .args in
-    let ri = a .row-indexes .now in
-    let rz = a .row-sizes .now in
-    let ci = a .column-indexes .now in
-    let cz = a .column-sizes .now in
-    let fr = a .merge-first-rows .now in
-    let fc = a .merge-first-columns .now in
-    let lr = a .merge-last-rows .now in
-    let lc = a .merge-last-columns .now in
-    let rb = a .row-breaks .now in
-    let cb = a .column-breaks .now in
-    let ns = a .request .now in
-    let s = sheetRequested ns ri rz ci cz fr fc lr lc rb cb in
+    let a = (start f).args in
+    let ri = a.row_indexes.now in
+    let rz = a.row_sizes.now in
+    let ci = a.column_indexes.now in
+    let cz = a.column_sizes.now in
+    let fr = a.merge_first_rows.now in
+    let fc = a.merge_first_columns.now in
+    let lr = a.merge_last_rows.now in
+    let lc = a.merge_last_columns.now in
+    let rb = a.row_breaks.now in
+    let cb = a.column_breaks.now in
+    let ns = a.request.now in
+    let s = sheet_requested ns ri rz ci cz fr fc lr lc rb cb in
     let e =
-    request-same (k .request-from .ensures) ri rz ci cz fr fc lr lc rb cb _ _ _ _ (j .plan-pages .result) (j .plan-pages .ensures) in
-    let few : areasCounted ns ≡ true = sym (f .areas-counted .ensures) ∙ not-false _ (many .if1 .left) in
-    let hold : flagsHold ns ≡ true = sym (g .flags-hold .ensures) ∙ not-false _ (asked .if2 .left) in
+    request_same k.request-from.ensures ri rz ci cz fr fc lr lc rb cb _ _ _ _ j.plan-pages.result j.plan-pages.ensures in
+    let few : areas_counted ns ≡ true = sym f.areas-counted.ensures ∙ not-false _ many.if1.left in
+    let hold : flags_hold ns ≡ true = sym g.flags-hold.ensures ∙ not-false _ asked.if2.left in
     rw (few, hold)
-    (handed _ (plan-not-zero s (areasFrom ns) _ _) s (areasFrom ns) _ _ _ _ (j .plan-pages .result) (a .numbers .now) (c .put-planning .result) _ e
-    (c .put-planning .ensures))
+    (handed _ (plan_not_zero s (areas_from ns) _ _) s (areas_from ns) _ _ _ _ j.plan-pages.result a.numbers.now c.put-planning.result _ e
+    c.put-planning.ensures)
 
 pub yuzhbani-plan-lists-spec : {M : Type 1} → statement M
 yuzhbani-plan-lists-spec =
@@ -92,6 +92,6 @@ yuzhbani-plan-lists-spec =
     request-from-requires
     plan-pages-requires
     put-planning-requires
-    same-length
+    same_length
     same-length-2
     returns-3)

@@ -1,24 +1,24 @@
 -- `geometry::paper::footer_at` meets its contract. Assumes nothing.
-use borrow.Author.Needs.{needs}
-use Rattle·geometry·proofs.proofs.paper.footer_at.Statement.{statement}
-use Rattle·geometry·proofs.proofs.paper.footer_at.Tie as tie
+use Rattle.std.proofs.Common.{rules}
+use Rattle.geometry.proofs.paper.footer_at.Statement.{statement}
+use Rattle.geometry.proofs.paper.footer_at.Tie as tie
 
 inches-to-fixed-requires : tie.Need-inches-to-fixed-requires
-inches-to-fixed-requires c κs = search needs
+inches-to-fixed-requires c κs = search rules
 
 less-requires : tie.Need-less-requires
-less-requires c κs = search needs
+less-requires c κs = search rules
 
 from-raw-requires : tie.Need-from-raw-requires
-from-raw-requires c κs = search needs
+from-raw-requires c κs = search rules
 
 less-requires-2 : tie.Need-less-requires-2
-less-requires-2 c κs = search needs
+less-requires-2 c κs = search rules
 
 returns : tie.Need-returns
 returns c =
     let after-inches-to-fixed : tie.After-inches-to-fixed = search in
-    rw (c .less2 .ensures, c .before .from-raw .ensures, c .before .before .less .ensures, after-inches-to-fixed .inches-to-fixed .ensures)
+    rw (c.less2.ensures, c.before.from-raw.ensures, c.before.before.less.ensures, after-inches-to-fixed.inches-to-fixed.ensures)
 
 pub footer-at-spec : {M : Type 1} → statement M
 footer-at-spec =

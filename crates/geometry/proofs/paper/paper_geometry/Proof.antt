@@ -1,21 +1,21 @@
 -- `geometry::paper::paper_geometry` meets its contract. Assumes nothing.
-use Rattle·geometry·specs.specs.Paper.{paperGeometry}
-use borrow.Author.Needs.{needs}
-use Rattle·geometry·proofs.proofs.paper.paper_geometry.Statement.{statement}
-use Rattle·geometry·proofs.proofs.paper.paper_geometry.Tie as tie
+use Rattle.geometry.specs.Paper.{paper_geometry}
+use Rattle.std.proofs.Common.{rules}
+use Rattle.geometry.proofs.paper.paper_geometry.Statement.{statement}
+use Rattle.geometry.proofs.paper.paper_geometry.Tie as tie
 
 requested-requires : tie.Need-requested-requires
-requested-requires c κs = search needs
+requested-requires c κs = search rules
 
 resolved-requires : tie.Need-resolved-requires
-resolved-requires c κs = search needs
+resolved-requires c κs = search rules
 
 turned-requires : tie.Need-turned-requires
-turned-requires c κs = search needs
+turned-requires c κs = search rules
 
 returns : tie.Need-returns
-unfolding paperGeometry
-returns c = rw (c .turned .ensures, ← c .before .before .requested .ensures, ← c .before .resolved .ensures)
+unfolding paper_geometry
+returns c = rw (c.turned.ensures, ← c.before.before.requested.ensures, ← c.before.resolved.ensures)
 
 pub paper-geometry-spec : {M : Type 1} → statement M
 paper-geometry-spec =

@@ -1,59 +1,58 @@
 -- `job_cases::planned::put_pages` is safe and ends. The measure is how many pages are left. Assumes nothing.
-use Prim.Native.Nat.{_-_}
-use borrow.Author.Needs.{needs}
-use Rattle·job_cases·proofs.proofs.planned.put_pages.Statement.{statement}
-use Rattle·job_cases·proofs.proofs.planned.put_pages.Tie as tie
+use Rattle.std.proofs.Common.{◌-◌, rules}
+use Rattle.job_cases.proofs.planned.put_pages.Statement.{statement}
+use Rattle.job_cases.proofs.planned.put_pages.Tie as tie
 
-abbrev Inv-loop : tie.InvT-loop
-Inv-loop block₀ at bytes plan row-runs₀ column-runs₀ next₀ before₀ block row-runs column-runs next before = Unit {0}
+abbrev invariant-loop : tie.invariant-loop
+invariant-loop block₀ at bytes plan row-runs₀ column-runs₀ next₀ before₀ block rows_wanted columns_wanted next before = Unit {0}
 
-abbrev μ-loop : tie.MeasureT-loop
-μ-loop block₀ at bytes plan row-runs₀ column-runs₀ next₀ before₀ block row-runs column-runs next before = plan .pages - before
+abbrev decreases-loop : tie.decreases-loop
+decreases-loop block₀ at bytes plan row-runs₀ column-runs₀ next₀ before₀ block rows_wanted columns_wanted next before = plan.pages - before
 
-loop-holds : tie.Need-loop-holds Inv-loop μ-loop
-loop-holds c = search needs
+loop-holds : tie.Need-loop-init invariant-loop decreases-loop
+loop-holds c = search rules
 
-add-number : tie.Need-add-number Inv-loop μ-loop
-add-number c = search needs
+add-number : tie.Need-overflow-add-number invariant-loop decreases-loop
+add-number c = search rules
 
-page-spot-requires : tie.Need-page-spot-requires Inv-loop μ-loop
-page-spot-requires c κs = search needs
+page-spot-requires : tie.Need-page-spot-requires invariant-loop decreases-loop
+page-spot-requires c κs = search rules
 
-enum-known-found : tie.Need-enum-known-found Inv-loop μ-loop
-enum-known-found c = search needs
+enum-known-found : tie.Need-enum-known-found invariant-loop decreases-loop
+enum-known-found c = search rules
 
-enum-told : tie.Need-enum-told Inv-loop μ-loop
-enum-told c = search needs
+enum_told : tie.Need-enum-told invariant-loop decreases-loop
+enum_told c = search rules
 
-returns : tie.Need-returns Inv-loop μ-loop
-returns c = search needs
+returns : tie.Need-returns invariant-loop decreases-loop
+returns c = search rules
 
-begin-area-requires : tie.Need-begin-area-requires Inv-loop μ-loop
-begin-area-requires c κs = search needs
+begin-area-requires : tie.Need-begin-area-requires invariant-loop decreases-loop
+begin-area-requires c κs = search rules
 
-put-spot-requires : tie.Need-put-spot-requires Inv-loop μ-loop
-put-spot-requires c κs = search needs
+put-spot-requires : tie.Need-put-spot-requires invariant-loop decreases-loop
+put-spot-requires c κs = search rules
 
-loop-less : tie.Need-loop-less Inv-loop μ-loop
-loop-less c = search needs
+loop-less : tie.Need-loop-smaller invariant-loop decreases-loop
+loop-less c = search rules
 
-loop-again : tie.Need-loop-again Inv-loop μ-loop
-loop-again c = search needs
+loop-again : tie.Need-loop-preserved invariant-loop decreases-loop
+loop-again c = search rules
 
-returns-2 : tie.Need-returns-2 Inv-loop μ-loop
-returns-2 c = search needs
+returns-2 : tie.Need-returns-2 invariant-loop decreases-loop
+returns-2 c = search rules
 
 pub put-pages-spec : {M : Type 1} → statement M
 put-pages-spec =
     tie.close
     (tie.spec
-    Inv-loop
-    μ-loop
+    invariant-loop
+    decreases-loop
     loop-holds
     add-number
     page-spot-requires
     enum-known-found
-    enum-told
+    enum_told
     returns
     begin-area-requires
     put-spot-requires

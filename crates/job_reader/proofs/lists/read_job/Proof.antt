@@ -1,9 +1,9 @@
 -- `job_reader::lists::read_job` meets its contract. Assumes nothing.
 use mathlib.Core.Path.{refl}
-use Rattle·job_reader·specs.specs.Reading.{Lists, lists}
-use Rattle·job_reader·proofs.proofs.ReadingLaws.{Admitted, admitted-is, given-sorted, given-areas, given-room, job-given, job-refused}
-use Rattle·job_reader·proofs.proofs.lists.read_job.Statement.{statement}
-use Rattle·job_reader·proofs.proofs.lists.read_job.Tie as tie
+use Rattle.job_reader.specs.Reading.{Lists, lists}
+use Rattle.job_reader.proofs.ReadingLaws.{Admitted, admitted_is, given_sorted, given_areas, given_room, job_given, job_refused}
+use Rattle.job_reader.proofs.lists.read_job.Statement.{statement}
+use Rattle.job_reader.proofs.lists.read_job.Tie as tie
 
 -- the way back from where the job was admitted
 abbrev start : tie.After-admitted2 → tie.Start
@@ -18,35 +18,35 @@ admitted d = search
 -- the lists as they were lent
 abbrev lent : tie.Start → Lists
 lent s =
-    let a = s .args in
-    lists (a .row-indexes .now) (a .row-sizes .now) (a .column-indexes .now) (a .column-sizes .now) (a .merge-first-rows .now)
-    (a .merge-first-columns .now) (a .merge-last-rows .now) (a .merge-last-columns .now) (a .row-breaks .now) (a .column-breaks .now)
+    let a = s.args in
+    lists a.row_indexes.now a.row_sizes.now a.column_indexes.now a.column_sizes.now a.merge_first_rows.now
+    a.merge_first_columns.now a.merge_last_rows.now a.merge_last_columns.now a.row_breaks.now a.column_breaks.now
 
 -- the job was admitted to them
-given : (d : tie.After-admitted2) → Admitted (start d .args .bytes .now) (lent (start d)) (d .admitted2 .given .0 .0)
-given d = admitted-is (asked d .admit-to .ensures) (d .admitted2 .given .1)
+given : (d : tie.After-admitted2) → Admitted (start d).args.bytes.now (lent (start d)) d.admitted2.given.0.0
+given d = admitted_is (asked d).admit-to.ensures d.admitted2.given.1
 
 admit-to-requires : tie.Need-admit-to-requires
 admit-to-requires c κs = tt
 
 enum-known-admitted : tie.Need-enum-known-admitted
-enum-known-admitted c = c .match .keys1
+enum-known-admitted c = c.match.keys1
 
 enum-known-admitted-2 : tie.Need-enum-known-admitted-2
-enum-known-admitted-2 c = c .match .keys2
+enum-known-admitted-2 c = c.match.keys2
 
 write-items-requires : tie.Need-write-items-requires
 write-items-requires c κs =
     let d : tie.After-admitted2 = search in
-    (given-sorted (given d), given-room (given d))
+    (given_sorted (given d), given_room (given d))
 
 settings-of-requires : tie.Need-settings-of-requires
 settings-of-requires c κs =
     let d : tie.After-admitted2 = search in
-    (given-sorted (given d), given-areas (given d))
+    (given_sorted (given d), given_areas (given d))
 
-same-length : tie.Need-same-length
-same-length c = refl
+same_length : tie.Need-same-length
+same_length c = refl
 
 same-length-2 : tie.Need-same-length-2
 same-length-2 c = refl
@@ -78,7 +78,7 @@ same-length-10 c = refl
 returns : tie.Need-returns
 returns c =
     let after-admit-to : tie.After-admit-to = search in
-    job-refused (after-admit-to .admit-to .ensures) (c .before .admitted .given .1)
+    job_refused after-admit-to.admit-to.ensures c.before.admitted.given.1
 
 same-length-11 : tie.Need-same-length-11
 same-length-11 c = search
@@ -113,7 +113,7 @@ same-length-20 c = search
 returns-2 : tie.Need-returns-2
 returns-2 c =
     let after-write-items : tie.After-write-items = search in
-    job-given (given (admitted after-write-items)) (c .settings-of .ensures) (after-write-items .write-items .ensures)
+    job_given (given (admitted after-write-items)) c.settings-of.ensures after-write-items.write-items.ensures
 
 pub read-job-spec : {M : Type 1} → statement M
 read-job-spec =
@@ -124,7 +124,7 @@ read-job-spec =
     enum-known-admitted-2
     write-items-requires
     settings-of-requires
-    same-length
+    same_length
     same-length-2
     same-length-3
     same-length-4

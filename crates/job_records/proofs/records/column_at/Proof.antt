@@ -1,27 +1,27 @@
 -- `job_records::records::column_at` meets its contract. Assumes nothing.
 use mir.Syntax.{w64}
-use mir.Facts.{toZ-ofZ}
-use borrow.Author.Needs.{needs}
-use Rattle·job_records·proofs.proofs.NumberLaws.{within}
-use Rattle·job_records·proofs.proofs.records.column_at.Statement.{statement}
-use Rattle·job_records·proofs.proofs.records.column_at.Tie as tie
+use mir.Facts.{to_z-of_z}
+use borrow.Author.Rules.{rules}
+use Rattle.job_records.proofs.NumberLaws.{within}
+use Rattle.job_records.proofs.records.column_at.Statement.{statement}
+use Rattle.job_records.proofs.records.column_at.Tie as tie
 
 u16-at-requires : tie.Need-u16-at-requires
-u16-at-requires c κs = within _ 12 _ tt (c .before .pre)
+u16-at-requires c κs = within _ 12 _ tt c.before.requires
 
 u64-at-requires : tie.Need-u64-at-requires
-u64-at-requires c κs = within _ 12 _ tt (c .before .before .pre)
+u64-at-requires c κs = within _ 12 _ tt c.before.before.requires
 
 signed-requires : tie.Need-signed-requires
-signed-requires c κs = search needs
+signed-requires c κs = search rules
 
 returns : tie.Need-returns
 returns c =
     rw (
-      toZ-ofZ {w = w64} {z = c .signed .result} (record { sfits = c .signed .ok }),
-      c .signed .ensures,
-      c .before .u64-at .ensures,
-      c .before .before .u16-at .ensures,
+      to_z-of_z {w = w64} {z = c.signed.result} (record { sfits = c.signed.type-inv }),
+      c.signed.ensures,
+      c.before.u64-at.ensures,
+      c.before.before.u16-at.ensures,
     )
 
 pub column-at-spec : {M : Type 1} → statement M

@@ -1,14 +1,14 @@
 -- `job_report::lines::area_line` meets its contract. Assumes nothing.
-use borrow.Author.Needs.{needs}
-use Rattle·job_report·proofs.proofs.TextLaws.{at-start}
-use Rattle·job_report·proofs.proofs.lines.area_line.Statement.{statement}
-use Rattle·job_report·proofs.proofs.lines.area_line.Tie as tie
+use borrow.Author.Rules.{rules}
+use Rattle.job_report.proofs.TextLaws.{at_start}
+use Rattle.job_report.proofs.lines.area_line.Statement.{statement}
+use Rattle.job_report.proofs.lines.area_line.Tie as tie
 
 area-at-requires : tie.Need-area-at-requires
-area-at-requires c κs = search needs
+area-at-requires c κs = search rules
 
 returns : tie.Need-returns
-returns c = at-start (c .area-at .ensures .0)
+returns c = at_start c.area-at.ensures.0
 
 pub area-line-spec : {M : Type 1} → statement M
 area-line-spec = tie.close (tie.spec area-at-requires returns)

@@ -1,56 +1,56 @@
 -- `job_report::text::text` meets its contract. The loop's invariant: i bytes stand from the place on. The measure is what is left of the
 -- bytes. Assumes nothing.
-use Prim.Native.Nat.{_-_}
+use Prim.Native.Nat.{◌-◌}
 use lib.ListN.{length}
-use borrow.Author.Needs.{needs}
-use Rattle·job_report·proofs.proofs.TextLaws.{Copied, copied-none, copied-more, copied-all}
-use Rattle·job_report·proofs.proofs.text.text.Statement.{statement}
-use Rattle·job_report·proofs.proofs.text.text.Tie as tie
+use borrow.Author.Rules.{rules}
+use Rattle.job_report.proofs.TextLaws.{Copied, copied_none, copied_more, copied_all}
+use Rattle.job_report.proofs.text.text.Statement.{statement}
+use Rattle.job_report.proofs.text.text.Tie as tie
 
-abbrev Inv-loop : tie.InvT-loop
-Inv-loop out₀ at bytes i₀ out i = Copied out₀ at bytes out i
+abbrev invariant-loop : tie.invariant-loop
+invariant-loop out₀ at bytes i₀ out i = Copied out₀ at bytes out i
 
-abbrev μ-loop : tie.MeasureT-loop
-μ-loop out₀ at bytes i₀ out i = length bytes - i
+abbrev decreases-loop : tie.decreases-loop
+decreases-loop out₀ at bytes i₀ out i = length bytes - i
 
-loop-holds : tie.Need-loop-holds Inv-loop μ-loop
-loop-holds c = copied-none _ _ _
+loop-holds : tie.Need-loop-init invariant-loop decreases-loop
+loop-holds c = copied_none _ _ _
 
-shared-slice-read-out : tie.Need-shared-slice-read-out Inv-loop μ-loop
-shared-slice-read-out c = search needs
+shared-slice-read-out : tie.Need-shared-slice-read-out invariant-loop decreases-loop
+shared-slice-read-out c = search rules
 
-add-out : tie.Need-add-out Inv-loop μ-loop
-add-out c = search needs
+add-out : tie.Need-overflow-add-out invariant-loop decreases-loop
+add-out c = search rules
 
-slice-write-out : tie.Need-slice-write-out Inv-loop μ-loop
-slice-write-out c = search needs
+slice-write-out : tie.Need-slice-write-out invariant-loop decreases-loop
+slice-write-out c = search rules
 
-add-i : tie.Need-add-i Inv-loop μ-loop
-add-i c = search needs
+add-i : tie.Need-overflow-add-i invariant-loop decreases-loop
+add-i c = search rules
 
-loop-less : tie.Need-loop-less Inv-loop μ-loop
-loop-less c = search needs
+loop-less : tie.Need-loop-smaller invariant-loop decreases-loop
+loop-less c = search rules
 
-loop-again : tie.Need-loop-again Inv-loop μ-loop
+loop-again : tie.Need-loop-preserved invariant-loop decreases-loop
 loop-again c =
-    let start : tie.Start Inv-loop μ-loop = search in
-    copied-more _ _ _ _ _ (start .pre) (c .before .loop-test .taken) (c .before .before .loop .inv)
+    let start : tie.Start invariant-loop decreases-loop = search in
+    copied_more _ _ _ _ _ start.pre c.before.loop-test.true c.before.before.loop.invariant
 
-add-result : tie.Need-add-result Inv-loop μ-loop
-add-result c = search needs
+add-result : tie.Need-overflow-add-result invariant-loop decreases-loop
+add-result c = search rules
 
-same-length : tie.Need-same-length Inv-loop μ-loop
-same-length c = c .before .loop .inv .same
+same_length : tie.Need-same-length invariant-loop decreases-loop
+same_length c = c.before.loop.invariant.same
 
-returns : tie.Need-returns Inv-loop μ-loop
-returns c = copied-all _ _ _ _ _ (c .loop-test .left) (c .before .loop .inv)
+returns : tie.Need-returns invariant-loop decreases-loop
+returns c = copied_all _ _ _ _ _ c.loop-test.false c.before.loop.invariant
 
 pub text-spec : {M : Type 1} → statement M
 text-spec =
     tie.close
     (tie.spec
-    Inv-loop
-    μ-loop
+    invariant-loop
+    decreases-loop
     loop-holds
     shared-slice-read-out
     add-out
@@ -59,5 +59,5 @@ text-spec =
     loop-less
     loop-again
     add-result
-    same-length
+    same_length
     returns)

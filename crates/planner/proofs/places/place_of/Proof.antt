@@ -1,105 +1,105 @@
 -- `planner::places::place_of` meets its contract. The loop's invariant: the place that is searched for lies from `low` on, no further than `size`.
 -- Assumes nothing.
-use lib.ListN.{length, getD}
-use Prim.Native.Nat.{ℕ, _+_, _/_, _≤_, _<_}
-use borrow.Author.Needs.{needs}
+use lib.ListN.{length, get_or}
+use Prim.Native.Nat.{ℕ, ◌+◌, ◌/◌, ◌≤◌, ◌<◌}
+use borrow.Author.Rules.{rules}
 use native.Mathlib.Omega.{arith}
-use Rattle·planner_rules.specs.Slots.{below}
-use Rattle·planner_rules.proofs.Places.{below-up-to, below-past-it}
-use Rattle·planner_rules.proofs.EndLaws.{below-le}
-use Rattle·planner·proofs.proofs.places.place_of.Statement.{statement}
-use Rattle·planner·proofs.proofs.places.place_of.Tie as tie
+use Rattle.planner_rules.specs.Slots.{below}
+use Rattle.planner_rules.proofs.Places.{below_up_to, below_past_it}
+use Rattle.planner_rules.proofs.EndLaws.{below-le}
+use Rattle.planner.proofs.places.place_of.Statement.{statement}
+use Rattle.planner.proofs.places.place_of.Tie as tie
 
-abbrev Inv-loop : tie.InvT-loop
-Inv-loop indexes limit low₀ size₀ low size = (low ≤ below limit indexes) × (below limit indexes ≤ low + size) × (low + size ≤ length indexes)
+abbrev invariant-loop : tie.invariant-loop
+invariant-loop indexes limit low₀ size₀ low size = (low ≤ below limit indexes) × (below limit indexes ≤ low + size) × (low + size ≤ length indexes)
 
-abbrev μ-loop : tie.MeasureT-loop
-μ-loop indexes limit low₀ size₀ low size = size
+abbrev decreases-loop : tie.decreases-loop
+decreases-loop indexes limit low₀ size₀ low size = size
 
 -- a slot under the limit lies before the place that is searched for, and one that is not does not
-abbrev start : tie.At-loop Inv-loop μ-loop → tie.Start Inv-loop μ-loop
+abbrev start : tie.At-loop invariant-loop decreases-loop → tie.Start invariant-loop decreases-loop
 start l = search
 
-after : (l : tie.At-loop Inv-loop μ-loop) (m : ℕ) →
-    let a = start l .args in
-    m < length (a .indexes .now) → getD (a .indexes .now) m 0 < a .limit → m < below (a .limit) (a .indexes .now)
-after l m h k = below-past-it _ _ (start l .pre) m h k
+after : (l : tie.At-loop invariant-loop decreases-loop) (m : ℕ) →
+    let a = (start l).args in
+    m < length a.indexes.now → get_or a.indexes.now m 0 < a.limit → m < below a.limit a.indexes.now
+after l m h k = below_past_it _ _ (start l).requires m h k
 
-up-to : (l : tie.At-loop Inv-loop μ-loop) (m : ℕ) →
-    let a = start l .args in
-    m < length (a .indexes .now) → a .limit ≤ getD (a .indexes .now) m 0 → below (a .limit) (a .indexes .now) ≤ m
-up-to l m h k = below-up-to _ _ m h k
+up_to : (l : tie.At-loop invariant-loop decreases-loop) (m : ℕ) →
+    let a = (start l).args in
+    m < length a.indexes.now → a.limit ≤ get_or a.indexes.now m 0 → below a.limit a.indexes.now ≤ m
+up_to l m h k = below_up_to _ _ m h k
 
-loop-holds : tie.Need-loop-holds Inv-loop μ-loop
-loop-holds c = let a = c .before .args in (omega arith, omega (arith, below-le (a .limit) (a .indexes .now)), omega arith)
+loop-holds : tie.Need-loop-init invariant-loop decreases-loop
+loop-holds c = let a = c.before.args in (omega arith, omega (arith, below-le a.limit a.indexes.now), omega arith)
 
-add-middle : tie.Need-add-middle Inv-loop μ-loop
-add-middle c = search needs
+add-middle : tie.Need-overflow-add-middle invariant-loop decreases-loop
+add-middle c = search rules
 
-sub-size : tie.Need-sub-size Inv-loop μ-loop
-sub-size c = search needs
+sub-size : tie.Need-overflow-sub-size invariant-loop decreases-loop
+sub-size c = search rules
 
-mul-wide : tie.Need-mul-wide Inv-loop μ-loop
-mul-wide c = search needs
+mul_wide : tie.Need-overflow-mul-wide invariant-loop decreases-loop
+mul_wide c = search rules
 
-shared-slice-read-wide : tie.Need-shared-slice-read-wide Inv-loop μ-loop
-shared-slice-read-wide c = search needs
+shared-slice-read-wide : tie.Need-shared-slice-read-wide invariant-loop decreases-loop
+shared-slice-read-wide c = search rules
 
-wide-requires : tie.Need-wide-requires Inv-loop μ-loop
-wide-requires c κs = search needs
+wide-requires : tie.Need-wide-requires invariant-loop decreases-loop
+wide-requires c κs = search rules
 
-loop-less : tie.Need-loop-less Inv-loop μ-loop
-loop-less c = search needs
+loop-less : tie.Need-loop-smaller invariant-loop decreases-loop
+loop-less c = search rules
 
-loop-again : tie.Need-loop-again Inv-loop μ-loop
+loop-again : tie.Need-loop-preserved invariant-loop decreases-loop
 loop-again c =
-    let l : tie.At-loop Inv-loop μ-loop = search in
-    (omega (arith, after l (l .loop .low + l .loop .size / 2) (omega arith) (omega arith)), omega arith, omega arith)
+    let l : tie.At-loop invariant-loop decreases-loop = search in
+    (omega (arith, after l (l.loop.low + l.loop.size / 2) (omega arith) (omega arith)), omega arith, omega arith)
 
-loop-less-2 : tie.Need-loop-less-2 Inv-loop μ-loop
-loop-less-2 c = search needs
+loop-less-2 : tie.Need-loop-smaller-2 invariant-loop decreases-loop
+loop-less-2 c = search rules
 
-loop-again-2 : tie.Need-loop-again-2 Inv-loop μ-loop
+loop-again-2 : tie.Need-loop-preserved-2 invariant-loop decreases-loop
 loop-again-2 c =
-    let l : tie.At-loop Inv-loop μ-loop = search in
-    (omega arith, omega (arith, up-to l (l .loop .low + l .loop .size / 2) (omega arith) (omega arith)), omega arith)
+    let l : tie.At-loop invariant-loop decreases-loop = search in
+    (omega arith, omega (arith, up_to l (l.loop.low + l.loop.size / 2) (omega arith) (omega arith)), omega arith)
 
-mul-wide-2 : tie.Need-mul-wide-2 Inv-loop μ-loop
-mul-wide-2 c = search needs
+mul-wide-2 : tie.Need-overflow-mul-wide-2 invariant-loop decreases-loop
+mul-wide-2 c = search rules
 
-shared-slice-read-wide-2 : tie.Need-shared-slice-read-wide-2 Inv-loop μ-loop
-shared-slice-read-wide-2 c = search needs
+shared-slice-read-wide-2 : tie.Need-shared-slice-read-wide-2 invariant-loop decreases-loop
+shared-slice-read-wide-2 c = search rules
 
-wide-requires-2 : tie.Need-wide-requires-2 Inv-loop μ-loop
-wide-requires-2 c κs = search needs
+wide-requires-2 : tie.Need-wide-requires-2 invariant-loop decreases-loop
+wide-requires-2 c κs = search rules
 
-add-result : tie.Need-add-result Inv-loop μ-loop
-add-result c = search needs
+add-result : tie.Need-overflow-add-result invariant-loop decreases-loop
+add-result c = search rules
 
-returns : tie.Need-returns Inv-loop μ-loop
+returns : tie.Need-returns invariant-loop decreases-loop
 returns c =
-    let l : tie.At-loop Inv-loop μ-loop = search in
-    let past = after l (l .loop .low) (omega arith) (omega arith) in
+    let l : tie.At-loop invariant-loop decreases-loop = search in
+    let past = after l l.loop.low (omega arith) (omega arith) in
     (omega (arith, past), omega (arith, past))
 
-returns-2 : tie.Need-returns-2 Inv-loop μ-loop
+returns-2 : tie.Need-returns-2 invariant-loop decreases-loop
 returns-2 c =
-    let l : tie.At-loop Inv-loop μ-loop = search in
-    (omega (arith, up-to l (l .loop .low) (omega arith) (omega arith)), omega arith)
+    let l : tie.At-loop invariant-loop decreases-loop = search in
+    (omega (arith, up_to l l.loop.low (omega arith) (omega arith)), omega arith)
 
-returns-3 : tie.Need-returns-3 Inv-loop μ-loop
+returns-3 : tie.Need-returns-3 invariant-loop decreases-loop
 returns-3 c = (omega arith, omega arith)
 
 pub place-of-spec : {M : Type 1} → statement M
 place-of-spec =
     tie.close
     (tie.spec
-    Inv-loop
-    μ-loop
+    invariant-loop
+    decreases-loop
     loop-holds
     add-middle
     sub-size
-    mul-wide
+    mul_wide
     shared-slice-read-wide
     wide-requires
     loop-less

@@ -1,81 +1,81 @@
 -- `planner::plan::plan_pages` meets its contract: a no refuses, and else the areas are planned; from that, demand 3. Assumes nothing.
 use mathlib.Core.Path.{subst}
-use Rattle·planner_rules.specs.declared.planning.Shared.{Shared}
-use Rattle·planner_rules.specs.declared.planning.Prepared.{Prepared}
-use Rattle·planner_rules.specs.Plan.{Sheet, sheetOf}
-use Rattle·planner_rules.specs.Steps.{SharedBy, IsPrepared}
-use Rattle·planner_rules.proofs.Demand.{clauses}
-use Rattle·planner_rules.proofs.PlanLaws.{refuses-plan, relay-plan, no-plan, settled-onto, then-plan}
-use borrow.Author.Needs.{needs}
-use Rattle·planner·proofs.proofs.plan.plan_pages.Statement.{statement}
-use Rattle·planner·proofs.proofs.plan.plan_pages.Tie as tie
+use Rattle.planner_rules.specs.declared.planning.Shared.{Shared}
+use Rattle.planner_rules.specs.declared.planning.Prepared.{Prepared}
+use Rattle.planner_rules.specs.Plan.{Sheet, sheet_of}
+use Rattle.planner_rules.specs.Steps.{SharedBy, IsPrepared}
+use Rattle.planner_rules.proofs.Demand.{clauses}
+use Rattle.planner_rules.proofs.PlanLaws.{refuses_plan, relay_plan, no_plan, settled_onto, then_plan}
+use borrow.Author.Rules.{rules}
+use Rattle.planner.proofs.plan.plan_pages.Statement.{statement}
+use Rattle.planner.proofs.plan.plan_pages.Tie as tie
 
 abbrev sheet : tie.Start → Sheet
 sheet s =
-    let a = s .args in
-    sheetOf (a .settings) (a .row-title) (a .column-title) (a .row-indexes .now) (a .row-sizes .now) (a .column-indexes .now) (a .column-sizes .now)
-    (a .merge-first-rows .now) (a .merge-first-columns .now) (a .merge-last-rows .now) (a .merge-last-columns .now) (a .row-breaks .now)
-    (a .column-breaks .now)
+    let a = s.args in
+    sheet_of a.settings a.row_title a.column_title a.row_indexes.now a.row_sizes.now a.column_indexes.now a.column_sizes.now
+    a.merge_first_rows.now a.merge_first_columns.now a.merge_last_rows.now a.merge_last_columns.now a.row_breaks.now
+    a.column_breaks.now
 
 -- what was prepared
 abbrev start : tie.After-prepare → tie.Start
 start d = search
 
-ready : (d : tie.After-prepare) → IsPrepared (d .prepare .result) (sheet (start d)) (start d .args .areas)
-ready d = let a = start d .args in d .prepare .ensures (a .row-breaks .now) (a .column-breaks .now)
+ready : (d : tie.After-prepare) → IsPrepared d.prepare.result (sheet (start d)) (start d).args.areas
+ready d = let a = (start d).args in d.prepare.ensures a.row_breaks.now a.column_breaks.now
 
 prepare-requires : tie.Need-prepare-requires
-prepare-requires c κs = search needs
+prepare-requires c κs = search rules
 
 enum-known-prepared : tie.Need-enum-known-prepared
-enum-known-prepared c = search needs
+enum-known-prepared c = search rules
 
 enum-known-prepared-2 : tie.Need-enum-known-prepared-2
-enum-known-prepared-2 c = search needs
+enum-known-prepared-2 c = search rules
 
 -- where the areas share this
 abbrev prepared : tie.After-prepared2 → tie.After-prepare
 prepared v = search
 
 abbrev shared : tie.After-prepared2 → Shared
-shared v = v .prepared2 .given .0 .0
+shared v = v.prepared2.given.0.0
 
-by : (v : tie.After-prepared2) → let s = start (prepared v) in SharedBy (shared v) (sheet s) (s .args .areas)
+by : (v : tie.After-prepared2) → let s = start (prepared v) in SharedBy (shared v) (sheet s) s.args.areas
 by v =
     let d = prepared v in
-    subst (λ (p : Prepared). IsPrepared p (sheet (start d)) (start d .args .areas)) (v .prepared2 .given .1) (ready d)
+    subst (λ (p : Prepared). IsPrepared p (sheet (start d)) (start d).args.areas) v.prepared2.given.1 (ready d)
 
 plan-areas-requires : tie.Need-plan-areas-requires
 plan-areas-requires c κs =
     let v : tie.After-prepared2 = search in
     let s = start (prepared v) in
-    (settled-onto (shared v) (sheet s) (s .args .areas) (by v), by v .fine)
+    (settled_onto (shared v) (sheet s) s.args.areas (by v), (by v).fine)
 
 returns : tie.Need-returns
 returns c =
     let d : tie.After-prepare = search in
     let v : tie.After-prepared = search in
     let s = start d in
-    let a = s .args in
-    let no = subst (λ (p : Prepared). IsPrepared p (sheet s) (a .areas)) (v .prepared .given .1) (ready d) in
-    clauses (sheet s) (a .areas) (a .row-runs .now) (a .column-runs .now) _ _ _
-    (refuses-plan _ _ (a .row-runs .now) (a .column-runs .now) (no-plan (sheet s) (a .areas) _ no (a .row-runs .now) (a .column-runs .now)))
+    let a = s.args in
+    let no = subst (λ (p : Prepared). IsPrepared p (sheet s) a.areas) v.prepared.given.1 (ready d) in
+    clauses (sheet s) a.areas a.rows_wanted.now a.columns_wanted.now _ _ _
+    (refuses_plan _ _ a.rows_wanted.now a.columns_wanted.now (no_plan (sheet s) a.areas _ no a.rows_wanted.now a.columns_wanted.now))
 
-same-length : tie.Need-same-length
-same-length c = search needs
+same_length : tie.Need-same-length
+same_length c = search rules
 
 same-length-2 : tie.Need-same-length-2
-same-length-2 c = search needs
+same-length-2 c = search rules
 
 returns-2 : tie.Need-returns-2
 returns-2 c =
     let w : tie.After-plan-areas = search in
     let v : tie.After-prepared2 = search in
     let s = start (prepared v) in
-    let a = s .args in
-    let e = then-plan (shared v) (sheet s) (a .areas) (by v) (a .row-runs .now) (a .column-runs .now) in
-    clauses (sheet s) (a .areas) (a .row-runs .now) (a .column-runs .now) _ _ _
-    (relay-plan _ _ _ _ _ _ _ e (w .plan-areas .ensures))
+    let a = s.args in
+    let e = then_plan (shared v) (sheet s) a.areas (by v) a.rows_wanted.now a.columns_wanted.now in
+    clauses (sheet s) a.areas a.rows_wanted.now a.columns_wanted.now _ _ _
+    (relay_plan _ _ _ _ _ _ _ e w.plan_areas.ensures)
 
 pub plan-pages-spec : {M : Type 1} → statement M
 plan-pages-spec =
@@ -86,6 +86,6 @@ plan-pages-spec =
     enum-known-prepared-2
     plan-areas-requires
     returns
-    same-length
+    same_length
     same-length-2
     returns-2)

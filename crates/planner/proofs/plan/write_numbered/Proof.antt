@@ -1,19 +1,19 @@
 -- `planner::plan::write_numbered` meets its contract. Assumes nothing.
-use mathlib.Core.Path.{_≡_, sym}
-use Prim.Native.Nat.{suc, _-_}
+use mathlib.Core.Path.{◌≡◌, sym}
+use Prim.Native.Nat.{suc, ◌-◌}
 use native.Mathlib.Omega.{arith}
-use Rattle·planner_rules.specs.Plan.{Sheet}
-use Rattle·planner_rules.specs.Steps.{sheetBy, sidesIn}
-use Rattle·planner_rules.proofs.PlanLaws.{refuses-area, relay-area, no-permille, number-zero, number-past, number-is}
-use borrow.Author.Needs.{needs}
-use Rattle·planner·proofs.proofs.plan.write_numbered.Statement.{statement}
-use Rattle·planner·proofs.proofs.plan.write_numbered.Tie as tie
+use Rattle.planner_rules.specs.Plan.{Sheet}
+use Rattle.planner_rules.specs.Steps.{sheet_by, sides_in}
+use Rattle.planner_rules.proofs.PlanLaws.{refuses_area, relay_area, no_permille, number_zero, number_past, number_is}
+use borrow.Author.Rules.{rules}
+use Rattle.planner.proofs.plan.write_numbered.Statement.{statement}
+use Rattle.planner.proofs.plan.write_numbered.Tie as tie
 
 abbrev sheet : tie.Start → Sheet
 sheet s =
-    let a = s .args in
-    sheetBy (a .shared) (a .row-indexes .now) (a .row-sizes .now) (a .column-indexes .now) (a .column-sizes .now) (a .merge-first-rows .now)
-    (a .merge-first-columns .now) (a .merge-last-rows .now) (a .merge-last-columns .now) (a .row-breaks .now) (a .column-breaks .now)
+    let a = s.args in
+    sheet_by a.shared a.row_indexes.now a.row_sizes.now a.column_indexes.now a.column_sizes.now a.merge_first_rows.now
+    a.merge_first_columns.now a.merge_last_rows.now a.merge_last_columns.now a.row_breaks.now a.column_breaks.now
 
 -- once the area is known: the way back
 abbrev start : tie.After-area-at → tie.Start
@@ -34,33 +34,33 @@ found w = search
 returns : tie.Need-returns
 returns c =
     let s : tie.Start = search in
-    let a = s .args in
-    refuses-area _ 10 (a .row-runs .now) (a .column-runs .now)
-    (no-permille (sidesIn (a .shared)) (sheet s) (a .areas) (a .number) (a .permille) (a .row-runs .now) (a .column-runs .now) (c .if1 .taken))
+    let a = s.args in
+    refuses_area _ 10 a.rows_wanted.now a.columns_wanted.now
+    (no_permille (sides_in a.shared) (sheet s) a.areas a.number a.permille a.rows_wanted.now a.columns_wanted.now c.if1.true)
 
 returns-2 : tie.Need-returns-2
 returns-2 c =
     let s : tie.Start = search in
     let e : tie.Else1 = search in
-    let a = s .args in
-    refuses-area _ 14 (a .row-runs .now) (a .column-runs .now)
-    (number-zero (sidesIn (a .shared)) (sheet s) (a .areas) (a .number) (a .permille) (a .row-runs .now) (a .column-runs .now) (omega (arith, e .if1 .left))
-    (c .if2 .taken))
+    let a = s.args in
+    refuses_area _ 14 a.rows_wanted.now a.columns_wanted.now
+    (number_zero (sides_in a.shared) (sheet s) a.areas a.number a.permille a.rows_wanted.now a.columns_wanted.now (omega (arith, e.if1.left))
+    c.if2.true)
 
 returns-3 : tie.Need-returns-3
 returns-3 c =
     let s : tie.Start = search in
     let e : tie.Else1 = search in
-    let a = s .args in
-    refuses-area _ 14 (a .row-runs .now) (a .column-runs .now)
-    (number-past (sidesIn (a .shared)) (sheet s) (a .areas) (a .number) (a .permille) (a .row-runs .now) (a .column-runs .now) (omega (arith, e .if1 .left))
-    (s .pre .1 .few) (c .if3 .taken))
+    let a = s.args in
+    refuses_area _ 14 a.rows_wanted.now a.columns_wanted.now
+    (number_past (sides_in a.shared) (sheet s) a.areas a.number a.permille a.rows_wanted.now a.columns_wanted.now (omega (arith, e.if1.left))
+    s.pre.1.few c.if3.true)
 
-sub-area-at : tie.Need-sub-area-at
-sub-area-at c = search needs
+sub-area-at : tie.Need-overflow-sub-area-at
+sub-area-at c = search rules
 
 area-at-requires : tie.Need-area-at-requires
-area-at-requires c κs = search needs
+area-at-requires c κs = search rules
 
 write-range-requires : tie.Need-write-range-requires
 write-range-requires c κs =
@@ -68,14 +68,14 @@ write-range-requires c κs =
     let s = start d in
     let zero = not-zero d in
     let past = not-past d in
-    let a = s .args in
-    (s .pre .0, rw (d .area-at .ensures) (s .pre .1 .each (a .number - 1) (omega (arith, zero .if2 .left, past .if3 .left))))
+    let a = s.args in
+    (s.pre.0, rw d.area-at.ensures (s.pre.1.each (a.number - 1) (omega (arith, zero.if2.left, past.if3.left))))
 
-same-length : tie.Need-same-length
-same-length c = search needs
+same_length : tie.Need-same-length
+same_length c = search rules
 
 same-length-2 : tie.Need-same-length-2
-same-length-2 c = search needs
+same-length-2 c = search rules
 
 returns-4 : tie.Need-returns-4
 returns-4 c =
@@ -85,12 +85,12 @@ returns-4 c =
     let one = passed d in
     let zero = not-zero d in
     let past = not-past d in
-    let a = s .args in
-    let n : a .number ≡ suc (a .number - 1) = omega (arith, zero .if2 .left) in
-    let e = number-is (sidesIn (a .shared)) (sheet s) (a .areas) (a .number) (a .permille) (a .row-runs .now) (a .column-runs .now)
-    (omega (arith, one .if1 .left)) (s .pre .1 .few) (a .number - 1) _ n
-    (omega (arith, zero .if2 .left, past .if3 .left)) (d .area-at .ensures) in
-    relay-area _ _ _ _ _ _ _ (sym e) (w .write-range .ensures)
+    let a = s.args in
+    let n : a.number ≡ suc (a.number - 1) = omega (arith, zero.if2.left) in
+    let e = number_is (sides_in a.shared) (sheet s) a.areas a.number a.permille a.rows_wanted.now a.columns_wanted.now
+    (omega (arith, one.if1.left)) s.pre.1.few (a.number - 1) _ n
+    (omega (arith, zero.if2.left, past.if3.left)) d.area-at.ensures in
+    relay_area _ _ _ _ _ _ _ (sym e) w.write-range.ensures
 
 pub write-numbered-spec : {M : Type 1} → statement M
 write-numbered-spec =
@@ -102,6 +102,6 @@ write-numbered-spec =
     sub-area-at
     area-at-requires
     write-range-requires
-    same-length
+    same_length
     same-length-2
     returns-4)

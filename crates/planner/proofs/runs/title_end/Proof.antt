@@ -1,63 +1,63 @@
 -- `planner::runs::title_end` meets its contract. Assumes nothing.
 use native.Mathlib.Omega.{arith}
-use Rattle·planner_rules.proofs.EndLaws.{title-holds, title-before, title-after}
-use Rattle·planner_rules.proofs.Laws.{slots-part, length-part}
-use Prim.Native.Nat.{ℕ, _+_}
-use mathlib.Core.Path.{ap, _∙_}
-use borrow.Author.Needs.{needs}
-use Rattle·planner·proofs.proofs.runs.title_end.Statement.{statement}
-use Rattle·planner·proofs.proofs.runs.title_end.Tie as tie
-use Rattle·planner_rules.specs.Runs.{resumption}
+use Rattle.planner_rules.proofs.EndLaws.{title_holds, title_before, title_after}
+use Rattle.planner_rules.proofs.Laws.{slots_part, length_part}
+use Prim.Native.Nat.{ℕ, ◌+◌}
+use mathlib.Core.Path.{ap, ◌∙◌}
+use borrow.Author.Rules.{rules}
+use Rattle.planner.proofs.runs.title_end.Statement.{statement}
+use Rattle.planner.proofs.runs.title_end.Tie as tie
+use Rattle.planner_rules.specs.Runs.{resumption}
 
 enum-known-title : tie.Need-enum-known-title
-enum-known-title c = search needs
+enum-known-title c = search rules
 
-enum-told : tie.Need-enum-told
-enum-told c = search needs
+enum_told : tie.Need-enum-told
+enum_told c = search rules
 
 returns : tie.Need-returns
 unfolding resumption
-returns c = (rw (c .enum-told .given .1), search needs)
+returns c = (rw c.enum_told.given.1, search rules)
 
-mul-b : tie.Need-mul-b
-mul-b c = search needs
+mul-b : tie.Need-overflow-mul-b
+mul-b c = search rules
 
 shared-slice-read-b : tie.Need-shared-slice-read-b
-shared-slice-read-b c = search needs
+shared-slice-read-b c = search rules
 
-mul-resumed-fill : tie.Need-mul-resumed-fill
-mul-resumed-fill c = search needs
+mul-resumed-fill : tie.Need-overflow-mul-resumed-fill
+mul-resumed-fill c = search rules
 
-sub-resumed-fill : tie.Need-sub-resumed-fill
-sub-resumed-fill c = search needs
+sub-resumed-fill : tie.Need-overflow-sub-resumed-fill
+sub-resumed-fill c = search rules
 
-part-resumed-fill-start : tie.Need-part-resumed-fill-start
-part-resumed-fill-start c = search needs
+part-resumed-fill-start : tie.Need-slice-bounds-resumed-fill-start
+part-resumed-fill-start c = search rules
 
-part-resumed-fill-end : tie.Need-part-resumed-fill-end
-part-resumed-fill-end c = search needs
+part-resumed-fill-end : tie.Need-slice-bounds-resumed-fill-end
+part-resumed-fill-end c = search rules
 
-mul-resumed-fill-2 : tie.Need-mul-resumed-fill-2
-mul-resumed-fill-2 c = search needs
+mul-resumed-fill-2 : tie.Need-overflow-mul-resumed-fill-2
+mul-resumed-fill-2 c = search rules
 
-sub-resumed-fill-2 : tie.Need-sub-resumed-fill-2
-sub-resumed-fill-2 c = search needs
+sub-resumed-fill-2 : tie.Need-overflow-sub-resumed-fill-2
+sub-resumed-fill-2 c = search rules
 
-part-resumed-fill-start-2 : tie.Need-part-resumed-fill-start-2
-part-resumed-fill-start-2 c = search needs
+part-resumed-fill-start-2 : tie.Need-slice-bounds-resumed-fill-start-2
+part-resumed-fill-start-2 c = search rules
 
-part-resumed-fill-end-2 : tie.Need-part-resumed-fill-end-2
-part-resumed-fill-end-2 c = search needs
+part-resumed-fill-end-2 : tie.Need-slice-bounds-resumed-fill-end-2
+part-resumed-fill-end-2 c = search rules
 
 resumed-fill-requires : tie.Need-resumed-fill-requires
 resumed-fill-requires c κs =
     let s : tie.Start = search in (
-      slots-part (s .args .n) (s .args .indexes .now) (s .args .sizes .now) (s .pre .0),
-      omega (arith, length-part (s .args .n) (s .args .sizes .now), s .pre .1),
+      slots_part s.args.n s.args.indexes.now s.args.sizes.now s.pre.0,
+      omega (arith, length_part s.args.n s.args.sizes.now, s.pre.1),
     )
 
-add-result : tie.Need-add-result
-add-result c = search needs
+add-result : tie.Need-overflow-add-result
+add-result c = search rules
 
 returns-2 : tie.Need-returns-2
 returns-2 c =
@@ -65,27 +65,27 @@ returns-2 c =
     let t : tie.After-title = search in
     let b : tie.Then1 = search in
     let then2 : tie.Then2 = search in
-    let a = s .args in (
-      ap (λ (k : ℕ). a .n + k) (c .resumed-fill .ensures .0) ∙ title-holds _ _ _ _ _ _ _ (t .title .given .1) (b .if1 .taken) (then2 .if2 .taken),
-      omega (arith, c .resumed-fill .ensures .1, length-part (a .n) (a .sizes .now), s .pre .1),
+    let a = s.args in (
+      ap (λ (k : ℕ). a.n + k) c.resumed-fill.ensures.0 ∙ title_holds _ _ _ _ _ _ _ t.title.given.1 b.if1.taken then2.if2.taken,
+      omega (arith, c.resumed-fill.ensures.1, length_part a.n a.sizes.now, s.pre.1),
     )
 
 returns-3 : tie.Need-returns-3
 returns-3 c =
     let t : tie.After-title = search in
-    (title-after _ _ _ _ _ _ _ (t .title .given .1) (c .before .if1 .taken) (c .if2 .left), search needs)
+    (title_after _ _ _ _ _ _ _ t.title.given.1 c.before.if1.true c.if2.false, search rules)
 
 returns-4 : tie.Need-returns-4
 returns-4 c =
     let t : tie.After-title = search in
-    (title-before _ _ _ _ _ _ _ (t .title .given .1) (c .if1 .left), search needs)
+    (title_before _ _ _ _ _ _ _ t.title.given.1 c.if1.false, search rules)
 
 pub title-end-spec : {M : Type 1} → statement M
 title-end-spec =
     tie.close
     (tie.spec
     enum-known-title
-    enum-told
+    enum_told
     returns
     mul-b
     shared-slice-read-b

@@ -1,59 +1,58 @@
 -- `planner_cases::lists::marked_from` is safe and ends. The measure is what is left of the list. Assumes nothing.
-use Prim.Native.Nat.{_-_}
-use borrow.Author.Needs.{needs}
-use Rattle·planner_cases·proofs.proofs.lists.marked_from.Statement.{statement}
-use Rattle·planner_cases·proofs.proofs.lists.marked_from.Tie as tie
+use Rattle.std.proofs.Common.{◌-◌, rules}
+use Rattle.planner_cases.proofs.lists.marked_from.Statement.{statement}
+use Rattle.planner_cases.proofs.lists.marked_from.Tie as tie
 
-abbrev Inv-loop : tie.InvT-loop
-Inv-loop first others step out₀ i₀ out i = Unit {0}
+abbrev invariant-loop : tie.invariant-loop
+invariant-loop first others step out₀ i₀ out i = Unit {0}
 
-abbrev μ-loop : tie.MeasureT-loop
-μ-loop first others step out₀ i₀ out i = 195 - i
+abbrev decreases-loop : tie.decreases-loop
+decreases-loop first others step out₀ i₀ out i = 195 - i
 
-capped-requires : tie.Need-capped-requires Inv-loop μ-loop
-capped-requires c κs = search needs
+capped-requires : tie.Need-capped-requires invariant-loop decreases-loop
+capped-requires c κs = search rules
 
-add-step : tie.Need-add-step Inv-loop μ-loop
-add-step c = search needs
+add_step : tie.Need-overflow-add-step invariant-loop decreases-loop
+add_step c = search rules
 
-mul-step : tie.Need-mul-step Inv-loop μ-loop
-mul-step c = search needs
+mul-step : tie.Need-overflow-mul-step invariant-loop decreases-loop
+mul-step c = search rules
 
-numbers-from-requires : tie.Need-numbers-from-requires Inv-loop μ-loop
-numbers-from-requires c κs = search needs
+numbers-from-requires : tie.Need-numbers-from-requires invariant-loop decreases-loop
+numbers-from-requires c κs = search rules
 
-sub-i : tie.Need-sub-i Inv-loop μ-loop
-sub-i c = search needs
+sub-i : tie.Need-overflow-sub-i invariant-loop decreases-loop
+sub-i c = search rules
 
-loop-holds : tie.Need-loop-holds Inv-loop μ-loop
-loop-holds c = search needs
+loop-holds : tie.Need-loop-init invariant-loop decreases-loop
+loop-holds c = search rules
 
-mul-out : tie.Need-mul-out Inv-loop μ-loop
-mul-out c = search needs
+mul-out : tie.Need-overflow-mul-out invariant-loop decreases-loop
+mul-out c = search rules
 
-array-write-out : tie.Need-array-write-out Inv-loop μ-loop
-array-write-out c = search needs
+array-write-out : tie.Need-array-write-out invariant-loop decreases-loop
+array-write-out c = search rules
 
-add-i : tie.Need-add-i Inv-loop μ-loop
-add-i c = search needs
+add-i : tie.Need-overflow-add-i invariant-loop decreases-loop
+add-i c = search rules
 
-loop-less : tie.Need-loop-less Inv-loop μ-loop
-loop-less c = search needs
+loop-less : tie.Need-loop-smaller invariant-loop decreases-loop
+loop-less c = search rules
 
-loop-again : tie.Need-loop-again Inv-loop μ-loop
-loop-again c = search needs
+loop-again : tie.Need-loop-preserved invariant-loop decreases-loop
+loop-again c = search rules
 
-returns : tie.Need-returns Inv-loop μ-loop
-returns c = search needs
+returns : tie.Need-returns invariant-loop decreases-loop
+returns c = search rules
 
 pub marked-from-spec : {M : Type 1} → statement M
 marked-from-spec =
     tie.close
     (tie.spec
-    Inv-loop
-    μ-loop
+    invariant-loop
+    decreases-loop
     capped-requires
-    add-step
+    add_step
     mul-step
     numbers-from-requires
     sub-i

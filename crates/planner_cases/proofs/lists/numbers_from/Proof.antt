@@ -1,45 +1,44 @@
 -- `planner_cases::lists::numbers_from` is safe and ends. The measure is what is left of the list. Assumes nothing.
-use Prim.Native.Nat.{_-_}
-use borrow.Author.Needs.{needs}
-use Rattle·planner_cases·proofs.proofs.lists.numbers_from.Statement.{statement}
-use Rattle·planner_cases·proofs.proofs.lists.numbers_from.Tie as tie
+use Rattle.std.proofs.Common.{◌-◌, rules}
+use Rattle.planner_cases.proofs.lists.numbers_from.Statement.{statement}
+use Rattle.planner_cases.proofs.lists.numbers_from.Tie as tie
 
-abbrev Inv-loop : tie.InvT-loop
-Inv-loop first out₀ i₀ out i = Unit {0}
+abbrev invariant-loop : tie.invariant-loop
+invariant-loop first out₀ i₀ out i = Unit {0}
 
-abbrev μ-loop : tie.MeasureT-loop
-μ-loop first out₀ i₀ out i = 195 - i
+abbrev decreases-loop : tie.decreases-loop
+decreases-loop first out₀ i₀ out i = 195 - i
 
-loop-holds : tie.Need-loop-holds Inv-loop μ-loop
-loop-holds c = search needs
+loop-holds : tie.Need-loop-init invariant-loop decreases-loop
+loop-holds c = search rules
 
-wrapping-add-u64-requires : tie.Need-wrapping-add-u64-requires Inv-loop μ-loop
-wrapping-add-u64-requires c κs = search needs
+wrapping-add-u64-requires : tie.Need-wrapping-add-u64-requires invariant-loop decreases-loop
+wrapping-add-u64-requires c κs = search rules
 
-mul-out : tie.Need-mul-out Inv-loop μ-loop
-mul-out c = search needs
+mul-out : tie.Need-overflow-mul-out invariant-loop decreases-loop
+mul-out c = search rules
 
-array-write-out : tie.Need-array-write-out Inv-loop μ-loop
-array-write-out c = search needs
+array-write-out : tie.Need-array-write-out invariant-loop decreases-loop
+array-write-out c = search rules
 
-add-i : tie.Need-add-i Inv-loop μ-loop
-add-i c = search needs
+add-i : tie.Need-overflow-add-i invariant-loop decreases-loop
+add-i c = search rules
 
-loop-less : tie.Need-loop-less Inv-loop μ-loop
-loop-less c = search needs
+loop-less : tie.Need-loop-smaller invariant-loop decreases-loop
+loop-less c = search rules
 
-loop-again : tie.Need-loop-again Inv-loop μ-loop
-loop-again c = search needs
+loop-again : tie.Need-loop-preserved invariant-loop decreases-loop
+loop-again c = search rules
 
-returns : tie.Need-returns Inv-loop μ-loop
-returns c = search needs
+returns : tie.Need-returns invariant-loop decreases-loop
+returns c = search rules
 
 pub numbers-from-spec : {M : Type 1} → statement M
 numbers-from-spec =
     tie.close
     (tie.spec
-    Inv-loop
-    μ-loop
+    invariant-loop
+    decreases-loop
     loop-holds
     wrapping-add-u64-requires
     mul-out

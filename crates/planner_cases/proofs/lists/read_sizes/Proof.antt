@@ -1,54 +1,53 @@
 -- `planner_cases::lists::read_sizes` is safe and ends. The measure is how many fields are left. Assumes nothing.
-use Prim.Native.Nat.{_-_}
-use borrow.Author.Needs.{needs}
-use Rattle·planner_cases·proofs.proofs.lists.read_sizes.Statement.{statement}
-use Rattle·planner_cases·proofs.proofs.lists.read_sizes.Tie as tie
+use Rattle.std.proofs.Common.{◌-◌, rules}
+use Rattle.planner_cases.proofs.lists.read_sizes.Statement.{statement}
+use Rattle.planner_cases.proofs.lists.read_sizes.Tie as tie
 
-abbrev Inv-loop : tie.InvT-loop
-Inv-loop n count text out₀ i₀ out i = Unit {0}
+abbrev invariant-loop : tie.invariant-loop
+invariant-loop n count text out₀ i₀ out i = Unit {0}
 
-abbrev μ-loop : tie.MeasureT-loop
-μ-loop n count text out₀ i₀ out i = count - i
+abbrev decreases-loop : tie.decreases-loop
+decreases-loop n count text out₀ i₀ out i = count - i
 
-capped-requires : tie.Need-capped-requires Inv-loop μ-loop
-capped-requires c κs = search needs
+capped-requires : tie.Need-capped-requires invariant-loop decreases-loop
+capped-requires c κs = search rules
 
-mul-read : tie.Need-mul-read Inv-loop μ-loop
-mul-read c = search needs
+mul-read : tie.Need-overflow-mul-read invariant-loop decreases-loop
+mul-read c = search rules
 
-read-requires : tie.Need-read-requires Inv-loop μ-loop
-read-requires c κs = search needs
+read-requires : tie.Need-read-requires invariant-loop decreases-loop
+read-requires c κs = search rules
 
-loop-holds : tie.Need-loop-holds Inv-loop μ-loop
-loop-holds c = search needs
+loop-holds : tie.Need-loop-init invariant-loop decreases-loop
+loop-holds c = search rules
 
-field-requires : tie.Need-field-requires Inv-loop μ-loop
-field-requires c κs = search needs
+field-requires : tie.Need-field-requires invariant-loop decreases-loop
+field-requires c κs = search rules
 
-mul-out : tie.Need-mul-out Inv-loop μ-loop
-mul-out c = search needs
+mul-out : tie.Need-overflow-mul-out invariant-loop decreases-loop
+mul-out c = search rules
 
-array-write-out : tie.Need-array-write-out Inv-loop μ-loop
-array-write-out c = search needs
+array-write-out : tie.Need-array-write-out invariant-loop decreases-loop
+array-write-out c = search rules
 
-add-i : tie.Need-add-i Inv-loop μ-loop
-add-i c = search needs
+add-i : tie.Need-overflow-add-i invariant-loop decreases-loop
+add-i c = search rules
 
-loop-less : tie.Need-loop-less Inv-loop μ-loop
-loop-less c = search needs
+loop-less : tie.Need-loop-smaller invariant-loop decreases-loop
+loop-less c = search rules
 
-loop-again : tie.Need-loop-again Inv-loop μ-loop
-loop-again c = search needs
+loop-again : tie.Need-loop-preserved invariant-loop decreases-loop
+loop-again c = search rules
 
-returns : tie.Need-returns Inv-loop μ-loop
-returns c = search needs
+returns : tie.Need-returns invariant-loop decreases-loop
+returns c = search rules
 
 pub read-sizes-spec : {M : Type 1} → statement M
 read-sizes-spec =
     tie.close
     (tie.spec
-    Inv-loop
-    μ-loop
+    invariant-loop
+    decreases-loop
     capped-requires
     mul-read
     read-requires

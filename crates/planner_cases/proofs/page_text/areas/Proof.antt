@@ -1,45 +1,44 @@
 -- `planner_cases::page_text::areas` is safe and ends. The measure is how many areas are left. Assumes nothing.
-use Prim.Native.Nat.{_-_}
-use borrow.Author.Needs.{needs}
-use Rattle·planner_cases·proofs.proofs.page_text.areas.Statement.{statement}
-use Rattle·planner_cases·proofs.proofs.page_text.areas.Tie as tie
+use Rattle.std.proofs.Common.{◌-◌, rules}
+use Rattle.planner_cases.proofs.page_text.areas.Statement.{statement}
+use Rattle.planner_cases.proofs.page_text.areas.Tie as tie
 
-abbrev Inv-loop : tie.InvT-loop
-Inv-loop out₀ at held count next₀ k₀ out next k = Unit {0}
+abbrev invariant-loop : tie.invariant-loop
+invariant-loop out₀ at held count next₀ k₀ out next k = Unit {0}
 
-abbrev μ-loop : tie.MeasureT-loop
-μ-loop out₀ at held count next₀ k₀ out next k = count - k
+abbrev decreases-loop : tie.decreases-loop
+decreases-loop out₀ at held count next₀ k₀ out next k = count - k
 
-at-most-eight-requires : tie.Need-at-most-eight-requires Inv-loop μ-loop
-at-most-eight-requires c κs = search needs
+at-most-eight-requires : tie.Need-at-most-eight-requires invariant-loop decreases-loop
+at-most-eight-requires c κs = search rules
 
-loop-holds : tie.Need-loop-holds Inv-loop μ-loop
-loop-holds c = search needs
+loop-holds : tie.Need-loop-init invariant-loop decreases-loop
+loop-holds c = search rules
 
-plan-at-requires : tie.Need-plan-at-requires Inv-loop μ-loop
-plan-at-requires c κs = search needs
+plan-at-requires : tie.Need-plan-at-requires invariant-loop decreases-loop
+plan-at-requires c κs = search rules
 
-area-requires : tie.Need-area-requires Inv-loop μ-loop
-area-requires c κs = search needs
+area-requires : tie.Need-area-requires invariant-loop decreases-loop
+area-requires c κs = search rules
 
-add-k : tie.Need-add-k Inv-loop μ-loop
-add-k c = search needs
+add-k : tie.Need-overflow-add-k invariant-loop decreases-loop
+add-k c = search rules
 
-loop-less : tie.Need-loop-less Inv-loop μ-loop
-loop-less c = search needs
+loop-less : tie.Need-loop-smaller invariant-loop decreases-loop
+loop-less c = search rules
 
-loop-again : tie.Need-loop-again Inv-loop μ-loop
-loop-again c = search needs
+loop-again : tie.Need-loop-preserved invariant-loop decreases-loop
+loop-again c = search rules
 
-returns : tie.Need-returns Inv-loop μ-loop
-returns c = search needs
+returns : tie.Need-returns invariant-loop decreases-loop
+returns c = search rules
 
 pub areas-spec : {M : Type 1} → statement M
 areas-spec =
     tie.close
     (tie.spec
-    Inv-loop
-    μ-loop
+    invariant-loop
+    decreases-loop
     at-most-eight-requires
     loop-holds
     plan-at-requires

@@ -1,112 +1,112 @@
 -- `planner_pages::areas::walk` meets its contract: from each area on the walk ends where it ends from the first on. Assumes nothing.
-use mathlib.Core.Path.{_≡_, refl, sym, _∙_}
-use Prim.Native.Nat.{_≤_, _<_, _-_}
+use mathlib.Core.Path.{◌≡◌, refl, sym, ◌∙◌}
+use Prim.Native.Nat.{◌≤◌, ◌<◌, ◌-◌}
 use native.Mathlib.Omega.{arith}
-use lib.ListN.{length, getD, drop}
+use lib.ListN.{length, get_or, drop}
 use borrow.Author.Tests.{ltb-true, ltb-false}
-use Rattle·planner_rules.specs.Areas.{plansIn, noPlan}
-use Rattle·planner_rules.specs.Pages.{pagesIn, walkFrom}
-use Rattle·planner_rules.proofs.AreaPages.{walk-end, walk-here, walk-on, plans-count, plans-at}
-use borrow.Author.Needs.{needs}
-use Rattle·planner_pages·proofs.proofs.areas.walk.Statement.{statement}
-use Rattle·planner_pages·proofs.proofs.areas.walk.Tie as tie
+use Rattle.planner_rules.specs.Areas.{plans_in, no_plan}
+use Rattle.planner_rules.specs.Pages.{pages_in, walk_from}
+use Rattle.planner_rules.proofs.AreaPages.{walk_end, walk_here, walk_on, plans_count, plans_at}
+use borrow.Author.Rules.{rules}
+use Rattle.planner_pages.proofs.areas.walk.Statement.{statement}
+use Rattle.planner_pages.proofs.areas.walk.Tie as tie
 
-abbrev Inv-loop : tie.InvT-loop
-Inv-loop areas before end rest₀ i₀ rest i =
-    (i ≤ end) × (end ≡ length (plansIn areas)) × (rest ≤ before) × (walkFrom i rest (drop i (plansIn areas)) ≡ walkFrom 0 before (plansIn areas))
+abbrev invariant-loop : tie.invariant-loop
+invariant-loop areas before end rest₀ i₀ rest i =
+    (i ≤ end) × (end ≡ length (plans_in areas)) × (rest ≤ before) × (walk_from i rest (drop i (plans_in areas)) ≡ walk_from 0 before (plans_in areas))
 
-abbrev μ-loop : tie.MeasureT-loop
-μ-loop areas before end rest₀ i₀ rest i = end - i
+abbrev decreases-loop : tie.decreases-loop
+decreases-loop areas before end rest₀ i₀ rest i = end - i
 
 -- the area that is looked at is one of the plan
-here : (d : tie.After-plan-at Inv-loop μ-loop) →
-    let start : tie.Start Inv-loop μ-loop = search in
-    let at-loop : tie.At-loop Inv-loop μ-loop = search in
-    let all = plansIn (start .args .areas) in
-    (at-loop .loop .i < length all) × (getD all (at-loop .loop .i) noPlan ≡ d .plan-at .result)
+here : (d : tie.After-plan-at invariant-loop decreases-loop) →
+    let start : tie.Start invariant-loop decreases-loop = search in
+    let at-loop : tie.At-loop invariant-loop decreases-loop = search in
+    let all = plans_in start.args.areas in
+    (at-loop.loop.i < length all) × (get_or all at-loop.loop.i no_plan ≡ d.plan-at.result)
 here d =
-    let start : tie.Start Inv-loop μ-loop = search in
-    let at-loop : tie.At-loop Inv-loop μ-loop = search in
-    let turn : tie.In-loop Inv-loop μ-loop = search in
-    let l = at-loop .loop in
-    let among : l .i < length (plansIn (start .args .areas)) = omega (arith, turn .loop-test .taken, l .inv .1) in
-    (among, plans-at (start .args .areas) (l .i) among ∙ sym (d .plan-at .ensures))
+    let start : tie.Start invariant-loop decreases-loop = search in
+    let at-loop : tie.At-loop invariant-loop decreases-loop = search in
+    let turn : tie.In-loop invariant-loop decreases-loop = search in
+    let l = at-loop.loop in
+    let among : l.i < length (plans_in start.args.areas) = omega (arith, turn.loop-test.taken, l.inv.1) in
+    (among, plans_at start.args.areas l.i among ∙ sym d.plan-at.ensures)
 
 -- it has no more pages than are left
-few : (d : tie.Else1 Inv-loop μ-loop) →
-    let at-loop : tie.At-loop Inv-loop μ-loop = search in
-    let area : tie.After-plan-at Inv-loop μ-loop = search in
-    pagesIn (area .plan-at .result) ≤ at-loop .loop .rest
-few d = let asked : tie.After-has-more Inv-loop μ-loop = search in ltb-false _ _ (sym (asked .has-more .ensures) ∙ d .if1 .left)
+few : (d : tie.Else1 invariant-loop decreases-loop) →
+    let at-loop : tie.At-loop invariant-loop decreases-loop = search in
+    let area : tie.After-plan-at invariant-loop decreases-loop = search in
+    pages_in area.plan-at.result ≤ at-loop.loop.rest
+few d = let asked : tie.After-has-more invariant-loop decreases-loop = search in ltb-false _ _ (sym asked.Has-more.ensures ∙ d.if1.false)
 
-at-most-eight-requires : tie.Need-at-most-eight-requires Inv-loop μ-loop
-at-most-eight-requires c κs = search needs
+at-most-eight-requires : tie.Need-at-most-eight-requires invariant-loop decreases-loop
+at-most-eight-requires c κs = search rules
 
-loop-holds : tie.Need-loop-holds Inv-loop μ-loop
+loop-holds : tie.Need-loop-init invariant-loop decreases-loop
 loop-holds c =
-    let start : tie.Start Inv-loop μ-loop = search in
-    (omega arith, omega (arith, plans-count (start .args .areas)), omega arith, refl)
+    let start : tie.Start invariant-loop decreases-loop = search in
+    (omega arith, omega (arith, plans_count start.args.areas), omega arith, refl)
 
-plan-at-requires : tie.Need-plan-at-requires Inv-loop μ-loop
-plan-at-requires c κs = search needs
+plan-at-requires : tie.Need-plan-at-requires invariant-loop decreases-loop
+plan-at-requires c κs = search rules
 
-has-more-requires : tie.Need-has-more-requires Inv-loop μ-loop
-has-more-requires c κs = search needs
+has-more-requires : tie.Need-has-more-requires invariant-loop decreases-loop
+has-more-requires c κs = search rules
 
-returns : tie.Need-returns Inv-loop μ-loop
+returns : tie.Need-returns invariant-loop decreases-loop
 returns c =
-    let start : tie.Start Inv-loop μ-loop = search in
-    let at-loop : tie.At-loop Inv-loop μ-loop = search in
-    let area : tie.After-plan-at Inv-loop μ-loop = search in
-    let asked : tie.After-has-more Inv-loop μ-loop = search in
-    let l = at-loop .loop in
+    let start : tie.Start invariant-loop decreases-loop = search in
+    let at-loop : tie.At-loop invariant-loop decreases-loop = search in
+    let area : tie.After-plan-at invariant-loop decreases-loop = search in
+    let asked : tie.After-has-more invariant-loop decreases-loop = search in
+    let l = at-loop.loop in
     let h = here area in
-    walk-here (plansIn (start .args .areas)) (start .args .before) (l .i) (l .rest) (l .inv .3) (area .plan-at .result) (h .0) (h .1)
-    (ltb-true _ _ (sym (asked .has-more .ensures) ∙ c .if1 .taken))
+    walk_here (plans_in start.args.areas) start.args.before l.i l.rest l.inv.3 area.plan-at.result h.0 h.1
+    (ltb-true _ _ (sym asked.Has-more.ensures ∙ c.if1.true))
 
-mul-rest : tie.Need-mul-rest Inv-loop μ-loop
+mul-rest : tie.Need-overflow-mul-rest invariant-loop decreases-loop
 mul-rest c =
-    let start : tie.Start Inv-loop μ-loop = search in
-    let at-loop : tie.At-loop Inv-loop μ-loop = search in
-    let passed : tie.Else1 Inv-loop μ-loop = search in
-    omega (arith, few passed, at-loop .loop .inv .2, start .fits)
+    let start : tie.Start invariant-loop decreases-loop = search in
+    let at-loop : tie.At-loop invariant-loop decreases-loop = search in
+    let passed : tie.Else1 invariant-loop decreases-loop = search in
+    omega (arith, few passed, at-loop.loop.inv.2, start.fits)
 
-sub-rest : tie.Need-sub-rest Inv-loop μ-loop
-sub-rest c = let passed : tie.Else1 Inv-loop μ-loop = search in omega (arith, few passed)
+sub-rest : tie.Need-overflow-sub-rest invariant-loop decreases-loop
+sub-rest c = let passed : tie.Else1 invariant-loop decreases-loop = search in omega (arith, few passed)
 
-add-i : tie.Need-add-i Inv-loop μ-loop
-add-i c = search needs
+add-i : tie.Need-overflow-add-i invariant-loop decreases-loop
+add-i c = search rules
 
-loop-less : tie.Need-loop-less Inv-loop μ-loop
-loop-less c = search needs
+loop-less : tie.Need-loop-smaller invariant-loop decreases-loop
+loop-less c = search rules
 
-loop-again : tie.Need-loop-again Inv-loop μ-loop
+loop-again : tie.Need-loop-preserved invariant-loop decreases-loop
 loop-again c =
-    let start : tie.Start Inv-loop μ-loop = search in
-    let at-loop : tie.At-loop Inv-loop μ-loop = search in
-    let area : tie.After-plan-at Inv-loop μ-loop = search in
-    let passed : tie.Else1 Inv-loop μ-loop = search in
-    let l = at-loop .loop in
+    let start : tie.Start invariant-loop decreases-loop = search in
+    let at-loop : tie.At-loop invariant-loop decreases-loop = search in
+    let area : tie.After-plan-at invariant-loop decreases-loop = search in
+    let passed : tie.Else1 invariant-loop decreases-loop = search in
+    let l = at-loop.loop in
     let h = here area in (
       omega arith,
-      l .inv .1,
-      omega (arith, l .inv .2),
-      walk-on (plansIn (start .args .areas)) (start .args .before) (l .i) (l .rest) (l .inv .3) (area .plan-at .result) (h .0) (h .1) (few passed),
+      l.inv.1,
+      omega (arith, l.inv.2),
+      walk_on (plans_in start.args.areas) start.args.before l.i l.rest l.inv.3 area.plan-at.result h.0 h.1 (few passed),
     )
 
-returns-2 : tie.Need-returns-2 Inv-loop μ-loop
+returns-2 : tie.Need-returns-2 invariant-loop decreases-loop
 returns-2 c =
-    let start : tie.Start Inv-loop μ-loop = search in
-    let at-loop : tie.At-loop Inv-loop μ-loop = search in
-    let l = at-loop .loop in
-    walk-end (plansIn (start .args .areas)) (start .args .before) (l .i) (l .rest) (l .inv .3) (omega (arith, l .inv .1))
+    let start : tie.Start invariant-loop decreases-loop = search in
+    let at-loop : tie.At-loop invariant-loop decreases-loop = search in
+    let l = at-loop.loop in
+    walk_end (plans_in start.args.areas) start.args.before l.i l.rest l.inv.3 (omega (arith, l.inv.1))
 
 pub walk-spec : {M : Type 1} → statement M
 walk-spec =
     tie.close
     (tie.spec
-    Inv-loop
-    μ-loop
+    invariant-loop
+    decreases-loop
     at-most-eight-requires
     loop-holds
     plan-at-requires
