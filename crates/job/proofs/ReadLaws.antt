@@ -18,7 +18,7 @@ use Rattle.job_reader.specs.declared.lists.Reading.TheVariants as reading
 use Rattle.job_records.specs.Records.{RW, CL, MR, BR, BC, records, marked, values, field}
 use Rattle.job_questions.specs.Verdict.{verdict_lent, question1}
 use Rattle.job_reader.specs.Reading.{Lists, lists, even_lists as items_even, room_in, read_job, job_of, reading_outcome, JobRead}
-use Rattle.job_reader.proofs.ReadingLaws.{admit_no, job_refused as not-read}
+use Rattle.job_reader.proofs.ReadingLaws.{admit_no, job_refused as not_read}
 use Rattle.job_reader.proofs.ItemRoom.{Brings, items_fit, all_answered, read_whole}
 use Rattle.job_settings.specs.Meaning.{areas_for}
 use Rattle.job.specs.declared.bytes.Wanted.{Wanted}
@@ -134,7 +134,7 @@ module _ (s : List ℕ) {before : Lists} (holds : Holds s before) where
       go (given items) e = read_whole s items e before holds.even (holds.room (all_answered s items e).0)
       go (refused n) e =
           let v : refused n ≡ verdict_lent (items_even before) s = sym e ∙ ap (λ (b : Bool). verdict_lent b s) (sym holds.even) in
-          sym (not-read {s = s} {l = before} {f = checked.Refused n} (admit_no (items_even before) s (room_in before) (checked.Refused n) v n refl) refl).answer
+          sym (not_read {s = s} {l = before} {f = checked.Refused n} (admit_no (items_even before) s (room_in before) (checked.Refused n) v n refl) refl).answer
 
   -- a no is the questions'
   verdict_no : (n : ℕ) → refused n ≡ read_job s before → verdict_lent true s ≡ refused n

@@ -108,11 +108,11 @@ first_no ((n, q) ∷ qs) = cond q (first_no qs) n
 
 -- the first of the questions 4 to 7, 15, 8 and 9 that is answered no, or 0; 15 is not the pass's
 unfoldable pub answer : Bool → Bool → State → ℕ
-answer equally-long cells t =
+answer equally_long cells t =
     first_no
     ((4, t.ordered && one_to_eight t.items.areas)
     ∷ (5, t.fine.flag)
-    ∷ (6, equally-long && t.fine.first)
+    ∷ (6, equally_long && t.fine.first)
     ∷ (7, t.fine.grid)
     ∷ (15, cells)
     ∷ (8, ltb t.rows beyond && ltb t.columns beyond)

@@ -142,7 +142,7 @@ question5 s = every flag_ok (records s)
 
 -- "6. Slices that make up one list equally long, and firsts not above lasts in AR and every MR (titles are never refused)?"
 abbrev pub question6 : Bool → List ℕ → Bool
-question6 equally-long s = equally-long && every not_reversed (records s)
+question6 equally_long s = equally_long && every not_reversed (records s)
 
 -- "7. AR and every MR inside the grid?"
 abbrev pub question7 : List ℕ → Bool
@@ -180,13 +180,13 @@ items_of rs = record {
 
 -- "Each is put to the whole input, where the call has it": of the slices that a caller was lent, whether they are equally long
 abbrev pub questions : Bool → List ℕ → List (ℕ × Bool)
-questions equally-long s =
+questions equally_long s =
     (1, question1 s)
     ∷ (2, question2 s)
     ∷ (3, question3 s)
     ∷ (4, question4 s)
     ∷ (5, question5 s)
-    ∷ (6, question6 equally-long s)
+    ∷ (6, question6 equally_long s)
     ∷ (7, question7 s)
     ∷ (15, question15 s)
     ∷ (8, question8 s)
@@ -195,7 +195,7 @@ questions equally-long s =
 
 -- the first no, or how many items there are
 unfoldable pub verdict_lent : Bool → List ℕ → Outcome Items
-verdict_lent equally-long s = in_order (questions equally-long s) (items_of (records s))
+verdict_lent equally_long s = in_order (questions equally_long s) (items_of (records s))
 
 -- of a call that was lent no slices
 abbrev pub verdict : List ℕ → Outcome Items

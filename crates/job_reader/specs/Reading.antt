@@ -66,11 +66,11 @@ fit_in items room =
 
 -- the questions of this call: those of the bytes, and 11
 abbrev pub asked : Bool → Items → List ℕ → List (ℕ × Bool)
-asked equally-long room s = questions equally-long s ++ ((11, fit_in (items_of (records s)) room) ∷ [])
+asked equally_long room s = questions equally_long s ++ ((11, fit_in (items_of (records s)) room) ∷ [])
 
 -- how many items are read
 unfoldable pub admitted : Bool → Items → List ℕ → Outcome Items
-admitted equally-long room s = in_order (asked equally-long room s) (items_of (records s))
+admitted equally_long room s = in_order (asked equally_long room s) (items_of (records s))
 
 -- what is asked of a job, and of the lists that are lent for its items
 abbrev pub admitted_to : List ℕ → Lists → Outcome Items

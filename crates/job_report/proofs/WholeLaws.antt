@@ -128,8 +128,8 @@ module _ (p : Plan) (rows columns : ℕ → List ℕ) where
   abbrev pages_of : ℕ → AreaPlan → List Page
   pages_of k a = area_pages p.order a (rows k) (columns k)
 
-  abbrev areas-lines : ℕ → ℕ → List AreaPlan → List ℕ
-  areas-lines = areas_lines p.order rows columns
+  abbrev lines_of_areas : ℕ → ℕ → List AreaPlan → List ℕ
+  lines_of_areas = areas_lines p.order rows columns
 
   abbrev Each : List AreaPlan → Type 0
   Each areas = (k : ℕ) → k < length areas → 1 ≤ pages_in (get_or areas k no_plan)
@@ -142,12 +142,12 @@ module _ (p : Plan) (rows columns : ℕ → List ℕ) where
   tail_lines k before n [] = []
   tail_lines k before n (a ∷ areas) =
       cond (ltb before (pages_in a))
-      (cond (ltb 0 before) [] (line_before k a) ++ (lines_from n (drop before (pages_of k a)) ++ areas-lines (k + 1) (n + (pages_in a - before)) areas))
+      (cond (ltb 0 before) [] (line_before k a) ++ (lines_from n (drop before (pages_of k a)) ++ lines_of_areas (k + 1) (n + (pages_in a - before)) areas))
       (tail_lines (k + 1) (before - pages_in a) n areas)
 
   tail_own : (k before n : ℕ) (a : AreaPlan) (areas : List AreaPlan) → before < pages_in a → tail_lines k before n (a ∷ areas)
       ≡ cond (ltb 0 before) [] (line_before k a)
-      ++ (lines_from n (drop before (pages_of k a)) ++ areas-lines (k + 1) (n + (pages_in a - before)) areas)
+      ++ (lines_from n (drop before (pages_of k a)) ++ lines_of_areas (k + 1) (n + (pages_in a - before)) areas)
   unfolding tail_lines
   tail_own k before n a areas h = rw (lt-ltb before (pages_in a) h)
 
@@ -157,7 +157,7 @@ module _ (p : Plan) (rows columns : ℕ → List ℕ) where
   tail_later k before n a areas h = rw (le-ltb before (pages_in a) h)
 
   -- from an area's first page on
-  tail_first : (k n : ℕ) (areas : List AreaPlan) → Each areas → tail_lines k 0 n areas ≡ areas-lines k n areas
+  tail_first : (k n : ℕ) (areas : List AreaPlan) → Each areas → tail_lines k 0 n areas ≡ lines_of_areas k n areas
   unfolding tail_lines areas_lines
   tail_first k n [] e = refl
   tail_first k n (a ∷ areas) e =
@@ -190,19 +190,19 @@ module _ (p : Plan) (rows columns : ℕ → List ℕ) where
         own_count = omega (arith, length-drop before (pages_of k a), area_count p a (rows k) (columns k))
 
         in_it : before + m < pages_in a → tail_lines k (before + m) (n + m) (a ∷ areas)
-            ≡ lines_from (n + m) (drop m (drop before (pages_of k a))) ++ areas-lines (k + 1) (n + (pages_in a - before)) areas
+            ≡ lines_from (n + m) (drop m (drop before (pages_of k a))) ++ lines_of_areas (k + 1) (n + (pages_in a - before)) areas
         in_it l =
             let sum : n + m + (pages_in a - (before + m)) ≡ n + (pages_in a - before) = omega arith in
             rw (lt-ltb 0 (before + m) (omega arith), sum, ← drop-drop) at (tail_own k (before + m) (n + m) a areas l)
 
-        after_it : pages_in a ≤ before + m → tail_lines k (before + m) (n + m) (a ∷ areas) ≡ areas-lines (k + 1) (n + (pages_in a - before)) areas
+        after_it : pages_in a ≤ before + m → tail_lines k (before + m) (n + m) (a ∷ areas) ≡ lines_of_areas (k + 1) (n + (pages_in a - before)) areas
         after_it l =
             let zero_left : before + m - pages_in a ≡ 0 = omega arith in
             let sum : n + m ≡ n + (pages_in a - before) = omega arith in
             rw zero_left at (tail_later k (before + m) (n + m) a areas l) ∙ tail_first (k + 1) (n + m) areas (later a areas e)
-            ∙ ap (λ (x : ℕ). areas-lines (k + 1) x areas) sum
+            ∙ ap (λ (x : ℕ). lines_of_areas (k + 1) x areas) sum
 
-        rest : lines_from n (drop before (pages_of k a)) ++ areas-lines (k + 1) (n + (pages_in a - before)) areas
+        rest : lines_from n (drop before (pages_of k a)) ++ lines_of_areas (k + 1) (n + (pages_in a - before)) areas
             ≡ lines_from n (take m (drop before (pages_of k a))) ++ tail_lines k (before + m) (n + m) (a ∷ areas)
         rest =
             split (suc (before + m)) (pages_in a)

@@ -259,23 +259,23 @@ module _ (all : List AreaPlan) (k rows columns : ℕ) where
   held_end h = rw (drop_of_length-le all h, le-leb 0 rows (omega arith), le-leb 0 columns (omega arith))
 
   module _ (a : AreaPlan) (h : k < length all) (e : get_or all k no_plan ≡ a) where
-    abbrev row-rest : ℕ
-    row-rest = row_runs (drop (k + 1) all)
+    abbrev row_rest : ℕ
+    row_rest = row_runs (drop (k + 1) all)
 
-    abbrev column-rest : ℕ
-    column-rest = column_runs (drop (k + 1) all)
+    abbrev column_rest : ℕ
+    column_rest = column_runs (drop (k + 1) all)
 
-    next_rows : row_runs (drop k all) ≡ a.row_runs + row-rest
+    next_rows : row_runs (drop k all) ≡ a.row_runs + row_rest
     next_rows = rw e at (over_left (λ (a : AreaPlan). a.row_runs) all k h)
 
-    next_columns : column_runs (drop k all) ≡ a.column_runs + column-rest
+    next_columns : column_runs (drop k all) ≡ a.column_runs + column_rest
     next_columns = rw e at (over_left (λ (a : AreaPlan). a.column_runs) all k h)
 
     pub held_on : a.row_runs ≤ rows → a.column_runs ≤ columns
         → runs_held (drop (k + 1) all) (rows - a.row_runs) (columns - a.column_runs) ≡ runs_held (drop k all) rows columns
     unfolding runs_held
     held_on r c =
-        rw (next_rows, next_columns, room_left a.row_runs row-rest rows r, room_left a.column_runs column-rest columns c)
+        rw (next_rows, next_columns, room_left a.row_runs row_rest rows r, room_left a.column_runs column_rest columns c)
 
     pub held_few_rows : rows < a.row_runs → false ≡ runs_held (drop k all) rows columns
     unfolding runs_held

@@ -366,7 +366,7 @@ module _ (plan : Plan) (rows columns : List ℕ) (held : holds_runs plan rows co
   pub on_one_page : (row column : ℕ) → row < 4294967295 → column < 4294967295
       → InOneRun (firsts (runs_in down own_rows)) (lasts (runs_in down own_rows)) row
       → InOneRun (firsts (runs_in over own_columns)) (lasts (runs_in over own_columns)) column → OnOnePage plan n rows columns row column a
-  on_one_page row column low-row low_column i j =
+  on_one_page row column low_row low_column i j =
       let v : ℕ = i.run in
       let h : ℕ = j.run in
       let v_below : v < down = omega (arith, i.lies.there, length-map (runs_in down own_rows) (λ (r : Run). r.first), runs_length down own_rows) in
@@ -382,8 +382,8 @@ module _ (plan : Plan) (rows columns : List ℕ) (held : holds_runs plan rows co
         has_number = rw (vertical_is down over v h v_below h_below plan.order, horizontal_is down over v h v_below h_below plan.order)
             at (page_is before inside);
         on_it = record {
-          row_from_first = from_first down own_rows row v low-row v_below i.lies.not_before;
-          row_to_last = to_its_last down own_rows row v low-row v_below i.lies.not_after;
+          row_from_first = from_first down own_rows row v low_row v_below i.lies.not_before;
+          row_to_last = to_its_last down own_rows row v low_row v_below i.lies.not_after;
           column_from_first = from_first over own_columns column h low_column h_below j.lies.not_before;
           column_to_last = to_its_last over own_columns column h low_column h_below j.lies.not_after;
         };
@@ -394,7 +394,7 @@ module _ (plan : Plan) (rows columns : List ℕ) (held : holds_runs plan rows co
             let h' : ℕ = horizontal_of plan.order down over b in
             let v'_below = vertical_below down over b l plan.order in
             let h'_below = horizontal_below down over b l plan.order in
-            let ev : v' ≡ v = i.only v' (lies down own_rows row v' low-row v'_below on.row_from_first on.row_to_last) in
+            let ev : v' ≡ v = i.only v' (lies down own_rows row v' low_row v'_below on.row_from_first on.row_to_last) in
             let eh : h' ≡ h = j.only h' (lies over own_columns column h' low_column h'_below on.column_from_first on.column_to_last) in
             let same : before_of plan.order down over v' h' ≡ before = rw (ev, eh) refl in
             number ∙ ap (λ (x : ℕ). start + suc x) (sym (before_of_place down over b l plan.order) ∙ same);
@@ -503,12 +503,12 @@ module _ (s : Sheet) (content : (c : Sides) × (content_sides s.settings ≡ giv
   pub largest_plan : LargestPlan r s areas
   unfolding plan_of
   largest_plan = record {
-    largest = λ plan f c e n g x bare-a bare-b fit height width exceeds-a exceeds-b.
+    largest = λ plan f c e n g x bare_a bare_b fit height width exceeds_a exceeds_b.
         let d = done s areas rows₀ columns₀ rows columns r p plan f in
         let u = on_rows s areas plan rows columns d n g x in
         let w = on_columns s areas plan rows columns d n g x in
-        let (k, given-k, width_low, height-low) = content in
-        let low = same_sides given-k e in
+        let (k, given_k, width_low, height_low) = content in
+        let low = same_sides given_k e in
         let same = same_sides d.sides_are e in
         let area : AreaPlan = plan_in (area_layout c s g) in
         record {
@@ -517,8 +517,8 @@ module _ (s : Sheet) (content : (c : Sides) × (content_sides s.settings ≡ giv
               (came_to s areas plan rows columns d n g x);
           so = area_chosen c s g (EachReaches (rows_in s g) (columns_in s g) height width)
               (scale_is s.settings c (rows_in s g) (columns_in s g) height width fit
-              (plain c.height (rows_in s g) height bare-a exceeds-a (rw low at height-low) u.even)
-              (plain c.width (columns_in s g) width bare-b exceeds-b (rw low at width_low) w.even));
+              (plain c.height (rows_in s g) height bare_a exceeds_a (rw low at height_low) u.even)
+              (plain c.width (columns_in s g) width bare_b exceeds_b (rw low at width_low) w.even));
         };
     noted = λ plan f.
         let d = done s areas rows₀ columns₀ rows columns r p plan f in

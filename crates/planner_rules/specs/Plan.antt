@@ -382,8 +382,8 @@ room_for s l row_room column_room =
 -- `plan_pages`; the lent lists are that of the row runs and that of the column runs
 unfoldable pub planned : Sheet → Areas → List ℕ → List ℕ → Outcome Layout
 unfolding questioned room_for
-planned s areas lent_rows lent-columns =
-    questioned s areas (λ (c : Sides). room_for s (layout c s (areas_in areas)) (room_in lent_rows) (room_in lent-columns))
+planned s areas lent_rows lent_columns =
+    questioned s areas (λ (c : Sides). room_for s (layout c s (areas_in areas)) (room_in lent_rows) (room_in lent_columns))
 
 -- `count_pages`: the same plan, of a call that was lent no list
 unfoldable pub counted : Sheet → Areas → Outcome Layout
@@ -402,14 +402,14 @@ area_room l row_room column_room =
 -- 10 of the permille, for at 0 there is no capacity; 14 of the area's number, from 1; then 11, and the area's runs at the permille
 unfoldable pub numbered_area : Sides → Sheet → Areas → ℕ → ℕ → List ℕ → List ℕ → Outcome AreaLayout
 unfolding numbered
-numbered_area c s areas n p lent_rows lent-columns =
+numbered_area c s areas n p lent_rows lent_columns =
     ask 10 (leb 1 p) (and_then (numbered (areas_in areas) n)
-    (λ (g : PrintRange). area_room (area_at c (rows_in s g) (columns_in s g) (scale_at p)) (room_in lent_rows) (room_in lent-columns)))
+    (λ (g : PrintRange). area_room (area_at c (rows_in s g) (columns_in s g) (scale_at p)) (room_in lent_rows) (room_in lent_columns)))
 
 -- `write_area`
 unfoldable pub area_written : Sheet → Areas → ℕ → ℕ → List ℕ → List ℕ → Outcome AreaLayout
 unfolding questioned numbered_area
-area_written s areas n p lent_rows lent-columns = questioned s areas (λ (c : Sides). numbered_area c s areas n p lent_rows lent-columns)
+area_written s areas n p lent_rows lent_columns = questioned s areas (λ (c : Sides). numbered_area c s areas n p lent_rows lent_columns)
 
 -- the value or the number that each case of `Planning` stands for
 abbrev pub plan_outcome : Planning → Outcome Plan

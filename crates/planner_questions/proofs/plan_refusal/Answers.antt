@@ -26,7 +26,7 @@ module _ (s : Sheet) (areas : Areas) where
   late = no_or 15 (cells_hold s.settings.cell_limit (areas_in areas)) (no_or 8 (rises s) (no_or 9 (small s) 0))
 
   -- of what was found of the lists and of the areas
-  early-by : (rows columns up rows_in columns_in inside : Bool)
+  early_by : (rows columns up rows_in columns_in inside : Bool)
       → rows ≡ (equally_long s.row_indexes s.row_sizes && equally_long s.merge_first_rows s.merge_last_rows
       && all_ordered s.merge_first_rows s.merge_last_rows)
       → columns ≡ (equally_long s.column_indexes s.column_sizes && equally_long s.merge_first_columns s.merge_last_columns
@@ -37,18 +37,18 @@ module _ (s : Sheet) (areas : Areas) where
       (no_or 7 (rows_in && columns_in && inside) 0))
       ≡ early 0
   unfolding formed in_grid
-  early-by rows columns up rows_in columns_in inside e f g h i j = rw (e, f, g, h, i, j)
+  early_by rows columns up rows_in columns_in inside e f g h i j = rw (e, f, g, h, i, j)
 
-  early-no : 0 < early 0 → early 0 ≡ first_no s areas
+  early_no : 0 < early 0 → early 0 ≡ first_no s areas
   unfolding first_no
-  early-no =
+  early_no =
       no_stays 4 (one_to_eight areas.count) (six 0) (six late)
       (no_stays 6 (formed s (areas_in areas)) (seven 0) (seven late)
       (no_stays 7 (in_grid s (areas_in areas)) 0 late (λ h. absurd (omega arith))))
 
-  late-no : early 0 ≡ 0 → late ≡ first_no s areas
+  late_no : early 0 ≡ 0 → late ≡ first_no s areas
   unfolding first_no
-  late-no =
+  late_no =
       yes_then 4 (one_to_eight areas.count) (six 0) (six late) late (omega arith)
       (yes_then 6 (formed s (areas_in areas)) (seven 0) (seven late) late (omega arith)
       (yes_then 7 (in_grid s (areas_in areas)) 0 late late (omega arith) (λ e. refl)))
@@ -65,10 +65,10 @@ returns-then-early-gt0 c rt ct rb cb =
     c.no_or-early.ensures
     ∙ rw c.no_or-2.ensures
     (rw c.no_or.ensures
-    (early-by s a.areas c.formed.result c.formed-2.result c.ask_areas-asked.result.upright c.all_within.result c.all_within-2.result
+    (early_by s a.areas c.formed.result c.formed-2.result c.ask_areas-asked.result.upright c.all_within.result c.all_within-2.result
     c.ask_areas-asked.result.inside c.formed.ensures c.formed-2.ensures c.ask_areas-asked.ensures.upright_value c.all_within.ensures
     c.all_within-2.ensures c.ask_areas-asked.ensures.inside_value)) in
-    is ∙ early-no s a.areas (rw is at c.if-early-gt0.true)
+    is ∙ early_no s a.areas (rw is at c.if-early-gt0.true)
 
 pub returns : goal.returns
 unfolding limit_of
@@ -80,7 +80,7 @@ returns c rt ct rb cb =
     c.no_or-early.ensures
     ∙ rw c.no_or-2.ensures
     (rw c.no_or.ensures
-    (early-by s a.areas c.formed.result c.formed-2.result c.ask_areas-asked.result.upright c.all_within.result c.all_within-2.result
+    (early_by s a.areas c.formed.result c.formed-2.result c.ask_areas-asked.result.upright c.all_within.result c.all_within-2.result
     c.ask_areas-asked.result.inside c.formed.ensures c.formed-2.ensures c.ask_areas-asked.ensures.upright_value c.all_within.ensures
     c.all_within-2.ensures c.ask_areas-asked.ensures.inside_value)) in
     let none : c.no_or-early.result ≡ 0 = omega arith in
@@ -94,4 +94,4 @@ returns c rt ct rb cb =
       c.rising_within.ensures,
       c.cells_hold-fifteen.ensures,
     )
-    (late-no s a.areas (sym is ∙ none))
+    (late_no s a.areas (sym is ∙ none))

@@ -48,56 +48,56 @@ module _ (x : Shared) (s : Sheet) (areas : Areas) (fine : FineAreas areas) (i : 
   left : (f : AreaLayout → List Run) → joined (map f (from x s areas i)) ≡ f (area_layout (sides_in x) s g) ++ joined (map f (from x s areas (i + 1)))
   left f = left_is (sides_in x) s (areas_in areas) i g in_list range_is f
 
-  row-numbers : a.row_runs * 4 ≡ length (flat (area_layout (sides_in x) s g).rows)
+  row_numbers : a.row_runs * 4 ≡ length (flat (area_layout (sides_in x) s g).rows)
   unfolding area_layout
-  row-numbers =
+  row_numbers =
       let n = (as_long x s g (scale x s g) a came_to).0 in
       omega (arith, n, flat-length (area_layout (sides_in x) s g).rows)
 
-  column-numbers : a.column_runs * 4 ≡ length (flat (area_layout (sides_in x) s g).columns)
+  column_numbers : a.column_runs * 4 ≡ length (flat (area_layout (sides_in x) s g).columns)
   unfolding area_layout
-  column-numbers =
+  column_numbers =
       let n = (as_long x s g (scale x s g) a came_to).1 in
       omega (arith, n, flat-length (area_layout (sides_in x) s g).columns)
 
   -- of the rows
   module _ (old : List ℕ) (at : ℕ) (new : List ℕ) (room : Room (row_runs_of (all x s areas)) old)
       (w : Writing (row_runs_of (all x s areas)) old at (row_runs_of (from x s areas i)) new) where
-    rows-left : Writing (row_runs_of (all x s areas)) old at ((area_layout (sides_in x) s g).rows ++ row_runs_of (from x s areas (i + 1))) new
-    rows-left = subst (λ (rs : List Run). Writing (row_runs_of (all x s areas)) old at rs new) (left (λ (k : AreaLayout). k.rows)) w
+    rows_left : Writing (row_runs_of (all x s areas)) old at ((area_layout (sides_in x) s g).rows ++ row_runs_of (from x s areas (i + 1))) new
+    rows_left = subst (λ (rs : List Run). Writing (row_runs_of (all x s areas)) old at rs new) (left (λ (k : AreaLayout). k.rows)) w
 
     row_room : RoomAt (area_layout (sides_in x) s g).rows at new
-    row_room = writing_room _ _ at _ _ _ room rows-left
+    row_room = writing_room _ _ at _ _ _ room rows_left
 
-    row-fits : at + a.row_runs * 4 ≤ length new
-    row-fits = omega (arith, row-numbers, row_room)
+    row_fits : at + a.row_runs * 4 ≤ length new
+    row_fits = omega (arith, row_numbers, row_room)
 
-    rows-next : (new' : List ℕ) → new' ≡ put_at (rows_at x s g a.permille) at new
+    rows_next : (new' : List ℕ) → new' ≡ put_at (rows_at x s g a.permille) at new
         → Writing (row_runs_of (all x s areas)) old (at + a.row_runs * 4) (row_runs_of (from x s areas (i + 1))) new'
     unfolding area_layout
-    rows-next new' e = writing_more _ _ at _ _ new _ new' row_room (rows_put x s g (scale x s g) a came_to at new new' e) rows-left
+    rows_next new' e = writing_more _ _ at _ _ new _ new' row_room (rows_put x s g (scale x s g) a came_to at new new' e) rows_left
 
   -- of the columns
   module _ (old : List ℕ) (at : ℕ) (new : List ℕ) (room : Room (column_runs_of (all x s areas)) old)
       (w : Writing (column_runs_of (all x s areas)) old at (column_runs_of (from x s areas i)) new) where
-    columns-left : Writing (column_runs_of (all x s areas)) old at ((area_layout (sides_in x) s g).columns ++ column_runs_of (from x s areas (i + 1))) new
-    columns-left = subst (λ (rs : List Run). Writing (column_runs_of (all x s areas)) old at rs new) (left (λ (k : AreaLayout). k.columns)) w
+    columns_left : Writing (column_runs_of (all x s areas)) old at ((area_layout (sides_in x) s g).columns ++ column_runs_of (from x s areas (i + 1))) new
+    columns_left = subst (λ (rs : List Run). Writing (column_runs_of (all x s areas)) old at rs new) (left (λ (k : AreaLayout). k.columns)) w
 
     column_room : RoomAt (area_layout (sides_in x) s g).columns at new
-    column_room = writing_room _ _ at _ _ _ room columns-left
+    column_room = writing_room _ _ at _ _ _ room columns_left
 
-    column-fits : at + a.column_runs * 4 ≤ length new
-    column-fits = omega (arith, column-numbers, column_room)
+    column_fits : at + a.column_runs * 4 ≤ length new
+    column_fits = omega (arith, column_numbers, column_room)
 
-    columns-next : (new' : List ℕ) → new' ≡ put_at (columns_at x s g a.permille) at new
+    columns_next : (new' : List ℕ) → new' ≡ put_at (columns_at x s g a.permille) at new
         → Writing (column_runs_of (all x s areas)) old (at + a.column_runs * 4) (column_runs_of (from x s areas (i + 1))) new'
     unfolding area_layout
-    columns-next new' e = writing_more _ _ at _ _ new _ new' column_room (columns_put x s g (scale x s g) a came_to at new new' e) columns-left
+    columns_next new' e = writing_more _ _ at _ _ new _ new' column_room (columns_put x s g (scale x s g) a came_to at new new' e) columns_left
 
-  can-write : (row_at column_at : ℕ) (rows columns : List ℕ) → RoomAt (area_layout (sides_in x) s g).rows row_at rows
+  can_write : (row_at column_at : ℕ) (rows columns : List ℕ) → RoomAt (area_layout (sides_in x) s g).rows row_at rows
       → RoomAt (area_layout (sides_in x) s g).columns column_at columns → Writable x s g a row_at column_at rows columns
   unfolding area_layout
-  can-write row_at column_at rows columns hr hc = writable x s g (scale x s g) a came_to row_at column_at rows columns hr hc
+  can_write row_at column_at rows columns hr hc = writable x s g (scale x s g) a came_to row_at column_at rows columns hr hc
 
 pub write_area_runs-requires-clause-settled : goal.write_area_runs-requires-clause-settled
 write_area_runs-requires-clause-settled c =
@@ -111,7 +111,7 @@ write_area_runs-requires-clause-settled c =
     let columns = column_room a.shared _ a.areas c.requires.fine_areas l.i c.loop-i-test.true _ g.ensures _ q.1 _ p.ensures a.column_runs.now
     l.column_at l.column_runs q.2.column_room l.invariant.columns in (
       q.0,
-      can-write a.shared _ a.areas c.requires.fine_areas l.i c.loop-i-test.true _ g.ensures _ q.1 _ p.ensures l.row_at l.column_at l.row_runs
+      can_write a.shared _ a.areas c.requires.fine_areas l.i c.loop-i-test.true _ g.ensures _ q.1 _ p.ensures l.row_at l.column_at l.row_runs
           l.column_runs rows columns,
     )
 
@@ -123,7 +123,7 @@ overflow_mul-row_at c =
     let a = c.args in
     let l = c.loop-i in
     let q = c.requires.settled in
-    let fits = row-fits a.shared _ a.areas c.requires.fine_areas l.i c.loop-i-test.true _ c.area_at-range.ensures _ q.1 _
+    let fits = row_fits a.shared _ a.areas c.requires.fine_areas l.i c.loop-i-test.true _ c.area_at-range.ensures _ q.1 _
     c.plan_at-area.ensures a.row_runs.now l.row_at l.row_runs q.2.row_room l.invariant.rows in
     omega (arith, fits)
 
@@ -132,7 +132,7 @@ overflow_add-row_at c =
     let a = c.args in
     let l = c.loop-i in
     let q = c.requires.settled in
-    let fits = row-fits a.shared _ a.areas c.requires.fine_areas l.i c.loop-i-test.true _ c.area_at-range.ensures _ q.1 _
+    let fits = row_fits a.shared _ a.areas c.requires.fine_areas l.i c.loop-i-test.true _ c.area_at-range.ensures _ q.1 _
     c.plan_at-area.ensures a.row_runs.now l.row_at l.row_runs q.2.row_room l.invariant.rows in
     omega (arith, fits)
 
@@ -141,7 +141,7 @@ overflow_mul-column_at c =
     let a = c.args in
     let l = c.loop-i in
     let q = c.requires.settled in
-    let fits = column-fits a.shared _ a.areas c.requires.fine_areas l.i c.loop-i-test.true _ c.area_at-range.ensures _ q.1 _
+    let fits = column_fits a.shared _ a.areas c.requires.fine_areas l.i c.loop-i-test.true _ c.area_at-range.ensures _ q.1 _
     c.plan_at-area.ensures a.column_runs.now l.column_at l.column_runs q.2.column_room l.invariant.columns in
     omega (arith, fits)
 
@@ -150,7 +150,7 @@ overflow_add-column_at c =
     let a = c.args in
     let l = c.loop-i in
     let q = c.requires.settled in
-    let fits = column-fits a.shared _ a.areas c.requires.fine_areas l.i c.loop-i-test.true _ c.area_at-range.ensures _ q.1 _
+    let fits = column_fits a.shared _ a.areas c.requires.fine_areas l.i c.loop-i-test.true _ c.area_at-range.ensures _ q.1 _
     c.plan_at-area.ensures a.column_runs.now l.column_at l.column_runs q.2.column_room l.invariant.columns in
     omega (arith, fits)
 
@@ -162,10 +162,10 @@ loop-i-preserved c =
     record {
       within = omega (arith, c.loop-i-test.true);
       rows =
-          rows-next a.shared _ a.areas c.requires.fine_areas l.i c.loop-i-test.true _ c.area_at-range.ensures _ q.1 _ c.plan_at-area.ensures
+          rows_next a.shared _ a.areas c.requires.fine_areas l.i c.loop-i-test.true _ c.area_at-range.ensures _ q.1 _ c.plan_at-area.ensures
           a.row_runs.now l.row_at l.row_runs q.2.row_room l.invariant.rows _ c.write_area_runs.ensures.0;
       columns =
-          columns-next a.shared _ a.areas c.requires.fine_areas l.i c.loop-i-test.true _ c.area_at-range.ensures _ q.1 _ c.plan_at-area.ensures
+          columns_next a.shared _ a.areas c.requires.fine_areas l.i c.loop-i-test.true _ c.area_at-range.ensures _ q.1 _ c.plan_at-area.ensures
           a.column_runs.now l.column_at l.column_runs q.2.column_room l.invariant.columns _ c.write_area_runs.ensures.1;
     }
 

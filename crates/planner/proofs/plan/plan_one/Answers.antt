@@ -32,29 +32,29 @@ module _ (x : Shared) (s : Sheet) (g : PrintRange) (k : CountedArea) (e : k ≡ 
   abbrev scale : Scale
   scale = chosen_scale s.settings (sides_in x) (rows_in s g) (columns_in s g)
 
-  all-counted : (r : CountedAreas) → Added r (counted_of []) 0 k → r ≡ counted_of (layouts_of (sides_in x) s (g ∷ []))
-  all-counted r w = counted_next (sides_in x) s (g ∷ []) 0 g (omega arith) refl (omega arith) (counted_of []) r k refl e w
+  all_counted : (r : CountedAreas) → Added r (counted_of []) 0 k → r ≡ counted_of (layouts_of (sides_in x) s (g ∷ []))
+  all_counted r w = counted_next (sides_in x) s (g ∷ []) 0 g (omega arith) refl (omega arith) (counted_of []) r k refl e w
 
   came_to : k.area ≡ plan_in laid
   came_to = ap (λ (c : CountedArea). c.area) e
 
-  can-write : (h : PrintRange) → h ≡ g → (rows columns : List ℕ) → length (row_runs_of (laid ∷ [])) ≤ room_in rows
+  can_write : (h : PrintRange) → h ≡ g → (rows columns : List ℕ) → length (row_runs_of (laid ∷ [])) ≤ room_in rows
       → length (column_runs_of (laid ∷ [])) ≤ room_in columns → Writable x s h k.area 0 0 rows columns
   unfolding area_layout
-  can-write h q rows columns hr hc =
+  can_write h q rows columns hr hc =
       rw q (writable x s g scale k.area came_to 0 0 rows columns
       (omega (arith, room_runs laid.rows rows (rw (alone laid.rows) at hr)))
       (omega (arith, room_runs laid.columns columns (rw (alone laid.columns) at hc))))
 
-  rows-written : (old new : List ℕ) → new ≡ put_at (rows_at x s g k.area.permille) 0 old → new ≡ written (flat (row_runs_of (laid ∷ []))) old
+  rows_written : (old new : List ℕ) → new ≡ put_at (rows_at x s g k.area.permille) 0 old → new ≡ written (flat (row_runs_of (laid ∷ []))) old
   unfolding area_layout
-  rows-written old new h =
+  rows_written old new h =
       (rows_put x s g scale k.area came_to 0 old new h).list_is ∙ ap (λ (rs : List Run). written (flat rs) old) (sym (alone laid.rows))
 
-  columns-written : (old new : List ℕ) → new ≡ put_at (columns_at x s g k.area.permille) 0 old
+  columns_written : (old new : List ℕ) → new ≡ put_at (columns_at x s g k.area.permille) 0 old
       → new ≡ written (flat (column_runs_of (laid ∷ []))) old
   unfolding area_layout
-  columns-written old new h =
+  columns_written old new h =
       (columns_put x s g scale k.area came_to 0 old new h).list_is ∙ ap (λ (rs : List Run). written (flat rs) old) (sym (alone laid.columns))
 
 pub ready_area-ready-requires-clause-startable_rows : goal.ready_area-ready-requires-clause-startable_rows
@@ -111,7 +111,7 @@ returns-then-refusal-gt0 c =
     let one = (chosen_counted a.shared _ c.requires.settled a.range _ c.ready_area-ready.ensures _ c.choose_scale-scale.ensures _ e.counted
     e.few_cut).0 in
     let added = rw c.no_areas-none.ensures at c.add_area-counted.ensures.added in
-    let all = all-counted a.shared _ a.range _ one _ added in
+    let all = all_counted a.shared _ a.range _ one _ added in
     let asked : c.room_refusal-refusal.result ≡ room_no c.add_area-counted.result.rows c.add_area-counted.result.columns
     c.add_area-counted.result.pages (room_in a.row_runs.now) (room_in a.column_runs.now) a.shared.settings.page_limit =
     rw (c.room_in.ensures, c.room_in-2.ensures) at c.room_refusal-refusal.ensures in
@@ -126,14 +126,14 @@ write_ready-requires-clause-settled c =
     let one = (chosen_counted a.shared _ c.requires.settled a.range _ c.ready_area-ready.ensures _ c.choose_scale-scale.ensures _ e.counted
     e.few_cut).0 in
     let added = rw c.no_areas-none.ensures at c.add_area-counted.ensures.added in
-    let all = all-counted a.shared _ a.range _ one _ added in
+    let all = all_counted a.shared _ a.range _ one _ added in
     let asked : c.room_refusal-refusal.result ≡ room_no c.add_area-counted.result.rows c.add_area-counted.result.columns
     c.add_area-counted.result.pages (room_in a.row_runs.now) (room_in a.column_runs.now) a.shared.settings.page_limit =
     rw (c.room_in.ensures, c.room_in-2.ensures) at c.room_refusal-refusal.ensures in
     let fit = runs_fit_lem (sides_in a.shared) _ (a.range ∷ []) _ all (room_in a.row_runs.now) (room_in a.column_runs.now) _ asked
     (omega (arith, c.if-refusal-gt0.false)) in (
       c.requires.settled,
-      can-write a.shared _ a.range _ one c.ready_area-ready.result.range same a.row_runs.now a.column_runs.now fit.0 fit.1,
+      can_write a.shared _ a.range _ one c.ready_area-ready.result.range same a.row_runs.now a.column_runs.now fit.0 fit.1,
     )
 
 pub write_ready-requires-clause-frames_are : goal.write_ready-requires-clause-frames_are
@@ -150,7 +150,7 @@ returns c =
     let one = (chosen_counted a.shared _ c.requires.settled a.range _ c.ready_area-ready.ensures _ c.choose_scale-scale.ensures _ e.counted
     e.few_cut).0 in
     let added = rw c.no_areas-none.ensures at c.add_area-counted.ensures.added in
-    let all = all-counted a.shared _ a.range _ one _ added in
+    let all = all_counted a.shared _ a.range _ one _ added in
     let asked : c.room_refusal-refusal.result ≡ room_no c.add_area-counted.result.rows c.add_area-counted.result.columns
     c.add_area-counted.result.pages (room_in a.row_runs.now) (room_in a.column_runs.now) a.shared.settings.page_limit =
     rw (c.room_in.ensures, c.room_in-2.ensures) at c.room_refusal-refusal.ensures in
@@ -159,5 +159,5 @@ returns c =
     let put = rw same at c.write_ready.ensures in
     answers_plan _ (layout (sides_in a.shared) _ (a.range ∷ [])) _ room
     (c.plan_of.ensures ∙ plan_value a.shared _ c.requires.settled (a.range ∷ []) _ all) a.row_runs.now a.column_runs.now _ _
-    (rows-written a.shared _ a.range _ one a.row_runs.now _ put.0)
-    (columns-written a.shared _ a.range _ one a.column_runs.now _ put.1)
+    (rows_written a.shared _ a.range _ one a.row_runs.now _ put.0)
+    (columns_written a.shared _ a.range _ one a.column_runs.now _ put.1)
