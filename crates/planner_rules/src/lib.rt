@@ -1,6 +1,7 @@
 // The types of page plans, and their definitions in `specs/`: document 01, sections "Titles", "Runs", "Scale" and "Pages".
 #![tactic(auto)]
 
+mod lists;
 mod pages;
 mod partition;
 mod planning;
@@ -8,6 +9,7 @@ mod runs;
 mod scale;
 mod titles;
 
+pub use lists::{AxisLists, MergeList, SheetLists, SlotList};
 pub use pages::{
     AreaPlan, AreaPlans, Found, Listing, Notes, Page, PageAnswer, PageOrder, PageRun, Place, Plan,
     Spot,

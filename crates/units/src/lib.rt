@@ -2,11 +2,13 @@
 #![tactic(auto)]
 
 mod grid;
+mod refusal;
 
 ghost use Rattle.std.specs.Prelude.{◌≡◌, ◌+◌, ◌*◌, ◌/◌, ◌^◌, ◌<◌, min, pos, ◌-ℤ◌, neg_ℤ, unsigned_abs};
 ghost use Rattle.units.specs.Units.{length_outcome, in_i64, signed_ratio, less_of, at_least_one, scale_fixed, unscaled_capacity, inches_to_fixed};
 
 pub use grid::{LARGEST_SIZE, MAX_WORKSHEET_COLUMN, MAX_WORKSHEET_ROW};
+pub use refusal::Refusal;
 
 // A length in units.
 #[derive(Clone, Copy)]
