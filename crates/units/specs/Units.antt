@@ -1,19 +1,20 @@
 -- Document 01, section "Units", in ℤ, ℕ and the logic's account of IEEE 754. Assumes nothing.
 use Rattle.std.specs.Prelude.{ℕ, suc, ◌+◌, ◌-◌, ◌*◌, ◌/◌, ◌^◌, min, Bool, cond, not, ◌&&◌, ◌||◌, ℤ, pos, negsuc, ◌-ℤ◌, ◌*ℤ◌, neg_ℤ, ◌==◌, int_div, int_le}
-use Rattle.std.specs.Prelude.{nat_lt, Float}
+use Rattle.std.specs.Prelude.{nat_lt, Float, Result, Ok, Err}
 use Rattle.std.specs.Int.Signed.{mag}
 use Rattle.std.specs.Float.{nan, inf, fin, binary64}
 use Rattle.std.specs.Float.Ieee.{up, down, mul, of_int}
-use Rattle.units.specs.declared.Length.{Length}
-use Rattle.units.specs.declared.Length.TheVariants.{Value, CoordinateOverflow}
+use Rattle.units.specs.declared.Fixed.{Fixed}
+use Rattle.units.specs.declared.refusal.Refusal.{Refusal}
 use Rattle.units.specs.Outcome.{Outcome, given, refused, and_then}
+use Rattle.units.specs.Refusals.{number_of}
 
 -- ---- answers
 
--- the value or the number that each case of `Length` stands for
-abbrev pub length_outcome : Length → Outcome ℤ
-length_outcome (Value f) = given f.0
-length_outcome CoordinateOverflow = refused 10
+-- the units or the number that an answer of a length stands for
+abbrev pub length_outcome : Result Fixed Refusal → Outcome ℤ
+length_outcome (Ok f) = given f.0
+length_outcome (Err r) = refused (number_of r)
 
 -- ---- numbers
 

@@ -4,30 +4,24 @@
 mod grid;
 mod refusal;
 
-ghost use Rattle.std.specs.Prelude.{◌≡◌, ◌+◌, ◌*◌, ◌/◌, ◌^◌, ◌<◌, min, pos, ◌-ℤ◌, neg_ℤ, unsigned_abs};
+ghost use Rattle.std.specs.Prelude.{◌≡◌, ◌+◌, ◌*◌, ◌/◌, ◌^◌, ◌<◌, min, unsigned_abs, MatchOption};
+ghost use Rattle.units.specs.Outcome.{given, refused};
 ghost use Rattle.units.specs.Units.{length_outcome, in_i64, signed_ratio, less_of, at_least_one, scale_fixed, unscaled_capacity, inches_to_fixed};
 
 pub use grid::{LARGEST_SIZE, MAX_WORKSHEET_COLUMN, MAX_WORKSHEET_ROW};
 pub use refusal::Refusal;
 
 // A length in units.
-#[derive(Clone, Copy)]
+#[derive(Clone, Copy, Debug, PartialEq, Eq, PartialOrd, Ord)]
 pub struct Fixed(i64);
 
 // A rectangle in units.
-#[derive(Clone, Copy)]
+#[derive(Clone, Copy, Debug, PartialEq, Eq)]
 pub struct Rect {
     pub x: Fixed,
     pub y: Fixed,
     pub width: Fixed,
     pub height: Fixed,
-}
-
-// What a call on lengths answers: the length, or the refusal 10.
-#[derive(Clone, Copy)]
-pub enum Length {
-    Value(Fixed),
-    CoordinateOverflow,
 }
 
 impl Fixed {
@@ -51,44 +45,23 @@ impl Fixed {
     pub fn magnitude(self) -> u64
         ensures { result ≡ unsigned_abs self.0 }
     {
-        magnitude(self.0)
+        self.0.unsigned_abs()
+    }
+
+    // What is left of it after another, where that is an i64.
+    pub fn less(self, other: Fixed) -> Result<Fixed, Refusal>
+        ensures { length_outcome result ≡ less_of (given self.0) (given other.0) }
+    {
+        within(self.0.checked_sub(other.0))
     }
 }
 
-// |z|
-fn magnitude(z: i64) -> u64
-    ensures { result ≡ unsigned_abs z }
+// The length of so many units, where they are an i64.
+fn within(units: Option<i64>) -> Result<Fixed, Refusal>
+    ensures { MatchOption units (length_outcome result ≡ refused 10) (λ n. length_outcome result ≡ given n) }
 {
-    if z >= 0 {
-        z as u64
-    } else {
-        ((-1 - z) as u64) + 1
-    }
-}
-
-// n where it is an i64
-fn positive(n: u64) -> Length
-    ensures { length_outcome result ≡ in_i64 (pos n) }
-{
-    if n < 0x8000_0000_0000_0000 {
-        Length::Value(Fixed(n as i64))
-    } else {
-        Length::CoordinateOverflow
-    }
-}
-
-// -n where it is an i64
-fn negative(n: u64) -> Length
-    ensures { length_outcome result ≡ in_i64 (neg_ℤ (pos n)) }
-{
-    if n == 0 {
-        return Length::Value(Fixed::ZERO);
-    }
-    if n <= 0x8000_0000_0000_0000 {
-        Length::Value(Fixed(-1 - ((n - 1) as i64)))
-    } else {
-        Length::CoordinateOverflow
-    }
+    let units = units.ok_or(Refusal::CoordinateOverflow)?;
+    Ok(Fixed(units))
 }
 
 // A number below this, times a u16, and a u16 more, is below 2^63.
@@ -104,10 +77,8 @@ fn ratio(m: u64, k: u16, h: u16, d: u16) -> u64
     let d = d as u64;
     let h = h as u64;
     if m < SMALL {
-        if k == d {
-            if h < d {
-                return m;
-            }
+        if k == d && h < d {
+            return m;
         }
         return (m * k + h) / d;
     }
@@ -127,91 +98,60 @@ fn ratio(m: u64, k: u16, h: u16, d: u16) -> u64
 }
 
 // (|z| × k + h) / d with the sign of z, where it is an i64
-fn signed_ratio(z: i64, k: u16, h: u16, d: u16) -> Length
+fn signed_ratio(z: i64, k: u16, h: u16, d: u16) -> Result<Fixed, Refusal>
     requires { 0 < d }
     ensures { length_outcome result ≡ in_i64 (signed_ratio z k h d) }
 {
-    let n = ratio(magnitude(z), k, h, d);
-    if z >= 0 { positive(n) } else { negative(n) }
+    let n = ratio(z.unsigned_abs(), k, h, d);
+    if z >= 0 {
+        within(0i64.checked_add_unsigned(n))
+    } else {
+        within(0i64.checked_sub_unsigned(n))
+    }
 }
 
 // Size × permille / 1,000, halves away from zero.
-pub fn scale_fixed(size: Fixed, permille: u16) -> Length
+pub fn scale_fixed(size: Fixed, permille: u16) -> Result<Fixed, Refusal>
     ensures { length_outcome result ≡ scale_fixed size.0 permille }
 {
     signed_ratio(size.0, permille, 500, 1000)
 }
 
-// a - b where it is an i64
-fn minus(a: i64, b: i64) -> Length
-    ensures { length_outcome result ≡ in_i64 (a -ℤ b) }
+// What titles and headings leave of a side.
+fn body_of(side: Fixed, titles: Fixed, headings: Fixed) -> Result<Fixed, Refusal>
+    ensures { length_outcome result ≡ less_of (less_of (given side.0) (given titles.0)) (given headings.0) }
 {
-    let m = magnitude(a);
-    let n = magnitude(b);
-    if a >= 0 {
-        if b >= 0 {
-            if n <= m {
-                positive(m - n)
-            } else {
-                negative(n - m)
-            }
-        } else {
-            positive(m + n)
-        }
-    } else {
-        if b >= 0 {
-            negative(m + n)
-        } else {
-            if n <= m {
-                negative(m - n)
-            } else {
-                positive(n - m)
-            }
-        }
-    }
-}
-
-// a - b where both are there and the difference is an i64
-pub fn less(a: Length, b: Length) -> Length
-    ensures { length_outcome result ≡ less_of (length_outcome a) (length_outcome b) }
-{
-    let Length::Value(x) = a else {
-        return Length::CoordinateOverflow;
-    };
-    let Length::Value(y) = b else {
-        return Length::CoordinateOverflow;
-    };
-    minus(x.0, y.0)
+    side.less(titles)?.less(headings)
 }
 
 // The length, never under 1, and 1 where it overflowed.
-fn at_least_one(l: Length) -> Fixed
-    ensures { result.0 ≡ at_least_one (length_outcome l) }
+fn at_least_one(length: Result<Fixed, Refusal>) -> Fixed
+    ensures { result.0 ≡ at_least_one (length_outcome length) }
 {
-    let Length::Value(a) = l else {
-        return Fixed(1);
-    };
-    let z = a.0;
-    if z >= 1 { Fixed(z) } else { Fixed(1) }
+    match length {
+        Ok(l) => Fixed(l.0.max(1)),
+        Err(_) => Fixed(1),
+    }
 }
 
 // Side × 1,000 / permille, less titles, less headings, and never under 1.
-pub fn unscaled_capacity(side: Fixed, permille: u16, titles: Fixed, headings: Fixed) -> Length
+pub fn unscaled_capacity(
+    side: Fixed,
+    permille: u16,
+    titles: Fixed,
+    headings: Fixed,
+) -> Result<Fixed, Refusal>
     ensures { length_outcome result ≡ unscaled_capacity side.0 permille titles.0 headings.0 }
 {
     if permille == 0 {
-        return Length::CoordinateOverflow;
+        return Err(Refusal::CoordinateOverflow);
     }
-    let whole = signed_ratio(side.0, 1000, 0, permille);
-    let Length::Value(q) = whole else {
-        return Length::CoordinateOverflow;
-    };
-    let body = less(Length::Value(q), Length::Value(titles));
-    Length::Value(at_least_one(less(body, Length::Value(headings))))
+    let whole = signed_ratio(side.0, 1000, 0, permille)?;
+    Ok(at_least_one(body_of(whole, titles, headings)))
 }
 
 // Inches × 96 × 1,024, to the nearest unit.
-pub fn inches_to_fixed(inches: f64) -> Length
+pub fn inches_to_fixed(inches: f64) -> Result<Fixed, Refusal>
     ensures { length_outcome result ≡ inches_to_fixed inches }
 {
     let raw = inches * 96.0 * 1024.0;
@@ -219,14 +159,11 @@ pub fn inches_to_fixed(inches: f64) -> Length
         if raw < 9223372036854775808.0 {
             let halves = std::num::truncating_f64_to_u64(raw * 2.0);
             let n = halves / 2 + halves % 2;
-            if n < 0x8000_0000_0000_0000 {
-                return Length::Value(Fixed(n as i64));
-            }
-            return Length::Value(Fixed(0x7fff_ffff_ffff_ffff));
+            return Ok(Fixed(i64::try_from(n).unwrap_or(i64::MAX)));
         }
         if raw == 9223372036854775808.0 {
-            return Length::Value(Fixed(0x7fff_ffff_ffff_ffff));
+            return Ok(Fixed(i64::MAX));
         }
     }
-    Length::CoordinateOverflow
+    Err(Refusal::CoordinateOverflow)
 }

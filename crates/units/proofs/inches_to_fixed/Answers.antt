@@ -1,5 +1,8 @@
 -- `inches_to_fixed`: each float constant is the definition's number, and what each test says of the product is a law of `Nearest`.
-use Rattle.std.proofs.Common.{◌≡◌, ℕ, ◌+◌, ◌-◌, ◌/◌, ◌%◌, ◌^◌, ◌<◌, ◌≤◌, min, true, false, T, pos, sym, ap, ◌∙◌, arith, w64}
+use Rattle.std.proofs.Common.{◌≡◌, ℕ, ◌+◌, ◌-◌, ◌/◌, ◌%◌, ◌^◌, ◌<◌, ◌≤◌, min, true, false, T, ℤ, pos, sym, ap, ◌∙◌, arith, w64, SFits, to_z, of_z}
+use Rattle.std.specs.Prelude.{Result, Ok, Err, OkIff}
+use Rattle.std.specs.Result.{result_unwrap_or}
+use native.Mathlib.Decide.{dec_le}
 use lib.Ieee.{Float, fin, binary64, mul, lt, fits, neg, of_bits, of_int, to_unsigned}
 use lib.Ieee.Fits.{mul-fits}
 use mir.ValLaws.{to_z_pos}
@@ -34,6 +37,18 @@ units_of : (x : Float) (u : ℕ) → lt minus_half (raw x) ≡ true → lt (raw 
     → from_halves u ≡ inches_to_fixed x
 units_of x u t r e = ap from_halves e ∙ (within x t r).2
 
+-- a number that may be no i64, or the largest one
+capped : {E : Type 0} (n : ℕ) (r : Result ℤ E) → OkIff r (SFits w64 (pos n)) (pos n) → result_unwrap_or r (pos (2 ^ 63 - 1)) ≡ pos (min n (2 ^ 63 - 1))
+capped n (Ok z) h =
+    let l : n < 2 ^ 63 = h.0.sfits in
+    let e : n ≡ min n (2 ^ 63 - 1) = omega arith in
+    h.1 ∙ ap pos e
+capped n (Err e) h = by (dec_le (2 ^ 63) n)
+  where
+    by : Dec (2 ^ 63 ≤ n) → pos (2 ^ 63 - 1) ≡ pos (min n (2 ^ 63 - 1))
+    by (yes l) = let e : 2 ^ 63 - 1 ≡ min n (2 ^ 63 - 1) = omega arith in ap pos e
+    by (no l) = absurd (h (record { sfits = omega arith }))
+
 pub truncating_f64_to_u64-halves-requires-clause-lower_bound :
     goal.truncating_f64_to_u64-halves-requires-clause-lower_bound
 unfolding raw of_bits neg
@@ -44,24 +59,13 @@ pub truncating_f64_to_u64-halves-requires-clause-upper_bound :
 unfolding raw of_bits neg
 truncating_f64_to_u64-halves-requires-clause-upper_bound c = (within c.args.inches c.if-raw.true c.if-raw-2.true).1
 
-pub returns-then-n-lt9223372036854775808 : goal.returns-then-n-lt9223372036854775808
-unfolding raw of_bits neg
-returns-then-n-lt9223372036854775808 c =
-    let u = c.truncating_f64_to_u64-halves.result in
-    let n = u / 2 + u % 2 in
-    let h : n < 2 ^ 63 = c.if-n-lt9223372036854775808.true in
-    let e : n ≡ min n (2 ^ 63 - 1) = omega arith in
-    ap given (to_z_pos w64 n h ∙ ap pos e)
-    ∙ units_of c.args.inches u c.if-raw.true c.if-raw-2.true c.truncating_f64_to_u64-halves.ensures
-
 pub returns-then-raw-2 : goal.returns-then-raw-2
 unfolding raw of_bits neg
 returns-then-raw-2 c =
     let u = c.truncating_f64_to_u64-halves.result in
     let n = u / 2 + u % 2 in
-    let h : 2 ^ 63 ≤ n = c.if-n-lt9223372036854775808.false in
-    let e : 2 ^ 63 - 1 ≡ min n (2 ^ 63 - 1) = omega arith in
-    ap (λ (k : ℕ). given (pos k)) e
+    ap (λ (z : ℤ). given (to_z w64 (of_z w64 z))) (c.unwrap_or.ensures ∙ capped n c.try_from.result c.try_from.ensures)
+    ∙ ap given (to_z_pos w64 (min n (2 ^ 63 - 1)) (omega arith))
     ∙ units_of c.args.inches u c.if-raw.true c.if-raw-2.true c.truncating_f64_to_u64-halves.ensures
 
 pub returns-then-raw-3 : goal.returns-then-raw-3
