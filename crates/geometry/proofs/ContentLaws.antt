@@ -6,10 +6,8 @@ use lib.IntN.{sub_ℕ}
 use lib.Signed.{mag}
 use lib.Ieee.{Float, nan, inf, fin, up, down, add, mul, div, round, of_int, binary64}
 use lib.Ieee.Fits.{and_l, and_r}
-use Rattle.geometry.specs.declared.paper.Setting.{Setting}
 use Rattle.geometry.specs.declared.paper.Margins.{Margins}
-use Rattle.geometry.specs.declared.paper.MarginSetting.{MarginSetting}
-use Rattle.geometry.specs.declared.paper.MarginSetting.TheVariants as margin
+use Rattle.std.specs.Prelude.{Option, Some, None}
 use Rattle.units.specs.Outcome.{Outcome, given, refused, and_then}
 use Rattle.units.specs.Units.{less_of, inches_to_fixed}
 use Rattle.geometry.specs.Paper.{Sheet, PaperFound, Placed, letter, sheets, requested, resolved, upright, turned, paper_geometry, usable, all_usable}
@@ -109,7 +107,7 @@ upright_given r t =
       high = h.2;
     }
 
-pub paper_given : (asked : Setting) (landscape : Bool) → PaperGiven (paper_geometry asked landscape)
+pub paper_given : (asked : Option ℕ) (landscape : Bool) → PaperGiven (paper_geometry asked landscape)
 unfolding paper_geometry
 paper_given asked landscape = turn landscape (upright_given (resolved (requested asked) sheets) (sheet_low (requested asked)))
   where
@@ -256,10 +254,10 @@ held_small w h m W H t =
       footer = one_small h m.footer H (and_r (l && r && o && b && e) f all) (and_r (all_usable m && across && along && head) foot t);
     }
 
-pub content_given : (w h : ℤ) (m : MarginSetting) → PaperSide w → PaperSide h → ContentGiven (content_geometry w h m)
+pub content_given : (w h : ℤ) (m : Option Margins) → PaperSide w → PaperSide h → ContentGiven (content_geometry w h m)
 unfolding content_geometry
-content_given w h margin.Absent W H = between_margins w h default_margins 0 W H defaults_small
-content_given w h (margin.Given m) W H = by (margins_hold w h m) (held_small w h m W H)
+content_given w h None W H = between_margins w h default_margins 0 W H defaults_small
+content_given w h (Some m) W H = by (margins_hold w h m) (held_small w h m W H)
   where
     by : (b : Bool) → (T b → SmallMargins m) → ContentGiven (cond b (content_between w h m 0) (content_between w h default_margins 1))
     by true held = between_margins w h m 0 W H (held tt)

@@ -1,23 +1,21 @@
 -- The worked figures of document 01, section "Paper and content", and of document 02, T-01, computed from the definitions. Assumes nothing.
-use Rattle.std.specs.Prelude.{◌≡◌, ℕ, Bool, true, false, List, [], ◌∷◌, map, pos, negsuc, refl}
+use Rattle.std.specs.Prelude.{◌≡◌, ℕ, Bool, true, false, List, [], ◌∷◌, map, pos, negsuc, refl, Some, None}
 use Rattle.std.specs.Float.Ieee.{mul, add, div, lt, of_int, le, eq, round}
 use Rattle.units.specs.Outcome.{Outcome, given}
 use Rattle.units.specs.Units.{inches_to_fixed, in_i64}
-use Rattle.geometry.specs.declared.paper.Setting.TheVariants as code
-use Rattle.geometry.specs.declared.paper.MarginSetting.TheVariants as margin
 use Rattle.geometry.specs.Paper.{PaperFound, decimal, paper_geometry, content_geometry, content_between, margins_hold}
 use Rattle.geometry.specs.Paper.{default_margins, resolved, sheets, letter}
 
 -- the answer to some codes, upright or turned
 abbrev answers : Bool → List ℕ → List (Outcome PaperFound)
-answers landscape = map (λ (n : ℕ). paper_geometry (code.Given n) landscape)
+answers landscape = map (λ (n : ℕ). paper_geometry (Some n) landscape)
 
 -- a paper that is answered: its code, its sides and its note
 abbrev paper : ℕ → ℕ → ℕ → ℕ → Outcome PaperFound
 paper n w h u = given (record { code = n; width = pos w; height = pos h; unknown = u })
 
 -- "absent means 1"; "Letter is 835,584 by 1,081,344"
-letter_size : paper_geometry code.Absent false ≡ paper 1 835584 1081344 0
+letter_size : paper_geometry None false ≡ paper 1 835584 1081344 0
 unfolding paper_geometry resolved sheets letter inches_to_fixed mul of_int round
 letter_size = refl
 
@@ -36,7 +34,7 @@ unfolding paper_geometry resolved sheets letter inches_to_fixed mul of_int round
 five_papers = refl
 
 -- "Letter with defaults: x 68,813, y 73,728, width 697,958, height 933,888, header at 29,491, footer at 1,035,469."
-letter_content : content_geometry (pos 835584) (pos 1081344) margin.Absent
+letter_content : content_geometry (pos 835584) (pos 1081344) None
     ≡ given (record { x = pos 68813; y = pos 73728; width = pos 697958; height = pos 933888; header = pos 29491; footer = pos 1035469; invalid = 0 })
 unfolding content_geometry content_between default_margins inches_to_fixed mul of_int round in_i64
 letter_content = refl
@@ -55,7 +53,7 @@ three_and_a_half = refl
 
 -- "footer 10.99 on Letter gives -15,401"
 low_footer : content_geometry (pos 835584) (pos 1081344)
-    (margin.Given
+    (Some
     (record { left = decimal 0 1; right = decimal 0 1; top = decimal 0 1; bottom = decimal 0 1; header = decimal 0 1; footer = decimal 1099 100 }))
     ≡ given (record { x = pos 0; y = pos 0; width = pos 835584; height = pos 1081344; header = pos 0; footer = negsuc 15400; invalid = 0 })
 unfolding content_geometry content_between margins_hold inches_to_fixed mul add div of_int round lt le eq in_i64

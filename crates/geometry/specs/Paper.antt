@@ -1,13 +1,9 @@
 -- Document 01, section "Paper and content". Assumes nothing.
-use Rattle.std.specs.Prelude.{ℕ, Bool, true, false, cond, ◌&&◌, List, [], ◌∷◌, ℤ, pos, ◌==◌, Float}
+use Rattle.std.specs.Prelude.{ℕ, Bool, true, false, cond, ◌&&◌, List, [], ◌∷◌, ℤ, pos, ◌==◌, Float, Option, Some, None, unwrap_or}
 use Rattle.std.specs.Float.{nan, inf, fin, binary64}
 use Rattle.std.specs.Float.Ieee.{add, div, lt, le, of_int, round}
-use Rattle.geometry.specs.declared.paper.Setting.{Setting}
-use Rattle.geometry.specs.declared.paper.Setting.TheVariants as code
 use Rattle.geometry.specs.declared.paper.Paper.{Paper}
 use Rattle.geometry.specs.declared.paper.Margins.{Margins}
-use Rattle.geometry.specs.declared.paper.MarginSetting.{MarginSetting}
-use Rattle.geometry.specs.declared.paper.MarginSetting.TheVariants as margin
 use Rattle.geometry.specs.declared.paper.Content.{Content}
 use Rattle.geometry.specs.declared.paper.Content.TheVariants.{Value, CoordinateOverflow}
 use Rattle.units.specs.Outcome.{Outcome, given, refused, and_then}
@@ -84,9 +80,8 @@ sheets =
     []
 
 -- "absent means 1"
-abbrev pub requested : Setting → ℕ
-requested code.Absent = 1
-requested (code.Given n) = n
+abbrev pub requested : Option ℕ → ℕ
+requested code = unwrap_or code 1
 
 -- the sheet of a code and the number of notes: "An unlisted code resolves to 1 with a note."
 unfoldable pub resolved : ℕ → List Sheet → Sheet × ℕ
@@ -113,7 +108,7 @@ turned true p = record { code = p.code; width = p.height; height = p.width; unkn
 turned false p = p
 
 -- the paper of a code, turned where it is landscape: "An unlisted code resolves to 1 with a note. Landscape swaps."
-unfoldable pub paper_geometry : Setting → Bool → Outcome PaperFound
+unfoldable pub paper_geometry : Option ℕ → Bool → Outcome PaperFound
 unfolding resolved sheets
 paper_geometry asked landscape =
     and_then (upright (resolved (requested asked) sheets)) (λ (p : PaperFound). given (turned landscape p))
@@ -188,10 +183,10 @@ content_between width height m invalid =
     (inches_to_fixed m.header) (footer_at height m.footer) invalid
 
 -- "Otherwise the defaults .. and a note."
-unfoldable pub content_geometry : ℤ → ℤ → MarginSetting → Outcome Placed
+unfoldable pub content_geometry : ℤ → ℤ → Option Margins → Outcome Placed
 unfolding margins_hold default_margins content_between
-content_geometry width height margin.Absent = content_between width height default_margins 0
-content_geometry width height (margin.Given m) =
+content_geometry width height None = content_between width height default_margins 0
+content_geometry width height (Some m) =
     cond (margins_hold width height m) (content_between width height m 0) (content_between width height default_margins 1)
 
 -- the values or the number that each case of `Content` stands for

@@ -4,6 +4,5 @@
 mod paper;
 
 pub use paper::{
-    Content, ContentGeometry, MarginSetting, Margins, Paper, PaperGeometry, Setting,
-    content_geometry, paper_geometry,
+    Content, ContentGeometry, Margins, Paper, PaperGeometry, content_geometry, paper_geometry,
 };

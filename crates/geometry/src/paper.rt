@@ -6,13 +6,6 @@ ghost use Rattle.geometry.specs.Paper as Section;
 
 use units::{Fixed, Length, Rect, inches_to_fixed, less};
 
-// A setting that may be absent.
-#[derive(Clone, Copy)]
-pub enum Setting {
-    Absent,
-    Given(u16),
-}
-
 // A paper's code and its sides as they lie on the page.
 #[derive(Clone, Copy)]
 pub struct PaperGeometry {
@@ -37,12 +30,6 @@ pub struct Margins {
     pub bottom: f64,
     pub header: f64,
     pub footer: f64,
-}
-
-#[derive(Clone, Copy)]
-pub enum MarginSetting {
-    Absent,
-    Given(Margins),
 }
 
 // Where the content, the header and the footer stand, and how many margins did not hold (0 or 1).
@@ -139,15 +126,8 @@ const HEIGHTS: [u32; 71] = [
     0, 0, 0, 572795, // 70
 ];
 
-// The code that is asked for: absent means 1.
-fn requested(code: Setting) -> u16
-    ensures { result ≡ Section.requested code }
-{
-    match code {
-        Setting::Absent => 1,
-        Setting::Given(n) => n,
-    }
-}
+// The code that an absent one means: Letter.
+const DEFAULT_CODE: u16 = 1;
 
 // The upright paper of a code that the list has; any other resolves to 1, with a note.
 fn resolved(code: u16) -> Paper
@@ -197,10 +177,10 @@ fn turned(paper: Paper, landscape: bool) -> Paper
 }
 
 // The paper of a code, Letter where it is absent or unlisted, turned where it is landscape.
-pub fn paper_geometry(code: Setting, landscape: bool) -> Paper
+pub fn paper_geometry(code: Option<u16>, landscape: bool) -> Paper
     ensures { given (Section.paper_found result) ≡ Section.paper_geometry code landscape }
 {
-    turned(resolved(requested(code)), landscape)
+    turned(resolved(code.unwrap_or(DEFAULT_CODE)), landscape)
 }
 
 // Finite and at least 0.
@@ -372,10 +352,10 @@ fn default_content(width: Fixed, height: Fixed, invalid_margins: u64) -> Content
 }
 
 // What the margins leave of a paper; margins that do not hold are replaced, all six.
-pub fn content_geometry(paper: PaperGeometry, margins: MarginSetting) -> Content
+pub fn content_geometry(paper: PaperGeometry, margins: Option<Margins>) -> Content
     ensures { Section.content_outcome result ≡ Section.content_geometry paper.width.0 paper.height.0 margins }
 {
-    let MarginSetting::Given(m) = margins else {
+    let Some(m) = margins else {
         return default_content(paper.width, paper.height, 0);
     };
     if margins_hold(paper.width, paper.height, m) {

@@ -1,14 +1,14 @@
 // The worked figures of document 01, section "Paper and content".
 use crate::figures::{infinity, nan, say};
-use geometry::{Content, MarginSetting, Margins, Paper, PaperGeometry, Setting};
+use geometry::{Content, Margins, Paper, PaperGeometry};
 use job_records::float;
 
 fn upright(code: u16) -> Paper {
-    geometry::paper_geometry(Setting::Given(code), false)
+    geometry::paper_geometry(Some(code), false)
 }
 
 fn landscape(code: u16) -> Paper {
-    geometry::paper_geometry(Setting::Given(code), true)
+    geometry::paper_geometry(Some(code), true)
 }
 
 fn is(answer: Paper, code: u16, width: i64, height: i64, note: u64) -> bool {
@@ -20,7 +20,7 @@ fn is(answer: Paper, code: u16, width: i64, height: i64, note: u64) -> bool {
 }
 
 fn paper_figures() {
-    let absent = geometry::paper_geometry(Setting::Absent, false);
+    let absent = geometry::paper_geometry(None, false);
     say(b"paper absent", is(absent, 1, 835584, 1081344, 0));
     say(b"paper 1", is(upright(1), 1, 835584, 1081344, 0));
     say(
@@ -56,7 +56,7 @@ fn on_letter(left: f64, right: f64, top: f64, bottom: f64, header: f64, footer: 
         header,
         footer,
     };
-    geometry::content_geometry(letter(), MarginSetting::Given(margins))
+    geometry::content_geometry(letter(), Some(margins))
 }
 
 fn box_is(answer: Content, x: i64, y: i64, width: i64, height: i64) -> bool {
@@ -172,13 +172,13 @@ fn below_zero() -> bool {
         header: 0.0,
         footer: 0.0,
     };
-    let answer = geometry::content_geometry(paper.geometry, MarginSetting::Given(margins));
+    let answer = geometry::content_geometry(paper.geometry, Some(margins));
     box_is(answer, 14863, 0, -1, 572795) & holds(answer)
 }
 
 pub(crate) fn all_figures() {
     paper_figures();
-    let absent = geometry::content_geometry(letter(), MarginSetting::Absent);
+    let absent = geometry::content_geometry(letter(), None);
     say(
         b"margins absent on Letter",
         default_letter(absent) & holds(absent),

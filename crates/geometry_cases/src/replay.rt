@@ -10,7 +10,7 @@
 ghost use Rattle.std.specs.Prelude.{◌<◌};
 
 use crate::text::{count, number, word};
-use geometry::{Content, MarginSetting, Margins, PaperGeometry, Setting};
+use geometry::{Content, Margins, PaperGeometry};
 use hexadecimal::{bits, digit};
 use job_records::{float, signed};
 use units::{Fixed, Length};
@@ -78,9 +78,9 @@ fn length(answer: Length) {
 }
 
 fn paper(line: &[u8; LINE]) {
-    let mut code = Setting::Absent;
+    let mut code = None;
     if field(line, 0) > 0 {
-        code = Setting::Given(small(line, 1));
+        code = Some(small(line, 1));
     }
     let answer = geometry::paper_geometry(code, field(line, 2) > 0);
     let paper = answer.geometry;
@@ -104,7 +104,7 @@ fn margins(line: &[u8; LINE]) -> Margins {
     }
 }
 
-fn content(line: &[u8; LINE], margins: MarginSetting) {
+fn content(line: &[u8; LINE], margins: Option<Margins>) {
     let paper = PaperGeometry {
         paper_code: 0,
         width: fixed(line, 0),
@@ -147,8 +147,8 @@ fn answer(line: &[u8; LINE]) {
         b'c' => length(capacity(line)),
         b's' => length(units::scale_fixed(fixed(line, 0), small(line, 1))),
         b'p' => paper(line),
-        b'm' => content(line, MarginSetting::Given(margins(line))),
-        b'a' => content(line, MarginSetting::Absent),
+        b'm' => content(line, Some(margins(line))),
+        b'a' => content(line, None),
         _ => word(b"bad line"),
     }
 }

@@ -11,7 +11,7 @@ use lib.ListN.{length, get_or, take, drop, length-take, length-map}
 use lib.IntN.{ℤ}
 use lib.Seq.{take_at, drop-append-add, ext_get_or}
 use Rattle.units.specs.Outcome.{Outcome, given, refused, and_then}
-use Rattle.geometry.specs.declared.paper.Setting.{Setting}
+use Rattle.std.specs.Prelude.{Option}
 use Rattle.planner_rules.specs.declared.pages.AreaPlan.{AreaPlan}
 use Rattle.planner_rules.specs.declared.pages.AreaPlans.{AreaPlans}
 use Rattle.planner_rules.specs.declared.pages.Plan.{Plan}
@@ -54,7 +54,7 @@ fit_some : (t : ℕ → Bool) → 1 ≤ (fit_scale t).permille
 unfolding fit_scale
 fit_some t = either (λ (z : Scale). 1 ≤ z.permille) (t 100) (omega (arith, halve_from t 10 100 1000)) (omega arith)
 
-fixed_some : (percent : Setting) → 1 ≤ (fixed_scale percent).permille
+fixed_some : (percent : Option ℕ) → 1 ≤ (fixed_scale percent).permille
 unfolding fixed_scale
 fixed_some percent = omega arith
 

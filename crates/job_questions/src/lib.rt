@@ -13,7 +13,6 @@ use job_records::{ColumnSlot, Range, Record, RowSlot, Step, rank_of, read_record
 use job_settings::areas_for;
 use job_walk::{areas_of, cell_limit_of};
 use planner_areas::cells_hold;
-use planner_rules::CellLimit;
 use units::{LARGEST_SIZE, MAX_WORKSHEET_COLUMN, MAX_WORKSHEET_ROW};
 
 // The most bytes of a job.
@@ -271,7 +270,7 @@ fn cells_ok(bytes: &[u8], count: usize) -> bool
     ensures { result ≡ question15 bytes.now }
 {
     let limit = cell_limit_of(bytes);
-    let CellLimit::Given(_) = limit else {
+    let Some(_) = limit else {
         return true;
     };
     let read = areas_of(bytes, count);

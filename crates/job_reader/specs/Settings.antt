@@ -1,26 +1,19 @@
 -- Document 01, section "Jobs": the settings of a job, each with whether its record is there. Assumes nothing.
-use Rattle.std.specs.Prelude.{Bool, true, false, List, [], ◌∷◌}
-use Rattle.geometry.specs.declared.paper.Setting.{Setting}
-use Rattle.geometry.specs.declared.paper.Setting.TheVariants as number
+use Rattle.std.specs.Prelude.{Bool, true, false, List, [], ◌∷◌, ℕ, Option, Some, None}
 use Rattle.planner_rules.specs.declared.titles.Title.{Title}
 use Rattle.planner_rules.specs.declared.titles.Title.TheVariants as title
 use Rattle.job_records.specs.Records.{PC, LA, MG, SC, FW, FH, FT, OD, HD, LP, UC, AR, TR, TC, field, marked}
 use Rattle.job_records.specs.declared.records.Record.{Record}
-use Rattle.job_settings.specs.declared.MarginsRead.{MarginsRead}
-use Rattle.job_settings.specs.declared.MarginsRead.TheVariants as margins
-use Rattle.job_settings.specs.declared.FlagSetting.{FlagSetting}
-use Rattle.job_settings.specs.declared.FlagSetting.TheVariants as flag
-use Rattle.job_settings.specs.declared.LimitSetting.{LimitSetting}
-use Rattle.job_settings.specs.declared.LimitSetting.TheVariants as limit
+use Rattle.job_records.specs.declared.records.MarginBits.{MarginBits}
 use Rattle.job_settings.specs.declared.JobSettings.{JobSettings}
 use Rattle.job_walk.specs.Areas.{cell_limit_from, areas_from}
 
 -- ---- a setting, from the records with its mark: but for AR, there is one at most
 
 -- "PC paper u16", "SC percent u16", "FW, FH targets u16"
-abbrev pub number_from : List Record → Setting
-number_from [] = number.Absent
-number_from (r ∷ rs) = number.Given (field 0 r)
+abbrev pub number_from : List Record → Option ℕ
+number_from [] = None
+number_from (r ∷ rs) = Some (field 0 r)
 
 -- "LA landscape", "HD headings": a record that "has no body" is there or not
 abbrev pub is_there : List Record → Bool
@@ -28,20 +21,20 @@ is_there [] = false
 is_there (r ∷ rs) = true
 
 -- "MG six f64": "left, right, top, bottom, header, footer"
-abbrev pub margins_from : List Record → MarginsRead
-margins_from [] = margins.Absent
+abbrev pub margins_from : List Record → Option MarginBits
+margins_from [] = None
 margins_from (r ∷ rs) =
-    margins.Given (record { left = field 0 r; right = field 1 r; top = field 2 r; bottom = field 3 r; header = field 4 r; footer = field 5 r })
+    Some (record { left = field 0 r; right = field 1 r; top = field 2 r; bottom = field 3 r; header = field 4 r; footer = field 5 r })
 
 -- "FT fit u8", "OD u8"
-abbrev pub flag_from : List Record → FlagSetting
-flag_from [] = flag.Absent
-flag_from (r ∷ rs) = flag.Given (field 0 r)
+abbrev pub flag_from : List Record → Option ℕ
+flag_from [] = None
+flag_from (r ∷ rs) = Some (field 0 r)
 
 -- "LP page limit u64"
-abbrev pub limit_from : List Record → LimitSetting
-limit_from [] = limit.Absent
-limit_from (r ∷ rs) = limit.Given (field 0 r)
+abbrev pub limit_from : List Record → Option ℕ
+limit_from [] = None
+limit_from (r ∷ rs) = Some (field 0 r)
 
 -- "A title is absent or a pair first, last.": "TR two u32; TC two u16"
 abbrev pub title_from : List Record → Title

@@ -5,45 +5,44 @@ ghost use Rattle.job_walk.specs.Walk.{Sorted};
 ghost use Rattle.job_reader.specs.Settings as section;
 ghost use Rattle.job_reader.specs.Walk.{is_number, is_flag};
 
-use geometry::Setting;
-use job_records::Record;
 use job_records::ranks::{
     COLUMN_TITLE, FIT, FIT_HEIGHT, FIT_WIDTH, HEADINGS, LANDSCAPE, MARGINS, ORDER, PAGE_LIMIT,
     PAPER, PERCENT, ROW_TITLE,
 };
-use job_settings::{FlagSetting, JobSettings, LimitSetting, MarginsRead};
+use job_records::{MarginBits, Record};
+use job_settings::JobSettings;
 use job_walk::{Lookup, areas_of, cell_limit_of, find_record};
 use planner_rules::Title;
 
-fn number_of(bytes: &[u8], wanted: u8) -> Setting
+fn number_of(bytes: &[u8], wanted: u8) -> Option<u16>
     requires sorted { Sorted 0 (records bytes.now) }
     requires wanted_value { is_number wanted ≡ true }
     ensures { result ≡ section.number_from (marked wanted (records bytes.now)) }
 {
     let Lookup::Found(found) = find_record(bytes, wanted, 0) else {
-        return Setting::Absent;
+        return None;
     };
     match found {
-        Record::Paper(x) => Setting::Given(x),
-        Record::Scale(x) => Setting::Given(x),
-        Record::Wide(x) => Setting::Given(x),
-        Record::High(x) => Setting::Given(x),
-        _ => Setting::Absent,
+        Record::Paper(x) => Some(x),
+        Record::Scale(x) => Some(x),
+        Record::Wide(x) => Some(x),
+        Record::High(x) => Some(x),
+        _ => None,
     }
 }
 
-fn flag_of(bytes: &[u8], wanted: u8) -> FlagSetting
+fn flag_of(bytes: &[u8], wanted: u8) -> Option<u8>
     requires sorted { Sorted 0 (records bytes.now) }
     requires wanted_value { is_flag wanted ≡ true }
     ensures { result ≡ section.flag_from (marked wanted (records bytes.now)) }
 {
     let Lookup::Found(found) = find_record(bytes, wanted, 0) else {
-        return FlagSetting::Absent;
+        return None;
     };
     match found {
-        Record::Fit(x) => FlagSetting::Given(x),
-        Record::Order(x) => FlagSetting::Given(x),
-        _ => FlagSetting::Absent,
+        Record::Fit(x) => Some(x),
+        Record::Order(x) => Some(x),
+        _ => None,
     }
 }
 
@@ -57,30 +56,30 @@ fn is_there(bytes: &[u8], wanted: u8) -> bool
     true
 }
 
-fn margins_of(bytes: &[u8]) -> MarginsRead
+fn margins_of(bytes: &[u8]) -> Option<MarginBits>
     requires { Sorted 0 (records bytes.now) }
     ensures { result ≡ section.margins_from (marked MG (records bytes.now)) }
 {
     let Lookup::Found(found) = find_record(bytes, MARGINS, 0) else {
-        return MarginsRead::Absent;
+        return None;
     };
     let Record::Margin(margins) = found else {
-        return MarginsRead::Absent;
+        return None;
     };
-    MarginsRead::Given(margins)
+    Some(margins)
 }
 
-fn limit_of(bytes: &[u8]) -> LimitSetting
+fn limit_of(bytes: &[u8]) -> Option<u64>
     requires { Sorted 0 (records bytes.now) }
     ensures { result ≡ section.limit_from (marked LP (records bytes.now)) }
 {
     let Lookup::Found(found) = find_record(bytes, PAGE_LIMIT, 0) else {
-        return LimitSetting::Absent;
+        return None;
     };
     let Record::Limit(limit) = found else {
-        return LimitSetting::Absent;
+        return None;
     };
-    LimitSetting::Given(limit)
+    Some(limit)
 }
 
 fn row_title_of(bytes: &[u8]) -> Title

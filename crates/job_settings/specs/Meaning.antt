@@ -1,10 +1,6 @@
 -- Document 01, section "Jobs": what is meant by a setting of a job, also where its record is not there. Assumes nothing.
-use Rattle.std.specs.Prelude.{ℕ, Bool, true, false, cond, ◌||◌, eqb}
-use Rattle.geometry.specs.declared.paper.Setting.{Setting}
-use Rattle.geometry.specs.declared.paper.Setting.TheVariants as number
+use Rattle.std.specs.Prelude.{ℕ, Bool, false, cond, ◌||◌, eqb, Option, Some, None, is_some, unwrap_or, option_map}
 use Rattle.geometry.specs.declared.paper.Margins.{Margins}
-use Rattle.geometry.specs.declared.paper.MarginSetting.{MarginSetting}
-use Rattle.geometry.specs.declared.paper.MarginSetting.TheVariants as inches
 use Rattle.planner_rules.specs.declared.pages.PageOrder.{PageOrder}
 use Rattle.planner_rules.specs.declared.pages.PageOrder.TheVariants.{DownThenOver, OverThenDown}
 use Rattle.planner_rules.specs.declared.planning.Settings.{Settings}
@@ -14,33 +10,25 @@ use Rattle.job_records.specs.LittleEndian.{f64_of}
 use Rattle.job_records.specs.declared.records.Range.{Range}
 use Rattle.job_records.specs.declared.records.JobAreas.{JobAreas}
 use Rattle.job_records.specs.declared.records.MarginBits.{MarginBits}
-use Rattle.job_settings.specs.declared.MarginsRead.{MarginsRead}
-use Rattle.job_settings.specs.declared.MarginsRead.TheVariants as margins
-use Rattle.job_settings.specs.declared.FlagSetting.{FlagSetting}
-use Rattle.job_settings.specs.declared.FlagSetting.TheVariants as flag
-use Rattle.job_settings.specs.declared.LimitSetting.{LimitSetting}
-use Rattle.job_settings.specs.declared.LimitSetting.TheVariants as limit
 use Rattle.job_settings.specs.declared.JobSettings.{JobSettings}
 
 -- a record of the setting is there
-abbrev pub is_given : Setting → Bool
-is_given number.Absent = false
-is_given (number.Given x) = true
+abbrev pub is_given : Option ℕ → Bool
+is_given setting = is_some setting
 
 -- "FT fit u8 (absent: on if FW or FH is present)"
-abbrev pub fit_on : FlagSetting → Setting → Setting → Bool
-fit_on flag.Absent width height = is_given width || is_given height
-fit_on (flag.Given x) width height = eqb x 1
+abbrev pub fit_on : Option ℕ → Option ℕ → Option ℕ → Bool
+fit_on None width height = is_given width || is_given height
+fit_on (Some x) width height = eqb x 1
 
 -- "OD u8, 1 for over then down"
-abbrev pub over_then_down : FlagSetting → Bool
-over_then_down flag.Absent = false
-over_then_down (flag.Given x) = eqb x 1
+abbrev pub over_then_down : Option ℕ → Bool
+over_then_down None = false
+over_then_down (Some x) = eqb x 1
 
 -- "LP page limit u64 (absent 10,000)"
-abbrev pub limit_of : LimitSetting → ℕ
-limit_of limit.Absent = 10000
-limit_of (limit.Given x) = x
+abbrev pub limit_of : Option ℕ → ℕ
+limit_of limit = unwrap_or limit 10000
 
 -- "Six margins travel together: left, right, top, bottom, header, footer, in inches."
 abbrev pub inches_of : MarginBits → Margins
@@ -54,14 +42,13 @@ inches_of m = record {
 }
 
 -- six bit patterns as margins in inches
-abbrev pub margin_setting : MarginsRead → MarginSetting
-margin_setting margins.Absent = inches.Absent
-margin_setting (margins.Given m) = inches.Given (inches_of m)
+abbrev pub margin_setting : Option MarginBits → Option Margins
+margin_setting read = option_map inches_of read
 
 -- ---- what was read, as the planner takes it
 
 -- "OD u8, 1 for over then down"
-abbrev pub order_for : FlagSetting → PageOrder
+abbrev pub order_for : Option ℕ → PageOrder
 order_for f = cond (over_then_down f) OverThenDown DownThenOver
 
 -- the settings as the planner takes them

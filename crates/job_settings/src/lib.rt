@@ -4,108 +4,77 @@
 ghost use Rattle.std.specs.Prelude.{◌≡◌};
 ghost use Rattle.job_settings.specs.Meaning as section;
 
-use geometry::{MarginSetting, Margins, Setting};
+use geometry::Margins;
 use job_records::{JobAreas, MarginBits, Range, float};
-use planner_rules::{Areas, CellLimit, PageOrder, PrintRange, Settings, Title};
-
-// The six margins as they stand in the record.
-#[derive(Clone, Copy)]
-pub enum MarginsRead {
-    Absent,
-    Given(MarginBits),
-}
-
-#[derive(Clone, Copy)]
-pub enum FlagSetting {
-    Absent,
-    Given(u8),
-}
-
-#[derive(Clone, Copy)]
-pub enum LimitSetting {
-    Absent,
-    Given(u64),
-}
+use planner_rules::{Areas, PageOrder, PrintRange, Settings, Title};
 
 // The settings of a job, in the order of their records.
 #[derive(Clone, Copy)]
 pub struct JobSettings {
-    pub paper: Setting,
+    pub paper: Option<u16>,
     pub landscape: bool,
-    pub margins: MarginsRead,
-    pub percent: Setting,
-    pub fit_width: Setting,
-    pub fit_height: Setting,
-    pub fit: FlagSetting,
-    pub order: FlagSetting,
+    pub margins: Option<MarginBits>,
+    pub percent: Option<u16>,
+    pub fit_width: Option<u16>,
+    pub fit_height: Option<u16>,
+    pub fit: Option<u8>,
+    pub order: Option<u8>,
     pub headings: bool,
-    pub page_limit: LimitSetting,
-    pub cell_limit: CellLimit,
+    pub page_limit: Option<u64>,
+    pub cell_limit: Option<u64>,
     pub areas: JobAreas,
     pub row_title: Title,
     pub column_title: Title,
 }
 
-fn is_given(setting: Setting) -> bool
-    ensures { result ≡ section.is_given setting }
-{
-    match setting {
-        Setting::Absent => false,
-        Setting::Given(_) => true,
-    }
-}
-
 // Whether the pages are fitted: by FT, or, where it is absent, by whether a target is there.
-pub fn fit_on(fit: FlagSetting, fit_width: Setting, fit_height: Setting) -> bool
+pub fn fit_on(fit: Option<u8>, fit_width: Option<u16>, fit_height: Option<u16>) -> bool
     ensures { result ≡ section.fit_on fit fit_width fit_height }
 {
     match fit {
-        FlagSetting::Absent => is_given(fit_width) | is_given(fit_height),
-        FlagSetting::Given(x) => x == 1,
+        None => fit_width.is_some() | fit_height.is_some(),
+        Some(x) => x == 1,
     }
 }
 
 // Whether pages go over, then down.
-pub fn over_then_down(order: FlagSetting) -> bool
+pub fn over_then_down(order: Option<u8>) -> bool
     ensures { result ≡ section.over_then_down order }
 {
-    match order {
-        FlagSetting::Absent => false,
-        FlagSetting::Given(x) => x == 1,
-    }
+    order == Some(1)
 }
 
 // The most pages that a plan may have, where a job does not say.
 const DEFAULT_PAGE_LIMIT: u64 = 10_000;
 
 // The most pages that a plan may have.
-pub fn page_limit(limit: LimitSetting) -> u64
+pub fn page_limit(limit: Option<u64>) -> u64
     ensures { result ≡ section.limit_of limit }
 {
-    match limit {
-        LimitSetting::Absent => DEFAULT_PAGE_LIMIT,
-        LimitSetting::Given(x) => x,
-    }
+    limit.unwrap_or(DEFAULT_PAGE_LIMIT)
 }
 
-// The six margins as floats, for content geometry.
-pub fn margin_setting(margins: MarginsRead) -> MarginSetting
-    ensures { result ≡ section.margin_setting margins }
+fn inches_of(bits: MarginBits) -> Margins
+    ensures { result ≡ section.inches_of bits }
 {
-    let MarginsRead::Given(bits) = margins else {
-        return MarginSetting::Absent;
-    };
-    MarginSetting::Given(Margins {
+    Margins {
         left: float(bits.left),
         right: float(bits.right),
         top: float(bits.top),
         bottom: float(bits.bottom),
         header: float(bits.header),
         footer: float(bits.footer),
-    })
+    }
 }
 
-fn order_for(order: FlagSetting) -> PageOrder
+// The six margins as floats, for content geometry.
+pub fn margin_setting(margins: Option<MarginBits>) -> Option<Margins>
+    ensures { result ≡ section.margin_setting margins }
+{
+    margins.map(inches_of)
+}
+
+fn order_for(order: Option<u8>) -> PageOrder
     ensures { result ≡ section.order_for order }
 {
     if over_then_down(order) {

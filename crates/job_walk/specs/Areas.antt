@@ -1,16 +1,14 @@
 -- The areas of a job and the limit of their cells, from the records with their marks (document 02, T-02). Assumes nothing.
-use Rattle.std.specs.Prelude.{List, [], ◌∷◌, ℕ, length, drop}
-use Rattle.planner_rules.specs.declared.planning.CellLimit.{CellLimit}
-use Rattle.planner_rules.specs.declared.planning.CellLimit.TheVariants.{Absent, Given}
+use Rattle.std.specs.Prelude.{List, [], ◌∷◌, ℕ, length, drop, Option, Some, None}
 use Rattle.job_records.specs.Records.{field}
 use Rattle.job_records.specs.declared.records.Range.{Range}
 use Rattle.job_records.specs.declared.records.JobAreas.{JobAreas}
 use Rattle.job_records.specs.declared.records.Record.{Record}
 
 -- "UC, u64 ..; absent means no limit"
-abbrev pub cell_limit_from : List Record → CellLimit
-cell_limit_from [] = Absent
-cell_limit_from (r ∷ rs) = Given (field 0 r)
+abbrev pub cell_limit_from : List Record → Option ℕ
+cell_limit_from [] = None
+cell_limit_from (r ∷ rs) = Some (field 0 r)
 
 -- what stands for a range that is not there
 abbrev pub nowhere : Range

@@ -8,7 +8,6 @@ ghost use Rattle.job_walk.specs.Areas as section;
 
 use job_records::ranks::{CELL_LIMIT, END, RANGE};
 use job_records::{JobAreas, Range, Record, Step, rank_of, read_record};
-use planner_rules::CellLimit;
 
 // The next record before the EN and how many bytes it has, or none.
 #[derive(Clone, Copy)]
@@ -60,16 +59,16 @@ pub fn find_record(bytes: &[u8], wanted: u8, before: usize) -> Lookup
     }
 }
 
-pub fn cell_limit_of(bytes: &[u8]) -> CellLimit
+pub fn cell_limit_of(bytes: &[u8]) -> Option<u64>
     ensures { result ≡ section.cell_limit_from (walk.in_place UC (records bytes.now)) }
 {
     let Lookup::Found(found) = find_record(bytes, CELL_LIMIT, 0) else {
-        return CellLimit::Absent;
+        return None;
     };
     let Record::Cells(most) = found else {
-        return CellLimit::Absent;
+        return None;
     };
-    CellLimit::Given(most)
+    Some(most)
 }
 
 fn nowhere() -> Range

@@ -4,7 +4,6 @@
 
 mod standard;
 
-use geometry::Setting;
 use standard::{SIZES, Size};
 use units::Length;
 
@@ -71,7 +70,7 @@ fn in_the_standard(code: u16) -> Sides {
 }
 
 fn here(code: u16) -> Sides {
-    let answer = geometry::paper_geometry(Setting::Given(code), false);
+    let answer = geometry::paper_geometry(Some(code), false);
     if answer.unknown_paper > 0 {
         return in_units(Size::Absent);
     }

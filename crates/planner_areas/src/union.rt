@@ -7,7 +7,7 @@ ghost use Rattle.planner_areas.specs.Edges as edges;
 
 use crate::eight::{at_most_eight, eight_ranges};
 use planner_compare::wide;
-use planner_rules::{Areas, CellLimit, PrintRange};
+use planner_rules::{Areas, PrintRange};
 
 // How many rows and columns the grid has.
 const ROWS: u64 = 1_048_576;
@@ -124,11 +124,11 @@ pub fn union_cells(areas: Areas) -> u64
 
 // 15: no more cells than the limit lie in at least one area. Without a limit none is counted.
 #[inline(always)]
-pub fn cells_hold(limit: CellLimit, areas: Areas) -> bool
+pub fn cells_hold(limit: Option<u64>, areas: Areas) -> bool
     ensures { result ≡ definition.cells_hold limit (areas_in areas) }
 {
     match limit {
-        CellLimit::Absent => true,
-        CellLimit::Given(most) => union_cells(areas) <= most,
+        None => true,
+        Some(most) => union_cells(areas) <= most,
     }
 }

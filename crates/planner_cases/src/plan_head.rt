@@ -10,8 +10,8 @@ ghost use Rattle.std.specs.Prelude.{◌<◌};
 
 use crate::fields::{TEXT, field};
 use crate::widths::{low, lower};
-use geometry::{MarginSetting, Setting};
-use planner_rules::{CellLimit, PageOrder, Settings, Title};
+use geometry::Margins;
+use planner_rules::{PageOrder, Settings, Title};
 
 // The bytes of a head.
 pub const HEAD: usize = 181;
@@ -45,14 +45,14 @@ pub(crate) fn margins_given(head: &[u8; TEXT]) -> bool {
 }
 
 // The setting whose flag and field have these numbers.
-fn setting(head: &[u8; TEXT], given: usize, k: usize) -> Setting
+fn setting(head: &[u8; TEXT], given: usize, k: usize) -> Option<u16>
     requires given_bound { given < 12 }
     requires k_bound { k < 8 }
 {
     if flag(head, given) {
-        Setting::Given(lower(index(head, k)))
+        Some(lower(index(head, k)))
     } else {
-        Setting::Absent
+        None
     }
 }
 
@@ -64,15 +64,15 @@ fn order(head: &[u8; TEXT]) -> PageOrder {
     }
 }
 
-fn cell_limit(head: &[u8; TEXT]) -> CellLimit {
+fn cell_limit(head: &[u8; TEXT]) -> Option<u64> {
     if flag(head, 11) {
-        CellLimit::Given(field(head, LIMITS, 16, 1))
+        Some(field(head, LIMITS, 16, 1))
     } else {
-        CellLimit::Absent
+        None
     }
 }
 
-pub(crate) fn settings(head: &[u8; TEXT], margins: MarginSetting) -> Settings {
+pub(crate) fn settings(head: &[u8; TEXT], margins: Option<Margins>) -> Settings {
     Settings {
         paper: setting(head, 0, 0),
         landscape: flag(head, 1),

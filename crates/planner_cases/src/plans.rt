@@ -8,14 +8,14 @@ use crate::lists::{
 };
 use crate::plan_head::{HEAD, length};
 use crate::{fields, page_text, plan_head as head};
-use geometry::{MarginSetting, Margins};
+use geometry::Margins;
 use job_records::float;
 use planner_rules::{Areas, Settings};
 
 // Reads the margins, if they are given.
 fn read_settings(line: &[u8; TEXT]) -> Settings {
     if !head::margins_given(line) {
-        return head::settings(line, MarginSetting::Absent);
+        return head::settings(line, None);
     }
     let read = read_sizes(6);
     let margins = Margins {
@@ -26,7 +26,7 @@ fn read_settings(line: &[u8; TEXT]) -> Settings {
         header: float(read[4]),
         footer: float(read[5]),
     };
-    head::settings(line, MarginSetting::Given(margins))
+    head::settings(line, Some(margins))
 }
 
 // Lends two lists for the runs, plans, and answers what the lists hold then, and pages.

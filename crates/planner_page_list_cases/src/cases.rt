@@ -1,8 +1,7 @@
 // Plans whose pages are listed. Slots are 400,000 each, on Letter.
 use crate::{places, text};
-use geometry::{MarginSetting, Setting};
 use planner_rules::{
-    Areas, CellLimit, Listing, PageOrder, Plan, Planning, PrintRange, RUN_NUMBERS, Settings, Title,
+    Areas, Listing, PageOrder, Plan, Planning, PrintRange, RUN_NUMBERS, Settings, Title,
 };
 
 // The most runs of these plans.
@@ -10,19 +9,19 @@ const ROW_RUNS: usize = 5;
 
 const COLUMN_RUNS: usize = 3;
 
-fn settings(percent: Setting, order: PageOrder) -> Settings {
+fn settings(percent: Option<u16>, order: PageOrder) -> Settings {
     Settings {
-        paper: Setting::Absent,
+        paper: None,
         landscape: false,
-        margins: MarginSetting::Absent,
+        margins: None,
         percent,
         fit: false,
-        fit_width: Setting::Absent,
-        fit_height: Setting::Absent,
+        fit_width: None,
+        fit_height: None,
         order,
         headings: false,
         page_limit: 10000,
-        cell_limit: CellLimit::Absent,
+        cell_limit: None,
     }
 }
 
@@ -121,7 +120,7 @@ fn planned(
 // The example of document 01, section "Jobs": three rows and two columns.
 fn example(order: PageOrder) {
     planned(
-        settings(Setting::Absent, order),
+        settings(None, order),
         one_area(range(2, 1)),
         &[0, 1, 2],
         &[400000, 400000, 400000],
@@ -134,7 +133,7 @@ fn example(order: PageOrder) {
 // Three rows with a break before the second, and no column: both pages carry marks.
 fn break_case() {
     planned(
-        settings(Setting::Absent, PageOrder::DownThenOver),
+        settings(None, PageOrder::DownThenOver),
         one_area(range(2, 0)),
         &[0, 1, 2],
         &[400000, 400000, 400000],
@@ -147,7 +146,7 @@ fn break_case() {
 // Five rows, each on a page of its own.
 fn five_case() {
     planned(
-        settings(Setting::Given(200), PageOrder::DownThenOver),
+        settings(Some(200), PageOrder::DownThenOver),
         one_area(range(4, 0)),
         &[0, 1, 2, 3, 4],
         &[400000, 400000, 400000, 400000, 400000],
@@ -162,7 +161,7 @@ fn two_areas() {
     let rows = range(2, 0);
     let columns = range(1, 1);
     planned(
-        settings(Setting::Absent, PageOrder::DownThenOver),
+        settings(None, PageOrder::DownThenOver),
         areas_of(2, rows, columns, columns),
         &[0, 1, 2],
         &[400000, 400000, 400000],
@@ -187,7 +186,7 @@ fn three_areas() {
         last_column: 6,
     };
     planned(
-        settings(Setting::Absent, PageOrder::DownThenOver),
+        settings(None, PageOrder::DownThenOver),
         areas_of(3, last, range(0, 0), outside),
         &[0, 1, 2],
         &[400000, 400000, 400000],

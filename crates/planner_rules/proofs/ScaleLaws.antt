@@ -7,7 +7,7 @@ use native.Mathlib.Nat.{add-zero, zero-add}
 use native.Mathlib.Omega.{arith}
 use lib.ListN.{length}
 use borrow.Author.Tests.{eq-eqb, ne_eqb, lt-ltb, le-ltb, le-leb, lt-leb, leb-false}
-use Rattle.geometry.specs.declared.paper.Setting.{Setting}
+use Rattle.std.specs.Prelude.{Option}
 use Rattle.planner_rules.specs.declared.titles.Title.{Title}
 use Rattle.planner_rules.specs.declared.titles.Title.TheVariants.{Absent, Pair}
 use Rattle.planner_rules.specs.Titles.{past_title}
@@ -20,7 +20,7 @@ use Rattle.planner_rules.specs.Scale.{axis_passes, halve, fit_scale, titled}
 abbrev pub scale_at : ℕ → ℕ → ℕ → Scale
 scale_at p c u = record { permille = p; clamp = c; unreachable = u }
 
-module _ (s : Setting) (p : ℕ) (e : p ≡ or_else s 100) where
+module _ (s : Option ℕ) (p : ℕ) (e : p ≡ or_else s 100) where
   moved : (k : ℕ) → clamped p ≡ k → (p ≡ k → ⊥) → scale_at (k * 10) 1 0 ≡ fixed_scale s
   unfolding fixed_scale
   moved k c n = rw (← e, c, ne_eqb p k n)

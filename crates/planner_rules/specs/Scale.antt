@@ -1,11 +1,9 @@
 -- Document 01, section "Scale". Assumes nothing.
 use Rattle.std.specs.Prelude.{Bool, true, false, cond, ◌&&◌, ◌||◌, List, [], ◌∷◌, ℕ, zero, suc, ◌+◌, ◌-◌, ◌*◌, ◌/◌, ◌^◌, ◌≤◌, min, max, leb, ltb, eqb, ℤ, pos}
-use Rattle.std.specs.Prelude.{nat_abs, length}
+use Rattle.std.specs.Prelude.{nat_abs, length, Option, unwrap_or}
 use Rattle.std.specs.Int.Signed.{le_z}
 use Rattle.units.specs.Outcome.{Outcome, given, refused}
 use Rattle.units.specs.Units.{scale_fixed, unscaled_capacity}
-use Rattle.geometry.specs.declared.paper.Setting.{Setting}
-use Rattle.geometry.specs.declared.paper.Setting.TheVariants.{Absent, Given}
 use Rattle.planner_rules.specs.declared.titles.Title.{Title}
 use Rattle.planner_rules.specs.declared.runs.Frame.{Frame}
 use Rattle.planner_rules.specs.declared.scale.PageSide.{PageSide}
@@ -23,9 +21,8 @@ pub record Scale : Type 0 where
   pub unreachable : ℕ
 
 -- a setting, or what its absence means
-abbrev pub or_else : Setting → ℕ → ℕ
-or_else Absent n = n
-or_else (Given m) n = m
+abbrev pub or_else : Option ℕ → ℕ → ℕ
+or_else setting n = unwrap_or setting n
 
 -- "percent (absent 100)"
 abbrev pub default_percent : ℕ
@@ -42,7 +39,7 @@ abbrev pub clamped : ℕ → ℕ
 clamped percent = max 10 (min percent 400)
 
 -- "percent (absent 100) clamped to 10..400, with a note if moved, times ten"
-unfoldable pub fixed_scale : Setting → Scale
+unfoldable pub fixed_scale : Option ℕ → Scale
 fixed_scale percent =
     let p = or_else percent default_percent in
     record { permille = clamped p * 10; clamp = cond (eqb p (clamped p)) 0 1; unreachable = 0 }

@@ -1,8 +1,6 @@
 -- The cells that lie in at least one of several areas, each counted once (document 02, T-02). Assumes nothing.
-use Rattle.std.specs.Prelude.{Bool, true, false, cond, ◌&&◌, ◌||◌, List, [], ◌∷◌, ℕ, zero, suc, ◌+◌, leb}
+use Rattle.std.specs.Prelude.{Bool, true, false, cond, ◌&&◌, ◌||◌, List, [], ◌∷◌, ℕ, zero, suc, ◌+◌, leb, Option, Some, None}
 use Rattle.planner_rules.specs.declared.planning.PrintRange.{PrintRange}
-use Rattle.planner_rules.specs.declared.planning.CellLimit.{CellLimit}
-use Rattle.planner_rules.specs.declared.planning.CellLimit.TheVariants.{Absent, Given}
 
 -- a number stands between two, or is one of them
 abbrev pub between : ℕ → ℕ → ℕ → Bool
@@ -31,6 +29,6 @@ unfoldable pub union_cells : List PrintRange → ℕ
 union_cells gs = cells_in 1048576 16384 gs
 
 -- 15: "UC .. limits the cells lying in at least one area ..; absent means no limit"
-unfoldable pub cells_hold : CellLimit → List PrintRange → Bool
-cells_hold Absent gs = true
-cells_hold (Given most) gs = leb (union_cells gs) most
+unfoldable pub cells_hold : Option ℕ → List PrintRange → Bool
+cells_hold None gs = true
+cells_hold (Some most) gs = leb (union_cells gs) most

@@ -16,9 +16,9 @@ pub use pages::{
 };
 pub use partition::{AxisSetup, Partition};
 pub use planning::{
-    AreaNotes, Areas, AxisRange, CellLimit, ContentSides, CountedArea, CountedAreas, FinalCut,
-    Frames, Planning, Prepared, PrintRange, Ready, ReadyArea, ReadyTitle, RunCounts, Settings,
-    Shared, SidesFound, Writing,
+    AreaNotes, Areas, AxisRange, ContentSides, CountedArea, CountedAreas, FinalCut, Frames,
+    Planning, Prepared, PrintRange, Ready, ReadyArea, ReadyTitle, RunCounts, Settings, Shared,
+    SidesFound, Writing,
 };
 pub use runs::{Cut, Frame, Held, RUN_NUMBERS, RunEnd, Tally};
 pub use scale::{ChosenScale, Fit, PageSide, Stretch};

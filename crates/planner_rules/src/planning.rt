@@ -3,30 +3,24 @@ use crate::pages::{AreaPlan, AreaPlans, PageOrder, Plan};
 use crate::runs::Frame;
 use crate::scale::Fit;
 use crate::titles::Title;
-use geometry::{MarginSetting, Setting};
+use geometry::Margins;
 use units::Fixed;
-
-// The most cells that may lie in at least one area, if there is a limit.
-#[derive(Clone, Copy)]
-pub enum CellLimit {
-    Absent,
-    Given(u64),
-}
 
 // How areas are printed. A target is the most pages in a direction, 0 for any number.
 #[derive(Clone, Copy)]
 pub struct Settings {
-    pub paper: Setting,
+    pub paper: Option<u16>,
     pub landscape: bool,
-    pub margins: MarginSetting,
-    pub percent: Setting,
+    pub margins: Option<Margins>,
+    pub percent: Option<u16>,
     pub fit: bool,
-    pub fit_width: Setting,
-    pub fit_height: Setting,
+    pub fit_width: Option<u16>,
+    pub fit_height: Option<u16>,
     pub order: PageOrder,
     pub headings: bool,
     pub page_limit: u64,
-    pub cell_limit: CellLimit,
+    // The most cells that may lie in at least one area.
+    pub cell_limit: Option<u64>,
 }
 
 #[derive(Clone, Copy)]

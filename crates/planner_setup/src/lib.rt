@@ -2,10 +2,10 @@
 #![tactic(auto)]
 
 ghost use Rattle.std.specs.Prelude.{◌≡◌, cond};
-ghost use Rattle.planner_rules.specs.Scale.{or_else, fixed_scale, meets, middle, scale_of};
+ghost use Rattle.planner_rules.specs.Scale.{fixed_scale, meets, middle, scale_of};
 ghost use Rattle.planner_rules.specs.Plan as call;
 
-use geometry::{Content, Setting};
+use geometry::Content;
 use planner_rules::{
     Axis, AxisRange, ChosenScale, ContentSides, PrintRange, Settings, SidesFound, Title,
 };
@@ -15,21 +15,11 @@ const DEFAULT_PERCENT: u16 = 100;
 
 const DEFAULT_TARGET: u16 = 1;
 
-// A setting, or what its absence means.
-fn or_else(setting: Setting, absent: u16) -> u16
-    ensures { result ≡ or_else setting absent }
-{
-    match setting {
-        Setting::Absent => absent,
-        Setting::Given(n) => n,
-    }
-}
-
 // The scale of a percent, clamped.
-pub fn fixed_scale(percent: Setting) -> ChosenScale
+pub fn fixed_scale(percent: Option<u16>) -> ChosenScale
     ensures { scale_of result ≡ fixed_scale percent }
 {
-    let asked = or_else(percent, DEFAULT_PERCENT);
+    let asked = percent.unwrap_or(DEFAULT_PERCENT);
     if asked < 10 {
         return ChosenScale {
             permille: 100,
@@ -69,7 +59,7 @@ pub fn row_range(settings: Settings, range: PrintRange, title: Title) -> AxisRan
         last: range.last_row,
         title,
         headings: headings_of(settings.headings, 17_408),
-        target: or_else(target, DEFAULT_TARGET),
+        target: target.unwrap_or(DEFAULT_TARGET),
     }
 }
 
@@ -84,7 +74,7 @@ pub fn column_range(settings: Settings, range: PrintRange, title: Title) -> Axis
         last: range.last_column,
         title,
         headings: headings_of(settings.headings, 38_912),
-        target: or_else(target, DEFAULT_TARGET),
+        target: target.unwrap_or(DEFAULT_TARGET),
     }
 }
 

@@ -3,7 +3,7 @@
 // is the limit. The file `stdout` has the answers of a second implementation, made from the standard's list.
 #![tactic(auto)]
 
-use geometry::{Content, MarginSetting, Margins, PaperGeometry, Setting};
+use geometry::{Content, Margins, PaperGeometry};
 use units::Fixed;
 
 // Standard output.
@@ -42,15 +42,15 @@ fn say_numbers(answer: Content) {
     word(b"\n");
 }
 
-fn say_content(name: &[u8], paper: PaperGeometry, margins: MarginSetting) {
+fn say_content(name: &[u8], paper: PaperGeometry, margins: Option<Margins>) {
     word(b"  ");
     word(name);
     word(b": ");
     say_numbers(geometry::content_geometry(paper, margins));
 }
 
-fn across(left: f64, right: f64) -> MarginSetting {
-    MarginSetting::Given(Margins {
+fn across(left: f64, right: f64) -> Option<Margins> {
+    Some(Margins {
         left,
         right,
         top: 0.0,
@@ -60,8 +60,8 @@ fn across(left: f64, right: f64) -> MarginSetting {
     })
 }
 
-fn along(top: f64, bottom: f64, header: f64, footer: f64) -> MarginSetting {
-    MarginSetting::Given(Margins {
+fn along(top: f64, bottom: f64, header: f64, footer: f64) -> Option<Margins> {
+    Some(Margins {
         left: 0.0,
         right: 0.0,
         top,
@@ -91,7 +91,7 @@ fn say_limits(paper: PaperGeometry, more: f64, times: f64) {
 }
 
 fn say_paper(code: u16, landscape: bool) {
-    let answer = geometry::paper_geometry(Setting::Given(code), landscape);
+    let answer = geometry::paper_geometry(Some(code), landscape);
     let paper = answer.geometry;
     count(paper.paper_code as u64);
     if landscape {
@@ -103,7 +103,7 @@ fn say_paper(code: u16, landscape: bool) {
     say(paper.height);
     count(answer.unknown_paper);
     word(b"\n");
-    say_content(b"absent", paper, MarginSetting::Absent);
+    say_content(b"absent", paper, None);
     say_content(b"3.5 and 3.5 inches", paper, across(3.5, 3.5));
     word(b" a unit less than the side\n");
     say_limits(paper, -1.0, 1.0);

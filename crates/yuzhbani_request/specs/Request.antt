@@ -1,14 +1,9 @@
 -- What 61 numbers ask of a plan, whoever wrote them: settings, areas and titles. Assumes nothing.
-use Rattle.std.specs.Prelude.{Bool, cond, ◌&&◌, List, ℕ, ◌+◌, min, leb, get_or}
-use Rattle.geometry.specs.declared.paper.Setting.{Setting}
-use Rattle.geometry.specs.declared.paper.Setting.TheVariants as setting
-use Rattle.geometry.specs.declared.paper.MarginSetting.{MarginSetting}
-use Rattle.geometry.specs.declared.paper.MarginSetting.TheVariants as margins
+use Rattle.std.specs.Prelude.{Bool, cond, ◌&&◌, List, ℕ, ◌+◌, min, leb, get_or, Option, Some, None}
+use Rattle.geometry.specs.declared.paper.Margins.{Margins}
 use Rattle.planner_rules.specs.declared.titles.Title.{Title}
 use Rattle.planner_rules.specs.declared.titles.Title.TheVariants as title
 use Rattle.planner_rules.specs.declared.planning.Settings.{Settings}
-use Rattle.planner_rules.specs.declared.planning.CellLimit.{CellLimit}
-use Rattle.planner_rules.specs.declared.planning.CellLimit.TheVariants as cells
 use Rattle.planner_rules.specs.declared.planning.PrintRange.{PrintRange}
 use Rattle.planner_rules.specs.declared.planning.Areas.{Areas}
 use Rattle.planner_rules.specs.Areas.{one_to_eight}
@@ -20,15 +15,15 @@ use Rattle.yuzhbani_request.specs.declared.Request.{Request}
 use Rattle.yuzhbani_answers.specs.Numbers.{is_set, order_from}
 
 -- a mark at a place, and behind it the number; one above 65,535 is 65,535
-abbrev pub setting_from : List ℕ → ℕ → Setting
-setting_from ns at = cond (is_set (get_or ns at 0)) (setting.Given (min (get_or ns (at + 1) 0) 65535)) setting.Absent
+abbrev pub setting_from : List ℕ → ℕ → Option ℕ
+setting_from ns at = cond (is_set (get_or ns at 0)) (Some (min (get_or ns (at + 1) 0) 65535)) None
 
 -- a mark at a place, and behind it the first and the last
 abbrev pub title_from : List ℕ → ℕ → Title
 title_from ns at = cond (is_set (get_or ns at 0)) (title.Pair (index_of (get_or ns (at + 1) 0)) (index_of (get_or ns (at + 2) 0))) title.Absent
 
 -- 3 is the mark, 4 to 9 are the bits of left, right, top, bottom, header and footer, in inches
-unfoldable pub margins_from : List ℕ → MarginSetting
+unfoldable pub margins_from : List ℕ → Option Margins
 margins_from ns =
     let bits : MarginBits = record {
       left = get_or ns 4 0;
@@ -38,14 +33,14 @@ margins_from ns =
       header = get_or ns 8 0;
       footer = get_or ns 9 0;
     } in
-    cond (is_set (get_or ns 3 0)) (margins.Given (inches_of bits)) margins.Absent
+    cond (is_set (get_or ns 3 0)) (Some (inches_of bits)) None
 
 -- 20 is the mark, 21 the most cells that may lie in at least one area
-abbrev pub cell_limit_from : List ℕ → CellLimit
-cell_limit_from ns = cond (is_set (get_or ns 20 0)) (cells.Given (get_or ns 21 0)) cells.Absent
+abbrev pub cell_limit_from : List ℕ → Option ℕ
+cell_limit_from ns = cond (is_set (get_or ns 20 0)) (Some (get_or ns 21 0)) None
 
 -- 0 to 21: paper, landscape, margins, percent, fit, both targets, order, headings, page limit and cell limit
-unfoldable pub settings_from : List ℕ → Settings
+unfoldable pub settings_from : List ℕ → Option ℕs
 settings_from ns = record {
   paper = setting_from ns 0;
   landscape = is_set (get_or ns 2 0);

@@ -4,11 +4,11 @@
 ghost use Rattle.std.specs.Prelude.{◌≡◌, ◌≤◌};
 ghost use Rattle.yuzhbani_request.specs.Request as section;
 
-use geometry::{MarginSetting, Setting};
+use geometry::Margins;
 use job_records::MarginBits;
-use job_settings::{MarginsRead, margin_setting};
+use job_settings::margin_setting;
 use planner_compare::index_of;
-use planner_rules::{Areas, CellLimit, PrintRange, Settings, Title};
+use planner_rules::{Areas, PrintRange, Settings, Title};
 use yuzhbani_answers::{order_from, u16_from};
 
 // Settings, areas and titles.
@@ -20,14 +20,14 @@ pub struct Request {
     pub column_title: Title,
 }
 
-fn setting_from(request: &[u64; 61], at: usize) -> Setting
+fn setting_from(request: &[u64; 61], at: usize) -> Option<u16>
     requires { at ≤ 59 }
     ensures { result ≡ section.setting_from request.now at }
 {
     if request[at] > 0 {
-        Setting::Given(u16_from(request[at + 1]))
+        Some(u16_from(request[at + 1]))
     } else {
-        Setting::Absent
+        None
     }
 }
 
@@ -43,11 +43,11 @@ fn title_from(request: &[u64; 61], at: usize) -> Title
 }
 
 #[tactic(auto, unfolding(crate::specs::Request::margins_from))]
-fn margins_from(request: &[u64; 61]) -> MarginSetting
+fn margins_from(request: &[u64; 61]) -> Option<Margins>
     ensures { result ≡ section.margins_from request.now }
 {
     if request[3] > 0 {
-        margin_setting(MarginsRead::Given(MarginBits {
+        margin_setting(Some(MarginBits {
             left: request[4],
             right: request[5],
             top: request[6],
@@ -56,17 +56,17 @@ fn margins_from(request: &[u64; 61]) -> MarginSetting
             footer: request[9],
         }))
     } else {
-        MarginSetting::Absent
+        None
     }
 }
 
-fn cell_limit_from(request: &[u64; 61]) -> CellLimit
+fn cell_limit_from(request: &[u64; 61]) -> Option<u64>
     ensures { result ≡ section.cell_limit_from request.now }
 {
     if request[20] > 0 {
-        CellLimit::Given(request[21])
+        Some(request[21])
     } else {
-        CellLimit::Absent
+        None
     }
 }
 

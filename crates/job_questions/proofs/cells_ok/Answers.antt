@@ -5,8 +5,7 @@ use mathlib.Core.List.{List}
 use Prim.Native.Nat.{ℕ}
 use Rattle.planner_rules.specs.Areas.{areas_in}
 use Rattle.planner_rules.specs.Union.{cells_hold}
-use Rattle.planner_rules.specs.declared.planning.CellLimit.{CellLimit}
-use Rattle.planner_rules.specs.declared.planning.CellLimit.TheVariants.{Absent}
+use Rattle.std.specs.Prelude.{Option, None}
 use Rattle.planner_rules.specs.declared.planning.PrintRange.{PrintRange}
 use Rattle.planner_rules.specs.declared.planning.Areas.{Areas}
 use Rattle.job_records.specs.Records.{UC, records, marked}
@@ -17,12 +16,12 @@ use Rattle.job_walk.proofs.WalkLaws.{is_in_place, all_areas}
 use Rattle.job_questions.proofs.cells_ok.Goals as goal
 
 -- "absent means no limit"
-no_limit : (l : CellLimit) (gs : List PrintRange) → l ≡ Absent → true ≡ cells_hold l gs
+no_limit : (l : Option ℕ) (gs : List PrintRange) → l ≡ None → true ≡ cells_hold l gs
 unfolding cells_hold
 no_limit l gs e = rw e
 
 -- the limit that was found is the job's
-limit_is : (l : CellLimit) (s : List ℕ) → Sorted 0 (records s) → l ≡ cell_limit_from (in_place UC (records s)) → l ≡ cell_limit_from (marked UC (records s))
+limit_is : (l : Option ℕ) (s : List ℕ) → Sorted 0 (records s) → l ≡ cell_limit_from (in_place UC (records s)) → l ≡ cell_limit_from (marked UC (records s))
 limit_is l s w e = e ∙ ap cell_limit_from (is_in_place 0 UC (records s) w)
 
 pub returns-in_default : goal.returns-in_default
@@ -34,4 +33,4 @@ returns c =
     let rs = records c.args.bytes.now in
     let limit = limit_is c.cell_limit_of-limit.result c.args.bytes.now c.requires.sorted c.cell_limit_of-limit.ensures in
     let areas = c.areas_for-areas.ensures ∙ ap areas_for (c.areas_of-read.ensures ∙ all_areas c.args.count rs c.requires.sorted c.requires.count_value) in
-    c.cells_hold.ensures ∙ ap₂ (λ (x : CellLimit) (y : Areas). cells_hold x (areas_in y)) limit areas
+    c.cells_hold.ensures ∙ ap₂ (λ (x : Option ℕ) (y : Areas). cells_hold x (areas_in y)) limit areas

@@ -8,9 +8,9 @@ returns-in_default c = rw (c.default_content.ensures, c.in_default.is)
 
 pub returns-then-margins_hold : goal.returns-then-margins_hold
 unfolding content_geometry
-returns-then-margins_hold c = rw (c.content_between.ensures, c.in-Given.is, ← c.margins_hold.ensures, c.if-margins_hold.true)
+returns-then-margins_hold c = rw (c.content_between.ensures, c.in-Some.is, ← c.margins_hold.ensures, c.if-margins_hold.true)
 
 pub returns-else-margins_hold : goal.returns-else-margins_hold
 unfolding content_geometry
 returns-else-margins_hold c =
-    rw (c.default_content-else-margins_hold.ensures, c.in-Given.is, ← c.margins_hold.ensures, c.if-margins_hold.false)
+    rw (c.default_content-else-margins_hold.ensures, c.in-Some.is, ← c.margins_hold.ensures, c.if-margins_hold.false)

@@ -4,4 +4,4 @@ use Rattle.geometry.proofs.paper.paper_geometry.Goals as goal
 
 pub returns : goal.returns
 unfolding paper_geometry
-returns c = rw (c.turned.ensures, ← c.requested.ensures, ← c.resolved.ensures)
+returns c = rw (c.turned.ensures, ← c.unwrap_or.ensures, ← c.resolved.ensures)

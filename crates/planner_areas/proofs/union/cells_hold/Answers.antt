@@ -2,10 +2,10 @@
 use Rattle.planner_rules.specs.Union.{cells_hold}
 use Rattle.planner_areas.proofs.union.cells_hold.Goals as goal
 
-pub returns-in-Absent : goal.returns-in-Absent
+pub returns-in-None : goal.returns-in-None
 unfolding cells_hold
-returns-in-Absent c = rw c.in-Absent.is
+returns-in-None c = rw c.in-None.is
 
-pub returns-in-Given : goal.returns-in-Given
+pub returns-in-Some : goal.returns-in-Some
 unfolding cells_hold
-returns-in-Given c = rw (c.in-Given.is, c.union_cells.ensures)
+returns-in-Some c = rw (c.in-Some.is, c.union_cells.ensures)
