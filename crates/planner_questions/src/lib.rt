@@ -1,16 +1,17 @@
 // What is asked of lists before a call answers: document 01, section "Questions in order".
 #![tactic(auto)]
 
-ghost use Rattle.std.specs.Prelude.{◌≡◌, ℕ, ◌/◌, ◌&&◌, List};
+ghost use Rattle.std.specs.Prelude.{◌≡◌, fold, bit_or, ℕ, ◌/◌, ◌&&◌, List};
 ghost use Rattle.planner_rules.specs.Questions.{no_or, equally_long, all_ordered, all_within, rising, rising_within, all_small};
 ghost use Rattle.planner_rules.specs.Areas.{areas_in, every_area, upright, inside_grid};
 ghost use Rattle.planner_rules.specs.Plan as call;
 ghost use Rattle.planner_rules.specs.Partition as partition;
 
 use planner_areas::{area_at, at_most_eight, cells_hold};
-use planner_compare::shorter;
-use planner_rules::{Areas, AxisSetup, PrintRange, RUN_NUMBERS, Settings, Title};
-use units::{LARGEST_SIZE, MAX_WORKSHEET_COLUMN, MAX_WORKSHEET_ROW};
+use planner_rules::{
+    Areas, AxisSetup, MergeList, PrintRange, RUN_NUMBERS, Settings, SlotList, Title,
+};
+use units::{LARGEST_SIZE, MAX_WORKSHEET_COLUMN, MAX_WORKSHEET_ROW, Refusal};
 
 // How many runs a list of so many numbers has room for.
 pub fn room_in(numbers: usize) -> usize
@@ -20,42 +21,29 @@ pub fn room_in(numbers: usize) -> usize
 }
 
 // 6: no first is above its last.
-pub fn pairs_ordered(firsts: &[u32], lasts: &[u32]) -> bool
-    ensures { result ≡ all_ordered firsts.now lasts.now }
+pub fn pairs_ordered(merges: MergeList) -> bool
+    ensures { result ≡ all_ordered merges.entry.firsts.now merges.entry.lasts.now }
 {
-    let end = shorter(firsts.len(), lasts.len());
-    let mut n = 0;
-    while n < end {
-        if firsts[n] > lasts[n] {
-            return false;
-        }
-        n += 1;
-    }
-    true
+    merges
+        .firsts
+        .iter()
+        .zip(merges.lasts)
+        .all(|(first, last)| *first <= *last)
 }
 
 // 7: no index is past the limit.
 pub fn all_within(indexes: &[u32], limit: u32) -> bool
     ensures { result ≡ all_within limit indexes.now }
 {
-    let mut n = 0;
-    while n < indexes.len() {
-        if indexes[n] > limit {
-            return false;
-        }
-        n += 1;
-    }
-    true
+    indexes.iter().all(|index| *index <= limit)
 }
 
 // Each index is below the next: all are asked, so that there is no branch on what one of them answers.
 fn strictly_rising(indexes: &[u32]) -> bool
     ensures { result ≡ rising indexes.now }
 {
-    let mut i = indexes.len();
     let mut rises = true;
-    while i > 1 {
-        i -= 1;
+    for i in (1..indexes.len()).rev() {
         rises = (indexes[i - 1] < indexes[i]) & rises;
     }
     rises
@@ -68,24 +56,24 @@ pub fn rising_within(indexes: &[u32], limit: u32) -> bool
     if !strictly_rising(indexes) {
         return false;
     }
-    let count = indexes.len();
-    if count == 0 {
-        return true;
+    match indexes.last() {
+        Some(last) => *last <= limit,
+        None => true,
     }
-    indexes[count - 1] <= limit
+}
+
+// The bits that are set in some of these numbers.
+fn bits_of(numbers: &[u64]) -> u64
+    ensures { result ≡ fold bit_or 0 numbers.now }
+{
+    numbers.iter().fold(0, |bits, number| bits | *number)
 }
 
 // 9: no size is above the largest, which has all its bits set: so none is, if all bits of all sizes together make no greater number.
 pub fn all_small(sizes: &[u64]) -> bool
     ensures { result ≡ all_small sizes.now }
 {
-    let mut i = sizes.len();
-    let mut bits = 0;
-    while i > 0 {
-        i -= 1;
-        bits = sizes[i] | bits;
-    }
-    bits <= LARGEST_SIZE
+    bits_of(sizes) <= LARGEST_SIZE
 }
 
 // What the areas answer to 6 and to 7.
@@ -127,13 +115,14 @@ fn ask_areas(areas: Areas) -> AreasAsked
 }
 
 // 6 of the lists of an axis: equally long, and no first is above its last.
-fn formed(indexes: &[u32], sizes: &[u64], merge_firsts: &[u32], merge_lasts: &[u32]) -> bool
-    ensures { result ≡ (equally_long indexes.now sizes.now && equally_long merge_firsts.now merge_lasts.now
-        && all_ordered merge_firsts.now merge_lasts.now) }
+fn formed(slots: SlotList, merges: MergeList) -> bool
+    ensures { let firsts = merges.entry.firsts.now in
+        let lasts = merges.entry.lasts.now in
+        result ≡ (equally_long slots.entry.indexes.now slots.entry.sizes.now && equally_long firsts lasts && all_ordered firsts lasts) }
 {
-    (indexes.len() == sizes.len())
-        & (merge_firsts.len() == merge_lasts.len())
-        & pairs_ordered(merge_firsts, merge_lasts)
+    (slots.indexes.len() == slots.sizes.len())
+        & (merges.firsts.len() == merges.lasts.len())
+        & pairs_ordered(merges)
 }
 
 // The number of a question whose answer is no, or the number that comes after it.
@@ -143,26 +132,26 @@ fn no_or(question: u8, yes: bool, after: u8) -> u8
     if yes { after } else { question }
 }
 
-// The first of the questions 6 to 9 of one axis whose answer is no, or 0.
-pub fn partition_refusal(
-    limit: u32,
-    setup: AxisSetup,
-    indexes: &[u32],
-    sizes: &[u64],
-    merge_firsts: &[u32],
-    merge_lasts: &[u32],
-) -> u8
-    ensures { result ≡ partition.first_no limit setup indexes.now sizes.now merge_firsts.now
-        merge_lasts.now }
+// The questions 6 to 9 of one axis: the first whose answer is no refuses.
+pub fn partition_refusal(limit: u32, setup: AxisSetup, slots: SlotList, merges: MergeList) -> Result<(), Refusal>
+    ensures { partition.no_of result ≡ partition.first_no limit setup slots.entry.indexes.now slots.entry.sizes.now
+        merges.entry.firsts.now merges.entry.lasts.now }
 {
-    let six = (indexes.len() == sizes.len())
-        & (merge_firsts.len() == merge_lasts.len())
-        & (setup.first <= setup.last)
-        & pairs_ordered(merge_firsts, merge_lasts);
-    let seven = (setup.last <= limit) & all_within(merge_lasts, limit);
-    let eight = rising_within(indexes, limit);
-    let nine = all_small(sizes);
-    no_or(6, six, no_or(7, seven, no_or(8, eight, no_or(9, nine, 0))))
+    let six = formed(slots, merges) & (setup.first <= setup.last);
+    if !six {
+        return Err(Refusal::MalformedLists);
+    }
+    let seven = (setup.last <= limit) & all_within(merges.lasts, limit);
+    if !seven {
+        return Err(Refusal::OutsideGrid);
+    }
+    if !rising_within(slots.indexes, limit) {
+        return Err(Refusal::IndexesNotRising);
+    }
+    if !all_small(slots.sizes) {
+        return Err(Refusal::SizeOutOfRange);
+    }
+    Ok(())
 }
 
 // The first of the questions 4, 6, 7, 15, 8 and 9 whose answer is no, or 0. Cells are counted only where 4, 6 and 7 are answered with yes.
@@ -186,13 +175,24 @@ pub fn plan_refusal(
 {
     let asked = ask_areas(areas);
     let four = (1 <= areas.count) & (areas.count <= 8);
-    let six = formed(row_indexes, row_sizes, merge_first_rows, merge_last_rows)
-        & formed(
-            column_indexes,
-            column_sizes,
-            merge_first_columns,
-            merge_last_columns,
-        )
+    let row_slots = SlotList {
+        indexes: row_indexes,
+        sizes: row_sizes,
+    };
+    let row_merges = MergeList {
+        firsts: merge_first_rows,
+        lasts: merge_last_rows,
+    };
+    let column_slots = SlotList {
+        indexes: column_indexes,
+        sizes: column_sizes,
+    };
+    let column_merges = MergeList {
+        firsts: merge_first_columns,
+        lasts: merge_last_columns,
+    };
+    let six = formed(row_slots, row_merges)
+        & formed(column_slots, column_merges)
         & (merge_first_rows.len() == merge_first_columns.len())
         & asked.upright;
     let seven = all_within(merge_last_rows, MAX_WORKSHEET_ROW)

@@ -9,8 +9,8 @@ use lib.Seq.{drop-cons}
 use native.Mathlib.Numerals.{add-one}
 use lib.Dec.{ltb}
 use borrow.Author.Tests.{lt-ltb, le-ltb}
-use Rattle.planner_rules.specs.declared.runs.Held.{Held}
-use Rattle.planner_rules.specs.declared.runs.Held.TheVariants.{Free, By}
+use Rattle.std.specs.Prelude.{Option, Some, None}
+use Rattle.planner_rules.specs.declared.titles.Span.{Span}
 use Rattle.planner_rules.specs.declared.runs.Frame.{Frame}
 use Rattle.planner_rules.specs.declared.runs.Cut.{Cut}
 use Rattle.planner_rules.proofs.Laws.{either, part, turn, none, some}
@@ -20,12 +20,12 @@ use Rattle.planner_rules.specs.Titles.{title_holds}
 use Rattle.planner_rules.specs.Runs.{Run, holding, expansions, cut_at, moved, placed, kept, next_cut, stretch, axis_runs, shifts, runs, run, runs_by}
 use Rattle.planner_rules.specs.Runs.{first_marked, with_mark}
 
-module _ (held : Held) (f l prev p : ℕ) (is : List ℕ) (h : held ≡ By f l) (s : ℕ) (e : s ≡ below f is) where
+module _ (held : Option Span) (m : Span) (prev p : ℕ) (is : List ℕ) (h : held ≡ Some m) (s : ℕ) (e : s ≡ below m.first is) where
   pub moved_start : prev < s → cut_at s 1 ≡ moved held prev p is
   unfolding moved
   moved_start q = rw (h, ← e, lt-ltb prev s)
 
-  pub moved_past : s ≤ prev → (t : ℕ) → t ≡ through l is → cut_at t 1 ≡ moved held prev p is
+  pub moved_past : s ≤ prev → (t : ℕ) → t ≡ through m.last is → cut_at t 1 ≡ moved held prev p is
   unfolding moved
   moved_past q t e' = rw (h, ← e, ← e', le-ltb prev s)
 
@@ -47,10 +47,10 @@ module _ (k : Frame) (fs ls is : List ℕ) (prev p : ℕ) where
   unfolding placed
   placed_moved h q t = rw (lt-ltb 0 p, lt-ltb p (length is), t)
 
-  moved_shifted : (held : Held) → (moved held prev p is).shifted ≤ 1
+  moved_shifted : (held : Option Span) → (moved held prev p is).shifted ≤ 1
   unfolding moved
-  moved_shifted Free = omega arith
-  moved_shifted (By f l) = omega arith
+  moved_shifted None = omega arith
+  moved_shifted (Some s) = omega arith
 
   pub placed_shifted : (placed k fs ls is prev p).shifted ≤ 1
   unfolding placed

@@ -7,14 +7,14 @@ use native.Mathlib.Omega.{arith}
 use lib.ListN.{length, get_or, drop, drop_of_length-le}
 use lib.Seq.{drop-cons, drop-length}
 use borrow.Author.Tests.{lt-ltb, le-ltb, le-leb, lt-leb}
-use Rattle.planner_rules.specs.declared.runs.Held.{Held}
+use Rattle.std.specs.Prelude.{Option, Some, None}
+use Rattle.planner_rules.specs.declared.titles.Span.{Span}
 use Rattle.planner_rules.specs.declared.titles.Title.{Title}
 use Rattle.planner_rules.specs.declared.titles.Title.TheVariants.{Pair}
 use Rattle.planner_rules.proofs.Laws.{part, rest, either, either_lt, drop_back}
 use lib.Dec.{leb, ltb}
 use Rattle.planner_rules.specs.declared.runs.RunEnd.{RunEnd}
 use Rattle.planner_rules.specs.declared.runs.Frame.{Frame}
-use Rattle.planner_rules.specs.declared.runs.Held.TheVariants.{Free, By}
 use Rattle.planner_rules.specs.Slots.{below, through}
 use Rattle.planner_rules.specs.Runs.{ends, merge_step, merged, again, resumed, resumption, filled, taken, holding}
 
@@ -34,16 +34,16 @@ below_end k n l h = rw (drop_of_length-le l h)
 
 -- ---- the merge step, way by way
 
-module _ (held : Held) (f l n : ℕ) (is : List ℕ) (h : held ≡ By f l) where
-  pub step_start : (s : ℕ) → s ≡ below f is → 0 < s → ends s 0 ≡ merge_step held n is
+module _ (held : Option Span) (m : Span) (n : ℕ) (is : List ℕ) (h : held ≡ Some m) where
+  pub step_start : (s : ℕ) → s ≡ below m.first is → 0 < s → ends s 0 ≡ merge_step held n is
   unfolding merge_step
   step_start s e p = rw (h, ← e, lt-ltb 0 s)
 
-  pub step_far : (s t : ℕ) → s ≡ below f is → s ≤ 0 → t ≡ through l is → n < t → ends t 1 ≡ merge_step held n is
+  pub step_far : (s t : ℕ) → s ≡ below m.first is → s ≤ 0 → t ≡ through m.last is → n < t → ends t 1 ≡ merge_step held n is
   unfolding merge_step
   step_far s t e p e' q = rw (h, ← e, ← e', le-ltb 0 s, lt-ltb n t)
 
-  pub step_stay : (s t : ℕ) → s ≡ below f is → s ≤ 0 → t ≡ through l is → t ≤ n → ends n 0 ≡ merge_step held n is
+  pub step_stay : (s t : ℕ) → s ≡ below m.first is → s ≤ 0 → t ≡ through m.last is → t ≤ n → ends n 0 ≡ merge_step held n is
   unfolding merge_step
   step_stay s t e p e' q = rw (h, ← e, ← e', le-ltb 0 s, le-ltb n t)
 
@@ -140,12 +140,12 @@ through_front k (suc j) n (i ∷ is) e =
 abbrev pub Within : List ℕ → RunEnd → Type 0
 Within is r = (1 ≤ r.slots) × (r.slots ≤ length is) × (r.grown ≤ 1)
 
-merge_step-within : (held : Held) (n : ℕ) (is : List ℕ) → 1 ≤ n → n ≤ length is → Within is (merge_step held n is)
+merge_step-within : (held : Option Span) (n : ℕ) (is : List ℕ) → 1 ≤ n → n ≤ length is → Within is (merge_step held n is)
 unfolding merge_step
-merge_step-within Free n is h k = omega arith
-merge_step-within (By f l) n is h k =
-    either_lt (Within is) 0 (below f is) (λ p. omega (arith, below-le f is))
-    (λ p. either_lt (Within is) n (through l is) (λ q. omega (arith, through-le l is)) (λ q. omega arith))
+merge_step-within None n is h k = omega arith
+merge_step-within (Some s) n is h k =
+    either_lt (Within is) 0 (below s.first is) (λ p. omega (arith, below-le s.first is))
+    (λ p. either_lt (Within is) n (through s.last is) (λ q. omega (arith, through-le s.last is)) (λ q. omega arith))
 
 pub merged_within : (lo hi : ℕ) (fs ls : List ℕ) (n : ℕ) (is : List ℕ) → 1 ≤ n → n ≤ length is → Within is (merged lo hi fs ls n is)
 unfolding merged

@@ -7,8 +7,8 @@ use native.Mathlib.Omega.{arith}
 use lib.ListN.{length, get_or, take, drop, length-drop}
 use lib.Seq.{drop-drop}
 use borrow.Author.Tests.{lt-ltb, le-ltb, le-leb, lt-leb}
-use Rattle.planner_rules.specs.declared.runs.Held.{Held}
-use Rattle.planner_rules.specs.declared.runs.Held.TheVariants.{Free}
+use Rattle.std.specs.Prelude.{Option, Some, None}
+use Rattle.planner_rules.specs.declared.titles.Span.{Span}
 use Rattle.planner_rules.specs.Slots.{mid}
 use Rattle.planner_rules.specs.Titles.{holds, no_merge}
 use Rattle.planner_rules.specs.Runs.{nearer, holding, holding_onto}
@@ -18,16 +18,16 @@ use Rattle.planner_rules.proofs.QuestionLaws.{both}
 -- ---- one merge
 
 -- a pair that starts at b or past it does not hold b, wherever its first is clipped to
-nearer_late : (lo f l b : ℕ) (held : Held) → b ≤ f → nearer (max f lo) l b held ≡ held
+nearer_late : (lo f l b : ℕ) (held : Option Span) → b ≤ f → nearer (max f lo) l b held ≡ held
 unfolding nearer
 nearer_late lo f l b held h = rw (le-ltb (max f lo) b (omega arith))
 
 -- nor does one that ends before b
-nearer_short : (hi f l b : ℕ) (held : Held) → l < b → nearer f (min l hi) b held ≡ held
+nearer_short : (hi f l b : ℕ) (held : Option Span) → l < b → nearer f (min l hi) b held ≡ held
 unfolding nearer
 nearer_short hi f l b held h = rw (lt-leb b (min l hi) (omega arith), and-false)
 
-nearer_free : (lo hi f l b : ℕ) (held : Held) → not (holds f l b) ≡ true → nearer (max f lo) (min l hi) b held ≡ held
+nearer_free : (lo hi f l b : ℕ) (held : Option Span) → not (holds f l b) ≡ true → nearer (max f lo) (min l hi) b held ≡ held
 nearer_free lo hi f l b held h =
     split b f (λ p. nearer_late lo f (min l hi) b held p)
     (λ p.
@@ -36,7 +36,7 @@ nearer_free lo hi f l b held h =
 
 -- ---- from the last one back
 
-module _ (lo hi b : ℕ) (held : Held) where
+module _ (lo hi b : ℕ) (held : Option Span) where
   nothing_left : (fs : List ℕ) → holding_onto lo hi b fs [] held ≡ held
   unfolding holding_onto
   nothing_left [] = refl
@@ -65,14 +65,14 @@ module _ (lo hi b : ℕ) (held : Held) where
 -- ---- a part of the merges
 
 module _ (lo hi b : ℕ) where
-  none_left : (fs : List ℕ) → Free ≡ holding lo hi b fs []
+  none_left : (fs : List ℕ) → None ≡ holding lo hi b fs []
   unfolding holding
   none_left [] = refl
   none_left (f ∷ fs) = refl
 
-  pub holding_end : (i : ℕ) (fs ls : List ℕ) → min (length fs) (length ls) ≤ i → Free ≡ holding lo hi b (drop i fs) (drop i ls)
+  pub holding_end : (i : ℕ) (fs ls : List ℕ) → min (length fs) (length ls) ≤ i → None ≡ holding lo hi b (drop i fs) (drop i ls)
   unfolding holding
-  holding_end i fs ls h = run_out (λ (xs ys : List ℕ). Free ≡ holding lo hi b xs ys) fs ls i h (λ ys. refl) none_left
+  holding_end i fs ls h = run_out (λ (xs ys : List ℕ). None ≡ holding lo hi b xs ys) fs ls i h (λ ys. refl) none_left
 
   -- the first m of them, and the others
   holding_split : (m : ℕ) (fs ls : List ℕ) → m ≤ length fs → m ≤ length ls

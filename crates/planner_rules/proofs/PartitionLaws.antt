@@ -9,10 +9,11 @@ use native.Mathlib.Decide.{dec_le}
 use lib.Dec.{leb, ltb}
 use lib.ListN.{length}
 use borrow.Author.Tests.{le-leb, lt-leb, lt-ltb, eqb-true}
+use Rattle.std.specs.Prelude.{Result, Ok, Err}
+use Rattle.units.specs.declared.refusal.Refusal.{Refusal}
 use Rattle.units.specs.Outcome.{Outcome, given, refused}
+use Rattle.units.specs.Refusals.{number_of}
 use Rattle.planner_rules.specs.declared.partition.AxisSetup.{AxisSetup}
-use Rattle.planner_rules.specs.declared.partition.Partition.{Partition}
-use Rattle.planner_rules.specs.declared.partition.Partition.TheVariants.{Value, Refused}
 use Rattle.planner_rules.specs.declared.runs.Frame.{Frame}
 use Rattle.planner_rules.specs.declared.runs.Tally.{Tally}
 use Rattle.planner_rules.specs.Slots.{Slots, below, mid}
@@ -114,11 +115,11 @@ module _ (s : AxisSetup) (is ss fs ls bs : List ℕ) (h : below (s.last + 1) is 
 
 -- ---- the answer and the lent list
 
-pub refuses : (o : Outcome Tally) (rs : List Run) (n : ℕ) (l : List ℕ) → o ≡ refused n → Answered o rs (Refused n) l l
+pub refuses : (o : Outcome Tally) (rs : List Run) (n : Refusal) (l : List ℕ) → o ≡ refused (number_of n) → Answered o rs (Err n) l l
 refuses o rs n l e = rw e (record { answer = refl; list_is = refl })
 
 pub answers : (o : Outcome Tally) (rs : List Run) (t : Tally) (n : ℕ) (old new : List ℕ) → o ≡ given t → Written rs n old new
-    → Answered o rs (Value t) old new
+    → Answered o rs (Ok t) old new
 answers o rs t n old new e w = rw e (record { answer = refl; list_is = w.list_is })
 
 pub no_room : (rs : List Run) (t : Tally) (room : ℕ) → room < length rs → room_for rs t room ≡ refused 11
@@ -129,7 +130,7 @@ room_enough rs t room h = rw (le-leb (length rs) room h)
 
 -- an empty body: nothing is written
 pub answers_empty : (s : AxisSetup) (is ss fs ls bs list : List ℕ) → below (s.last + 1) is ≤ below (body_start s.title s.first) is
-    → Answered (fits s is ss fs ls bs (room_in list)) (body_runs s is ss fs ls bs) (Value (tallies 0 0 0)) list list
+    → Answered (fits s is ss fs ls bs (room_in list)) (body_runs s is ss fs ls bs) (Ok (tallies 0 0 0)) list list
 unfolding flat
 answers_empty s is ss fs ls bs list h =
     rw (empty_runs s is ss fs ls bs h, empty_tally s is ss fs ls bs h, le-leb 0 (room_in list) (omega arith))
@@ -147,7 +148,7 @@ module _ (s : AxisSetup) (is ss fs ls bs : List ℕ) (start from to : ℕ) where
   found_tally = axis_tally (frame_at s start) fs ls (mid from to is) (mid from to ss) bs
 
   pub found_body : start ≡ body_start s.title s.first → from ≡ below start is → to ≡ below (s.last + 1) is
-      → (n : ℕ) (r : Partition) (old new : List ℕ) → Answered (room_for found found_tally n) found r old new
+      → (n : ℕ) (r : Result Tally Refusal) (old new : List ℕ) → Answered (room_for found found_tally n) found r old new
       → Answered (fits s is ss fs ls bs n) (body_runs s is ss fs ls bs) r old new
   unfolding body_runs body_tally
   found_body e₁ e₂ e₃ n r old new h = rw (← e₁, ← e₂, ← e₃) h

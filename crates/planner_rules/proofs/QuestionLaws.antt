@@ -1,6 +1,6 @@
 -- Laws of `specs/Questions.antt`'s definitions: for the loops of crate `planner_questions`, and what a "yes" says of every item. Assumes nothing.
 use mathlib.Core.Path.{◌≡◌, refl, sym, ap, ◌∙◌}
-use mathlib.Core.Bool.{Bool, true, false, ◌&&◌, and-true, and-false}
+use mathlib.Core.Bool.{Bool, true, false, ◌&&◌, and-true, and-false, and_assoc}
 use mathlib.Core.List.{List, [], ◌∷◌}
 use Prim.Native.Nat.{ℕ, zero, suc, ◌+◌, ◌-◌, ◌≤◌, ◌<◌, ◌^◌, min}
 use native.Mathlib.Nat.{lt_of_not-le}
@@ -9,7 +9,9 @@ use native.Mathlib.Numerals.{add-one}
 use native.Mathlib.Omega.{arith}
 use lib.Bits.{bit_or, or_lt, or_add_and, and_le_l, and_le_r}
 use lib.Dec.{leb, ltb}
-use lib.ListN.{length, get_or, drop, drop_of_length-le}
+use Rattle.std.specs.Prelude.{fold}
+use Rattle.std.specs.List.{list_all, zip}
+use lib.ListN.{length, get_or, drop}
 use lib.Seq.{drop-cons}
 use borrow.Author.Tests.{le-leb, lt-leb, leb-true, ltb-true}
 use Rattle.planner_rules.specs.Slots.{Slots}
@@ -43,39 +45,18 @@ yes_then n false k more rest p f e = absurd (omega arith)
 pub no_number : {A : Type 0} (o : Outcome A) → 0 < 0 → o ≡ refused 0
 no_number o h = absurd (omega arith)
 
--- ---- the loops: the item at n decides, or none is left
+-- ---- the definitions as one test of every item
 
-none_below : (fs : List ℕ) → all_ordered fs [] ≡ true
+pub ordered_all : (fs ls : List ℕ) → list_all (λ (p : ℕ × ℕ). leb p.0 p.1) (zip fs ls) ≡ all_ordered fs ls
 unfolding all_ordered
-none_below [] = refl
-none_below (f ∷ fs) = refl
+ordered_all [] ls = refl
+ordered_all (f ∷ fs) [] = refl
+ordered_all (f ∷ fs) (l ∷ ls) = ap (λ (b : Bool). leb f l && b) (ordered_all fs ls)
 
-module _ (n : ℕ) (fs ls : List ℕ) where
-  pub ordered_yes : n < length fs → n < length ls → get_or fs n 0 ≤ get_or ls n 0
-      → all_ordered (drop n fs) (drop n ls) ≡ all_ordered (drop (n + 1) fs) (drop (n + 1) ls)
-  unfolding all_ordered
-  ordered_yes h k p = rw (add-one, drop-cons fs n 0, drop-cons ls n 0, le-leb (get_or fs n 0) (get_or ls n 0))
-
-  pub ordered_no : n < length fs → n < length ls → get_or ls n 0 < get_or fs n 0 → all_ordered (drop n fs) (drop n ls) ≡ false
-  unfolding all_ordered
-  ordered_no h k p = rw (drop-cons fs n 0, drop-cons ls n 0, lt-leb (get_or fs n 0) (get_or ls n 0))
-
-  pub ordered_end : min (length fs) (length ls) ≤ n → all_ordered (drop n fs) (drop n ls) ≡ true
-  unfolding all_ordered
-  ordered_end h = run_out (λ (xs ys : List ℕ). all_ordered xs ys ≡ true) fs ls n h (λ ys. refl) none_below
-
-module _ (limit n : ℕ) (l : List ℕ) where
-  pub within_yes : n < length l → get_or l n 0 ≤ limit → all_within limit (drop n l) ≡ all_within limit (drop (n + 1) l)
-  unfolding all_within
-  within_yes h p = rw (add-one, drop-cons l n 0, le-leb (get_or l n 0) limit)
-
-  pub within_no : n < length l → limit < get_or l n 0 → all_within limit (drop n l) ≡ false
-  unfolding all_within
-  within_no h p = rw (drop-cons l n 0, lt-leb (get_or l n 0) limit)
-
-  pub within_end : length l ≤ n → all_within limit (drop n l) ≡ true
-  unfolding all_within
-  within_end h = rw (drop_of_length-le l h)
+pub within_all : (limit : ℕ) (xs : List ℕ) → list_all (λ x. leb x limit) xs ≡ all_within limit xs
+unfolding all_within
+within_all limit [] = refl
+within_all limit (x ∷ xs) = ap (λ (b : Bool). leb x limit && b) (within_all limit xs)
 
 -- the bits of two numbers together make a number within 30 bits, if both are
 or-small : (a b : ℕ) → leb (bit_or a b) 1073741823 ≡ (leb a 1073741823 && leb b 1073741823)
@@ -96,11 +77,15 @@ or-small a b =
           ]
     ]
 
--- one size more, from the last one back
-pub small_back : (i bits : ℕ) (l : List ℕ) → 0 < i → i ≤ length l → leb bits 1073741823 ≡ all_small (drop i l)
-    → leb (bit_or (get_or l (i - 1) 0) bits) 1073741823 ≡ all_small (drop (i - 1) l)
-unfolding all_small all_within
-small_back i bits l h k e = or-small (get_or l (i - 1) 0) bits ∙ rw (drop_back l i 0) (rw e)
+-- and of many sizes together, if all are
+bits_from : (bits : ℕ) (l : List ℕ) → leb (fold bit_or bits l) 1073741823 ≡ (leb bits 1073741823 && all_within 1073741823 l)
+unfolding all_within
+bits_from bits [] = sym (and-true _)
+bits_from bits (x ∷ l) = rw (bits_from (bit_or bits x) l, or-small bits x) (and_assoc (leb bits 1073741823) (leb x 1073741823) (all_within 1073741823 l))
+
+pub bits_small : (l : List ℕ) → leb (fold bit_or 0 l) 1073741823 ≡ all_small l
+unfolding all_small
+bits_small l = bits_from 0 l
 
 -- one index more, from the last one back
 pub rising_back : (i : ℕ) (l : List ℕ) → 1 < i → i ≤ length l

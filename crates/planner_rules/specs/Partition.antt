@@ -1,12 +1,12 @@
 -- The call that cuts an axis into lent lists: the body of a range (document 01, "Titles"), its runs ("Runs") and what is asked first
 -- ("Questions in order"). Assumes nothing.
-use Rattle.std.specs.Prelude.{◌≡◌, ◌&&◌, List, ℕ, ◌+◌, leb, length}
+use Rattle.std.specs.Prelude.{◌≡◌, ◌&&◌, Result, Ok, Err, List, ℕ, ◌+◌, leb, length}
+use Rattle.units.specs.declared.refusal.Refusal.{Refusal}
 use Rattle.units.specs.Outcome.{Outcome, given, refused}
+use Rattle.units.specs.Refusals.{number_of, outcome}
 use Rattle.planner_rules.specs.declared.runs.Frame.{Frame}
 use Rattle.planner_rules.specs.declared.runs.Tally.{Tally}
 use Rattle.planner_rules.specs.declared.partition.AxisSetup.{AxisSetup}
-use Rattle.planner_rules.specs.declared.partition.Partition.{Partition}
-use Rattle.planner_rules.specs.declared.partition.Partition.TheVariants.{Value, Refused}
 use Rattle.planner_rules.specs.Slots.{below, mid, written}
 use Rattle.planner_rules.specs.Questions.{ask, no_or, well_formed, all_within, rising_within, all_small}
 use Rattle.planner_rules.specs.Titles.{body_start}
@@ -46,22 +46,22 @@ partition limit s is ss fs ls bs list =
     (ask 9 (all_small ss)
     (fits s is ss fs ls bs (room_in list)))))
 
--- the value or the number that each case of `Partition` stands for
-abbrev pub partition_outcome : Partition → Outcome Tally
-partition_outcome (Value t) = given t
-partition_outcome (Refused n) = refused n
-
 -- a lent list after the call: the values and what stood behind them, or, where the call is refused, the list as it was
 abbrev pub lent : {A : Type 0} → Outcome A → List ℕ → List ℕ → List ℕ
 lent (given a) values old = written values old
 lent (refused n) values old = old
 
 -- the answer r and the lent list, which was `before`, where the outcome is o and the runs are rs
-pub record Answered (o : Outcome Tally) (rs : List Run) (r : Partition) (before after : List ℕ) : Type 0 where
-  pub answer : partition_outcome r ≡ o
+pub record Answered (o : Outcome Tally) (rs : List Run) (r : Result Tally Refusal) (before after : List ℕ) : Type 0 where
+  pub answer : outcome r ≡ o
   pub list_is : after ≡ lent o (flat rs) before
 
 -- ---- for the private functions
+
+-- the number of a refusal, or 0 where nothing was refused
+abbrev pub no_of : {A : Type 0} → Result A Refusal → ℕ
+no_of (Ok a) = 0
+no_of (Err r) = number_of r
 
 -- the first of the questions 6 to 9 with the answer no, or 0
 unfoldable pub first_no : ℕ → AxisSetup → List ℕ → List ℕ → List ℕ → List ℕ → ℕ

@@ -1,10 +1,9 @@
 -- Document 01, section "Runs". Everything is said of the slots from a run's first on: is are their indexes, ss their sizes, n how many
 -- the run has so far. Merges are two lists side by side: firsts and lasts. Assumes nothing.
-use Rattle.std.specs.Prelude.{cond, List, [], ◌∷◌, ◌++◌, ℕ, zero, suc, pred, ◌+◌, ◌-◌, min, max, length, get_or, take, drop, leb, ltb}
+use Rattle.std.specs.Prelude.{Option, Some, None, cond, List, [], ◌∷◌, ◌++◌, ℕ, zero, suc, pred, ◌+◌, ◌-◌, min, max, length, get_or, take, drop, leb, ltb}
 use Rattle.planner_rules.specs.declared.titles.Title.{Title}
 use Rattle.planner_rules.specs.declared.titles.Title.TheVariants.{Absent, Pair}
-use Rattle.planner_rules.specs.declared.runs.Held.{Held}
-use Rattle.planner_rules.specs.declared.runs.Held.TheVariants.{Free, By}
+use Rattle.planner_rules.specs.declared.titles.Span.{Span}
 use Rattle.planner_rules.specs.declared.runs.Frame.{Frame}
 use Rattle.planner_rules.specs.declared.runs.RunEnd.{RunEnd}
 use Rattle.planner_rules.specs.declared.runs.Cut.{Cut}
@@ -14,20 +13,24 @@ use Rattle.planner_rules.specs.Titles.{holds, title_holds, past_title}
 
 -- ---- merges
 
+-- a pair from f to l
+abbrev pub span : ℕ → ℕ → Span
+span f l = record { first = f; last = l }
+
 -- "the earliest by first, then last"
-unfoldable pub earlier : ℕ → ℕ → Held → Held
-earlier f l Free = By f l
-earlier f l (By g m) = cond (ltb f g) (By f l) (cond (ltb g f) (By g m) (By f (min l m)))
+unfoldable pub earlier : ℕ → ℕ → Option Span → Option Span
+earlier f l None = Some (span f l)
+earlier f l (Some s) = cond (ltb f s.first) (Some (span f l)) (cond (ltb s.first f) (Some s) (Some (span f (min l s.last))))
 
 -- a pair counts if it holds b
-unfoldable pub nearer : ℕ → ℕ → ℕ → Held → Held
+unfoldable pub nearer : ℕ → ℕ → ℕ → Option Span → Option Span
 nearer f l b held = cond (holds f l b) (earlier f l held) held
 
 -- the merge that is used at the boundary b: "Merges .. are clipped to that stretch; if several hold b, the earliest". One that holds b
 -- after clipping is of more than one slot and meets the stretch, so that neither is asked.
-unfoldable pub holding : ℕ → ℕ → ℕ → List ℕ → List ℕ → Held
-holding lo hi b [] ls = Free
-holding lo hi b (f ∷ fs) [] = Free
+unfoldable pub holding : ℕ → ℕ → ℕ → List ℕ → List ℕ → Option Span
+holding lo hi b [] ls = None
+holding lo hi b (f ∷ fs) [] = None
 holding lo hi b (f ∷ fs) (l ∷ ls) = nearer (max f lo) (min l hi) b (holding lo hi b fs ls)
 
 -- ---- natural filling
@@ -83,10 +86,10 @@ ends n g = record { slots = n; grown = g }
 
 -- "a merge that holds the present b and whose first slot is past p ends the run there; otherwise the run reaches past the merge's last slot,
 -- counting one expansion if that is further. The new boundary is not tested again."
-unfoldable pub merge_step : Held → ℕ → List ℕ → RunEnd
-merge_step Free n is = ends n 0
-merge_step (By f l) n is =
-    cond (ltb 0 (below f is)) (ends (below f is) 0) (cond (ltb n (through l is)) (ends (through l is) 1) (ends n 0))
+unfoldable pub merge_step : Option Span → ℕ → List ℕ → RunEnd
+merge_step None n is = ends n 0
+merge_step (Some s) n is =
+    cond (ltb 0 (below s.first is)) (ends (below s.first is) 0) (cond (ltb n (through s.last is)) (ends (through s.last is) 1) (ends n 0))
 
 -- the run's end, where n slots were taken: if slots remain, the merge step
 unfoldable pub merged : ℕ → ℕ → List ℕ → List ℕ → ℕ → List ℕ → RunEnd
@@ -139,9 +142,9 @@ cut_at c s = record { place = c; shifted = s }
 
 -- "If a merge holds it, the cut moves to the merge's first slot if that is past the last kept cut, else past its last slot, and a shift is
 -- counted"
-unfoldable pub moved : Held → ℕ → ℕ → List ℕ → Cut
-moved Free prev p is = cut_at p 0
-moved (By f l) prev p is = cut_at (cond (ltb prev (below f is)) (below f is) (through l is)) 1
+unfoldable pub moved : Option Span → ℕ → ℕ → List ℕ → Cut
+moved None prev p is = cut_at p 0
+moved (Some s) prev p is = cut_at (cond (ltb prev (below s.first is)) (below s.first is) (through s.last is)) 1
 
 -- "Position 0 or the end is skipped; so is a boundary held by the title." Skipped, the cut is the last kept one.
 unfoldable pub placed : Frame → List ℕ → List ℕ → List ℕ → ℕ → ℕ → Cut
@@ -198,7 +201,7 @@ axis_tally k fs ls is ss bs =
 -- ---- for the private functions
 
 -- the merge that is used, of these merges and of what was found before
-unfoldable pub holding_onto : ℕ → ℕ → ℕ → List ℕ → List ℕ → Held → Held
+unfoldable pub holding_onto : ℕ → ℕ → ℕ → List ℕ → List ℕ → Option Span → Option Span
 holding_onto lo hi b [] ls held = held
 holding_onto lo hi b (f ∷ fs) [] held = held
 holding_onto lo hi b (f ∷ fs) (l ∷ ls) held = nearer (max f lo) (min l hi) b (holding_onto lo hi b fs ls held)

@@ -1,7 +1,7 @@
 -- Document 01, section "Titles". Assumes nothing.
 use Rattle.std.specs.Prelude.{Bool, true, false, cond, not, ◌&&◌, List, [], ◌∷◌, ℕ, zero, suc, ◌+◌, min, max, leb, ltb, eqb, length}
 use Rattle.units.specs.Grid.{last_row, last_column}
-use Rattle.units.specs.Outcome.{Outcome, given, refused}
+use Rattle.units.specs.Outcome.{Outcome, given}
 use Rattle.planner_rules.specs.declared.titles.Axis.{Axis}
 use Rattle.planner_rules.specs.declared.titles.Axis.TheVariants.{Rows, Columns}
 use Rattle.planner_rules.specs.declared.titles.Title.{Title}
@@ -10,8 +10,6 @@ use Rattle.planner_rules.specs.declared.titles.Normalized.{Normalized}
 use Rattle.planner_rules.specs.declared.titles.Span.{Span}
 use Rattle.planner_rules.specs.declared.titles.Expanded.{Expanded}
 use Rattle.planner_rules.specs.declared.titles.Widened.{Widened}
-use Rattle.planner_rules.specs.declared.titles.Widening.{Widening}
-use Rattle.planner_rules.specs.declared.titles.Widening.TheVariants.{Value, Refused}
 use Rattle.planner_rules.specs.Slots.{sum, below, mid}
 use Rattle.planner_rules.specs.Questions.{ask, equally_long, all_ordered, all_within}
 
@@ -96,11 +94,6 @@ unfoldable pub widened : ℕ → Title → List ℕ → List ℕ → Widened
 widened limit title fs ls = widened_from fs ls (normalized limit title).title (normalized limit title).ignored
 
 -- ---- the call
-
--- the value or the number that each case of `Widening` stands for
-abbrev pub widening_outcome : Widening → Outcome Widened
-widening_outcome (Value w) = given w
-widening_outcome (Refused n) = refused n
 
 -- questions 6 and 7 of the merges, then the title ("titles are never refused")
 unfoldable pub widen_title : ℕ → Title → List ℕ → List ℕ → Outcome Widened

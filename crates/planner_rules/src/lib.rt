@@ -14,12 +14,12 @@ pub use pages::{
     AreaPlan, AreaPlans, Found, Listing, Notes, Page, PageAnswer, PageOrder, PageRun, Place, Plan,
     Spot,
 };
-pub use partition::{AxisSetup, Partition};
+pub use partition::AxisSetup;
 pub use planning::{
     AreaNotes, Areas, AxisRange, ContentSides, CountedArea, CountedAreas, FinalCut, Frames,
     Planning, Prepared, PrintRange, Ready, ReadyArea, ReadyTitle, RunCounts, Settings, Shared,
     SidesFound, Writing,
 };
-pub use runs::{Cut, Frame, Held, RUN_NUMBERS, RunEnd, Tally};
+pub use runs::{Cut, Frame, RUN_NUMBERS, RunEnd, Tally};
 pub use scale::{ChosenScale, Fit, PageSide, Stretch};
-pub use titles::{Axis, Expanded, Normalized, Span, Title, Widened, Widening};
+pub use titles::{Axis, Expanded, Normalized, Span, Title, Widened};

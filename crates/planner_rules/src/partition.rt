@@ -1,5 +1,4 @@
-// What the cut of an axis into lent lists takes and answers: document 01, section "Runs".
-use crate::runs::Tally;
+// What the cut of an axis into lent lists takes: document 01, section "Runs".
 use crate::titles::Title;
 
 // A range of an axis, its title as it was widened, and what fits on a page without and with the title.
@@ -10,11 +9,4 @@ pub struct AxisSetup {
     pub title: Title,
     pub untitled: u64,
     pub titled: u64,
-}
-
-// What `partition_axis_with_breaks` answers: how many runs, expansions and shifts, or a refusal with its number.
-#[derive(Clone, Copy)]
-pub enum Partition {
-    Value(Tally),
-    Refused(u8),
 }

@@ -4,13 +4,6 @@ use crate::titles::Title;
 // How many numbers a run has in a list of runs: first, last, size, and 1 where a manual break stands before it.
 pub const RUN_NUMBERS: usize = 4;
 
-// What holds a boundary: nothing, or a pair of a first and a last index.
-#[derive(Clone, Copy)]
-pub enum Held {
-    Free,
-    By(u32, u32),
-}
-
 // What the runs of an axis go by: two capacities, the title, and the stretch that merges are clipped to.
 #[derive(Clone, Copy)]
 pub struct Frame {

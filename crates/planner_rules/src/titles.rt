@@ -37,8 +37,8 @@ pub struct Normalized {
     pub ignored: u64,
 }
 
-// The pair of a title while merges widen it.
-#[derive(Clone, Copy)]
+// A pair of a first and a last index: a title while merges widen it, or a merge that holds a boundary.
+#[derive(Clone, Copy, PartialEq, Eq)]
 pub struct Span {
     pub first: u32,
     pub last: u32,
@@ -57,11 +57,4 @@ pub struct Widened {
     pub title: Title,
     pub ignored: u64,
     pub expanded: u64,
-}
-
-// What `widen_title` answers: the title, or a refusal with its number.
-#[derive(Clone, Copy)]
-pub enum Widening {
-    Value(Widened),
-    Refused(u8),
 }

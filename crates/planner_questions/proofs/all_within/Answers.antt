@@ -1,15 +1,12 @@
--- The item at the index decides, or none is left.
-use Rattle.std.proofs.Common.{sym, ◌∙◌, arith}
-use Rattle.planner_rules.proofs.QuestionLaws.{within_yes, within_no, within_end}
+-- Every index is asked.
+use Rattle.std.proofs.Common.{leb, ◌∙◌, rules, tests}
+use Rattle.std.proofs.lemmas.Iterator.{YieldsList-from_slice}
+use Rattle.std.proofs.lemmas.Iterator.Search.{all_from_yields_List}
+use Rattle.planner_rules.proofs.QuestionLaws.{within_all}
 use Rattle.planner_questions.proofs.all_within.Goals as goal
 
-pub returns-then-indexes-n : goal.returns-then-indexes-n
-returns-then-indexes-n c =
-    sym (within_no c.args.limit c.loop-n.n c.args.indexes.now (omega arith) c.if-indexes-n.true) ∙ c.loop-n.invariant.1
-
-pub loop-n-preserved : goal.loop-n-preserved
-loop-n-preserved c =
-    (omega arith, sym (within_yes c.args.limit c.loop-n.n c.args.indexes.now (omega arith) c.if-indexes-n.false) ∙ c.loop-n.invariant.1)
-
 pub returns : goal.returns
-returns c = sym (within_end c.args.limit c.loop-n.n c.args.indexes.now (omega arith)) ∙ c.loop-n.invariant.1
+returns c =
+    let a = c.args in
+    all_from_yields_List (λ x. leb x a.limit) _ _ _ c.all.ensures.ran (YieldsList-from_slice a.indexes.now cc) (λ x b q k. search (rules, tests))
+    ∙ within_all a.limit a.indexes.now

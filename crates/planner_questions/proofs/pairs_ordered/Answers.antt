@@ -1,19 +1,14 @@
--- The pair at the index decides, or none is left.
-use Rattle.std.proofs.Common.{sym, ◌∙◌, arith}
-use Rattle.planner_rules.proofs.QuestionLaws.{ordered_yes, ordered_no, ordered_end}
+-- Every pair is asked.
+use Rattle.std.proofs.Common.{ℕ, leb, ◌∙◌, rules, tests}
+use Rattle.std.proofs.lemmas.Iterator.{YieldsList-from_slice, YieldsList-from_zip}
+use Rattle.std.proofs.lemmas.Iterator.Search.{all_from_yields_List}
+use Rattle.planner_rules.proofs.QuestionLaws.{ordered_all}
 use Rattle.planner_questions.proofs.pairs_ordered.Goals as goal
 
-pub returns-then-firsts-n : goal.returns-then-firsts-n
-returns-then-firsts-n c =
-    sym (ordered_no c.loop-n.n c.args.firsts.now c.args.lasts.now (omega arith) (omega arith) c.if-firsts-n.true) ∙ c.loop-n.invariant.2
-
-pub loop-n-preserved : goal.loop-n-preserved
-loop-n-preserved c = (
-  omega arith,
-  omega arith,
-  sym (ordered_yes c.loop-n.n c.args.firsts.now c.args.lasts.now (omega arith) (omega arith) c.if-firsts-n.false)
-      ∙ c.loop-n.invariant.2,
-)
-
 pub returns : goal.returns
-returns c = sym (ordered_end c.loop-n.n c.args.firsts.now c.args.lasts.now (omega arith)) ∙ c.loop-n.invariant.2
+returns c =
+    let fs = c.args.merges.firsts.now in
+    let ls = c.args.merges.lasts.now in
+    all_from_yields_List (λ (p : ℕ × ℕ). leb p.0 p.1) c.all.new.self _ c.all.result c.all.ensures.ran
+    (YieldsList-from_zip {s = c.zip.result} (YieldsList-from_slice fs cc) (YieldsList-from_slice ls cc)) (λ x b q k. search (rules, tests))
+    ∙ ordered_all fs ls

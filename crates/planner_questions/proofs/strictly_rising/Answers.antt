@@ -6,13 +6,11 @@ use Rattle.planner_questions.proofs.strictly_rising.Goals as goal
 pub loop-i-init : goal.loop-i-init
 loop-i-init c =
     let is = c.args.indexes.now in
-    (omega arith, sym (rising_end (length is - 1) is (omega arith)))
+    sym (rising_end (length is - 1) is (omega arith))
 
 pub loop-i-preserved : goal.loop-i-preserved
 loop-i-preserved c =
     let is = c.args.indexes.now in
-    let l = c.loop-i in (
-      omega arith,
-      ap (λ (b : Bool). ltb (get_or is (l.i - 1 - 1) 0) (get_or is (l.i - 1) 0) && b) l.invariant.1
-          ∙ sym (rising_back l.i is (omega arith) l.invariant.0),
-    )
+    let l = c.loop-i in
+    ap (λ (b : Bool). ltb (get_or is (l.i - 1 - 1) 0) (get_or is (l.i - 1) 0) && b) l.invariant
+    ∙ sym (rising_back l.i is (omega arith) (omega arith))
