@@ -4,6 +4,6 @@
 mod paper;
 
 pub use paper::{
-    Content, ContentGeometry, MarginSetting, Margins, Paper, PaperGeometry, Setting,
-    content_geometry, paper_geometry,
+    ContentGeometry, MarginSetting, Margins, Paper, PaperGeometry, Setting, content_geometry,
+    paper_geometry,
 };

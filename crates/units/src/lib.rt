@@ -54,7 +54,16 @@ impl Fixed {
     {
         within(self.0.checked_sub(other.0))
     }
+
+    // What is left of it after two others, one after the other.
+    pub fn less_both(self, first: Fixed, second: Fixed) -> Result<Fixed, Refusal>
+        ensures { length_outcome result ≡ less_of (less_of (given self.0) (given first.0)) (given second.0) }
+    {
+        self.less(first)?.less(second)
+    }
 }
+
+const _: () = prove!(Fixed::ZERO.0 == 0);
 
 // The length of so many units, where they are an i64.
 fn within(units: Option<i64>) -> Result<Fixed, Refusal>
@@ -117,13 +126,6 @@ pub fn scale_fixed(size: Fixed, permille: u16) -> Result<Fixed, Refusal>
     signed_ratio(size.0, permille, 500, 1000)
 }
 
-// What titles and headings leave of a side.
-fn body_of(side: Fixed, titles: Fixed, headings: Fixed) -> Result<Fixed, Refusal>
-    ensures { length_outcome result ≡ less_of (less_of (given side.0) (given titles.0)) (given headings.0) }
-{
-    side.less(titles)?.less(headings)
-}
-
 // The length, never under 1, and 1 where it overflowed.
 fn at_least_one(length: Result<Fixed, Refusal>) -> Fixed
     ensures { result.0 ≡ at_least_one (length_outcome length) }
@@ -147,7 +149,7 @@ pub fn unscaled_capacity(
         return Err(Refusal::CoordinateOverflow);
     }
     let whole = signed_ratio(side.0, 1000, 0, permille)?;
-    Ok(at_least_one(body_of(whole, titles, headings)))
+    Ok(at_least_one(whole.less_both(titles, headings)))
 }
 
 // Inches × 96 × 1,024, to the nearest unit.
