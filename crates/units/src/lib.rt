@@ -4,7 +4,7 @@
 mod grid;
 mod refusal;
 
-ghost use Rattle.std.specs.Prelude.{◌≡◌, ◌+◌, ◌*◌, ◌/◌, ◌^◌, ◌<◌, min, unsigned_abs, MatchOption};
+ghost use Rattle.std.specs.Prelude.{◌≡◌, ◌+◌, ◌*◌, ◌/◌, ◌^◌, ◌<◌, min, pos, unsigned_abs, MatchOption};
 ghost use Rattle.units.specs.Outcome.{given, refused};
 ghost use Rattle.units.specs.Units.{length_outcome, in_i64, signed_ratio, less_of, at_least_one, scale_fixed, unscaled_capacity, inches_to_fixed};
 
@@ -63,7 +63,13 @@ impl Fixed {
     }
 }
 
-const _: () = prove!(Fixed::ZERO.0 == 0);
+impl Default for Fixed {
+    fn default() -> Self
+        ensures { result.0 ≡ pos 0 }
+    {
+        Self::ZERO
+    }
+}
 
 // The length of so many units, where they are an i64.
 fn within(units: Option<i64>) -> Result<Fixed, Refusal>
