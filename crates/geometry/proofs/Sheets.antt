@@ -1,35 +1,21 @@
 -- The code's tables of paper sizes are the definition's list of sheets, in units: one test, computed over the whole table. Assumes nothing.
-use Rattle.std.proofs.Common.{◌≡◌, ℕ, ◌<◌, ◌≤◌, Bool, true, false, cond, ◌&&◌, T, eqb, ltb, List, [], ◌∷◌, get_or, ℤ, pos, negsuc, refl, ap, subst, arith}
-use Rattle.std.proofs.Common.{eqb→eq, ltb→lt, le-ltb, lt-ltb, ne_eqb}
-use native.Mathlib.Decide.{dec_le}
+use Rattle.std.proofs.Common.{◌≡◌, ℕ, ◌<◌, Bool, true, false, cond, ◌&&◌, T, eqb, List, [], ◌∷◌, get_or, ℤ, pos, negsuc, refl, ap, subst, sym, ◌∙◌, drop}
+use Rattle.std.proofs.Common.{eqb→eq, eqb-true, eq-eqb, ne_eqb, length, drop-cons, add-one, ◌+◌}
 use lib.Ieee.{mul, div, round, of_int}
 use lib.Ieee.Fits.{and_l, and_r}
 use Rattle.units.specs.Outcome.{Outcome, given, refused}
 use Rattle.units.specs.Units.{inches_to_fixed}
 use Rattle.geometry.specs.Paper.{Sheet, PaperFound, letter, sheets, resolved, upright}
-use Rattle.geometry.proofs.Table.{at}
 
-abbrev pub widths : List ℕ
-widths =
-    0 ∷ 835584 ∷ 835584 ∷ 1081344 ∷ 1671168 ∷ 835584 ∷ 540672 ∷ 712704 ∷ 1149460 ∷ 812750 ∷
-    812750 ∷ 572795 ∷ 967559 ∷ 681162 ∷ 835584 ∷ 832101 ∷ 983040 ∷ 1081344 ∷ 835584 ∷ 380928 ∷
-    405504 ∷ 442368 ∷ 466944 ∷ 491520 ∷ 1671168 ∷ 2162688 ∷ 3342336 ∷ 425726 ∷ 626978 ∷ 1253957 ∷
-    886284 ∷ 441207 ∷ 0 ∷ 0 ∷ 0 ∷ 0 ∷ 0 ∷ 0 ∷ 0 ∷ 0 ∷
-    0 ∷ 0 ∷ 967559 ∷ 387024 ∷ 0 ∷ 0 ∷ 0 ∷ 0 ∷ 0 ∷ 0 ∷
-    0 ∷ 0 ∷ 0 ∷ 0 ∷ 0 ∷ 0 ∷ 0 ∷ 0 ∷ 0 ∷ 0 ∷
-    0 ∷ 0 ∷ 0 ∷ 0 ∷ 0 ∷ 0 ∷ 1625499 ∷ 0 ∷ 0 ∷ 0 ∷
-    406375 ∷ []
-
-abbrev pub heights : List ℕ
-heights =
-    0 ∷ 1081344 ∷ 1081344 ∷ 1671168 ∷ 1081344 ∷ 1376256 ∷ 835584 ∷ 1032192 ∷ 1625499 ∷ 1149460 ∷
-    1149460 ∷ 812750 ∷ 1366193 ∷ 967559 ∷ 1277952 ∷ 1064315 ∷ 1376256 ∷ 1671168 ∷ 1081344 ∷ 872448 ∷
-    933888 ∷ 1019904 ∷ 1081344 ∷ 1130496 ∷ 2162688 ∷ 3342336 ∷ 4325376 ∷ 851452 ∷ 886284 ∷ 1772568 ∷
-    1253957 ∷ 626978 ∷ 0 ∷ 0 ∷ 0 ∷ 0 ∷ 0 ∷ 0 ∷ 0 ∷ 0 ∷
-    0 ∷ 0 ∷ 1366193 ∷ 572795 ∷ 0 ∷ 0 ∷ 0 ∷ 0 ∷ 0 ∷ 0 ∷
-    0 ∷ 0 ∷ 0 ∷ 0 ∷ 0 ∷ 0 ∷ 0 ∷ 0 ∷ 0 ∷ 0 ∷
-    0 ∷ 0 ∷ 0 ∷ 0 ∷ 0 ∷ 0 ∷ 2298920 ∷ 0 ∷ 0 ∷ 0 ∷
-    572795 ∷ []
+abbrev pub table : List (ℕ × ℕ × ℕ)
+table =
+    (1, 835584, 1081344) ∷ (2, 835584, 1081344) ∷ (3, 1081344, 1671168) ∷ (4, 1671168, 1081344) ∷ (5, 835584, 1376256) ∷
+    (6, 540672, 835584) ∷ (7, 712704, 1032192) ∷ (8, 1149460, 1625499) ∷ (9, 812750, 1149460) ∷ (10, 812750, 1149460) ∷
+    (11, 572795, 812750) ∷ (12, 967559, 1366193) ∷ (13, 681162, 967559) ∷ (14, 835584, 1277952) ∷ (15, 832101, 1064315) ∷
+    (16, 983040, 1376256) ∷ (17, 1081344, 1671168) ∷ (18, 835584, 1081344) ∷ (19, 380928, 872448) ∷ (20, 405504, 933888) ∷
+    (21, 442368, 1019904) ∷ (22, 466944, 1081344) ∷ (23, 491520, 1130496) ∷ (24, 1671168, 2162688) ∷ (25, 2162688, 3342336) ∷
+    (26, 3342336, 4325376) ∷ (27, 425726, 851452) ∷ (28, 626978, 886284) ∷ (29, 1253957, 1772568) ∷ (30, 886284, 1253957) ∷
+    (31, 441207, 626978) ∷ (42, 967559, 1366193) ∷ (43, 387024, 572795) ∷ (66, 1625499, 2298920) ∷ (70, 406375, 572795) ∷ []
 
 abbrev pub found : ℕ → ℕ → ℕ → ℕ → PaperFound
 found n w h u = record { code = n; width = pos w; height = pos h; unknown = u }
@@ -64,53 +50,53 @@ found_is (given p) n w h u t =
     ap given (λ i. record { code = e1 i; width = e2 i; height = e3 i; unknown = e4 i })
 found_is (refused k) n w h u t = absurd t
 
--- ---- the table's rule: a width above 0 is a listed code's, and any other code resolves to Letter
-right : ℕ → ℕ → Bool
-right k w =
-    cond (ltb 0 w) (is_found (upright (resolved k sheets)) k w (get_or heights k 0) 0) (is_found (upright (resolved k sheets)) 1 835584 1081344 1)
+-- ---- the table, row by row
 
-rule : (k : ℕ) → k < 71 → T (right k (get_or widths k 0))
-unfolding right is_found is_pos resolved sheets letter inches_to_fixed mul div round of_int
-rule k h = at right widths tt k h
+-- the paper of a code in such rows
+abbrev pub looked : ℕ → List (ℕ × ℕ × ℕ) → Outcome PaperFound
+looked n [] = given (found 1 835584 1081344 1)
+looked n (r ∷ rest) = cond (eqb n r.0) (given (found n r.1 r.2 0)) (looked n rest)
 
-pub listed : (k : ℕ) → k < 71 → 0 < get_or widths k 0 → upright (resolved k sheets) ≡ given (found k (get_or widths k 0) (get_or heights k 0) 0)
-unfolding right
-listed k h p =
-    found_is (upright (resolved k sheets)) k (get_or widths k 0) (get_or heights k 0) 0
-    (subst (λ (b : Bool). T
-    (cond b (is_found (upright (resolved k sheets)) k (get_or widths k 0) (get_or heights k 0) 0) (is_found (upright (resolved k sheets)) 1 835584 1081344 1)))
-    (lt-ltb 0 (get_or widths k 0) p) (rule k h))
+agree : List (ℕ × ℕ × ℕ) → List Sheet → Bool
+agree [] [] = true
+agree [] (s ∷ ss) = false
+agree (r ∷ rs) [] = false
+agree ((c, w, h) ∷ rs) (s ∷ ss) = eqb c s.code && is_found (upright (s, 0)) c w h 0 && agree rs ss
 
-gap : (k : ℕ) → k < 71 → get_or widths k 0 ≤ 0 → upright (resolved k sheets) ≡ given (found 1 835584 1081344 1)
-unfolding right
-gap k h p =
-    found_is (upright (resolved k sheets)) 1 835584 1081344 1
-    (subst (λ (b : Bool). T
-    (cond b (is_found (upright (resolved k sheets)) k (get_or widths k 0) (get_or heights k 0) 0) (is_found (upright (resolved k sheets)) 1 835584 1081344 1)))
-    (le-ltb 0 (get_or widths k 0) p) (rule k h))
+unlisted : given (found 1 835584 1081344 1) ≡ upright (letter, 1)
+unfolding letter inches_to_fixed mul div round of_int
+unlisted = refl
 
--- ---- past the table: no sheet has such a code
-all_below : ℕ → List Sheet → Bool
-all_below n [] = true
-all_below n (s ∷ rest) = ltb s.code n && all_below n rest
-
-past : (n k : ℕ) (ss : List Sheet) → T (all_below n ss) → n ≤ k → resolved k ss ≡ (letter, 1)
-unfolding resolved all_below
-past n k [] t h = refl
-past n k (s ∷ rest) t h =
-    let b : s.code < n = ltb→lt s.code n (and_l (ltb s.code n) (all_below n rest) t) in
-    rw (ne_eqb k s.code (apart s.code b)) (past n k rest (and_r (ltb s.code n) (all_below n rest) t) h)
+looked_is : (n : ℕ) (rs : List (ℕ × ℕ × ℕ)) (ss : List Sheet) → T (agree rs ss) → looked n rs ≡ upright (resolved n ss)
+unfolding agree resolved
+looked_is n [] [] t = unlisted
+looked_is n [] (s ∷ ss) t = absurd t
+looked_is n (r ∷ rs) [] t = absurd t
+looked_is n ((c, w, h) ∷ rs) (s ∷ ss) t =
+    let p = eqb c s.code in
+    let q = is_found (upright (s, 0)) c w h 0 in
+    let e : c ≡ s.code = eqb→eq c s.code (and_l p q (and_l (p && q) (agree rs ss) t)) in
+    let f : upright (s, 0) ≡ given (found c w h 0) = found_is (upright (s, 0)) c w h 0 (and_r p q (and_l (p && q) (agree rs ss) t)) in
+    subst (λ (k : ℕ). looked n ((c, w, h) ∷ rs) ≡ upright (cond (eqb n k) (s, 0) (resolved n ss))) e
+    (by (eqb n c) refl f (looked_is n rs ss (and_r (p && q) (agree rs ss) t)))
   where
-    apart : (m : ℕ) → m < n → k ≡ m → ⊥
-    apart m b e = omega arith
+    by : (b : Bool) → eqb n c ≡ b → upright (s, 0) ≡ given (found c w h 0) → looked n rs ≡ upright (resolved n ss)
+        → cond b (given (found n w h 0)) (looked n rs) ≡ upright (cond b (s, 0) (resolved n ss))
+    by true e f i = ap (λ (k : ℕ). given (found k w h 0)) (eqb-true n c e) ∙ sym f
+    by false e f i = i
 
-beyond : (k : ℕ) → 71 ≤ k → upright (resolved k sheets) ≡ given (found 1 835584 1081344 1)
-unfolding all_below sheets letter inches_to_fixed mul div round of_int
-beyond k h = ap upright (past 71 k sheets tt h)
+-- the code's table is the definition's list
+pub table_is : (n : ℕ) → looked n table ≡ upright (resolved n sheets)
+unfolding agree is_found is_pos sheets letter inches_to_fixed mul div round of_int
+table_is n = looked_is n table sheets tt
 
-pub unlisted : (k : ℕ) → (k < 71 → get_or widths k 0 ≤ 0) → upright (resolved k sheets) ≡ given (found 1 835584 1081344 1)
-unlisted k g = by (dec_le 71 k)
-  where
-    by : Dec (71 ≤ k) → upright (resolved k sheets) ≡ given (found 1 835584 1081344 1)
-    by (yes h) = beyond k h
-    by (no h) = let l : k < 71 = omega arith in gap k l (g l)
+-- ---- the table, as the loop goes over it
+module _ (l : List (ℕ × ℕ × ℕ)) (r : ℕ × ℕ × ℕ) (n i : ℕ) where
+  pub hit : i < length l → looked n (drop i l) ≡ looked n l → (get_or l i r).0 ≡ n
+      → given (found n (get_or l i r).1 (get_or l i r).2 0) ≡ looked n l
+  hit h e q =
+      sym (ap (looked n) (drop-cons l i r h) ∙ rw (eq-eqb n (get_or l i r).0 (sym q)) refl) ∙ e
+
+  pub pass : i < length l → looked n (drop i l) ≡ looked n l → ((get_or l i r).0 ≡ n → ⊥) → looked n (drop (i + 1) l) ≡ looked n l
+  pass h e q =
+      rw (add-one) (sym (ap (looked n) (drop-cons l i r h) ∙ rw (ne_eqb n (get_or l i r).0 (λ k. q (sym k))) refl) ∙ e)

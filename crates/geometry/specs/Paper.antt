@@ -1,12 +1,13 @@
 -- Document 01, section "Paper and content". Assumes nothing.
-use Rattle.std.specs.Prelude.{ℕ, Bool, true, false, cond, ◌&&◌, List, [], ◌∷◌, ℤ, pos, ◌==◌, Float, Option, Some, None, unwrap_or}
+use Rattle.std.specs.Prelude.{ℕ, Bool, true, false, cond, ◌&&◌, List, [], ◌∷◌, ℤ, pos, ◌==◌, Float, Option, Some, None, unwrap_or, Result, Ok, Err}
 use Rattle.std.specs.Float.{nan, inf, fin, binary64}
 use Rattle.std.specs.Float.Ieee.{add, div, lt, le, of_int, round}
 use Rattle.geometry.specs.declared.paper.Paper.{Paper}
 use Rattle.geometry.specs.declared.paper.Margins.{Margins}
-use Rattle.geometry.specs.declared.paper.Content.{Content}
-use Rattle.geometry.specs.declared.paper.Content.TheVariants.{Value, CoordinateOverflow}
+use Rattle.geometry.specs.declared.paper.ContentGeometry.{ContentGeometry}
+use Rattle.units.specs.declared.refusal.Refusal.{Refusal}
 use Rattle.units.specs.Outcome.{Outcome, given, refused, and_then}
+use Rattle.units.specs.Refusals.{number_of}
 use Rattle.units.specs.Units.{in_pixels, inches_to_fixed, less_of}
 
 -- ---- the list of papers: "Sizes per code are the Rust's list"; of five codes document 02, T-01: "ECMA-376's list decides the geometry"
@@ -189,17 +190,16 @@ content_geometry width height None = content_between width height default_margin
 content_geometry width height (Some m) =
     cond (margins_hold width height m) (content_between width height m 0) (content_between width height default_margins 1)
 
--- the values or the number that each case of `Content` stands for
-abbrev pub content_outcome : Content → Outcome Placed
-content_outcome (Value g) =
+-- the values or the number that an answer of `content_geometry` stands for
+abbrev pub content_outcome : Result ContentGeometry Refusal → Outcome Placed
+content_outcome (Ok g) =
     given (record {
       x = g.content.x.0;
       y = g.content.y.0;
       width = g.content.width.0;
       height = g.content.height.0;
       header = g.header_y.0;
-      footer =
-          g.footer_y.0;
+      footer = g.footer_y.0;
       invalid = g.invalid_margins;
     })
-content_outcome CoordinateOverflow = refused 10
+content_outcome (Err r) = refused (number_of r)

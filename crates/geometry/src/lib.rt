@@ -3,6 +3,4 @@
 
 mod paper;
 
-pub use paper::{
-    Content, ContentGeometry, Margins, Paper, PaperGeometry, content_geometry, paper_geometry,
-};
+pub use paper::{ContentGeometry, Margins, Paper, PaperGeometry, content_geometry, paper_geometry};

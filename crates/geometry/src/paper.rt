@@ -3,11 +3,12 @@ ghost use Rattle.std.specs.Prelude.{◌≡◌, pos};
 ghost use Rattle.units.specs.Outcome.{given};
 ghost use Rattle.units.specs.Units.{length_outcome, less_of};
 ghost use Rattle.geometry.specs.Paper as Section;
+ghost use Rattle.geometry.specs.Lengths as Lengths;
 
-use units::{Fixed, Length, Rect, inches_to_fixed, less};
+use units::{Fixed, Rect, Refusal, inches_to_fixed};
 
 // A paper's code and its sides as they lie on the page.
-#[derive(Clone, Copy)]
+#[derive(Clone, Copy, Debug, PartialEq, Eq)]
 pub struct PaperGeometry {
     pub paper_code: u16,
     pub width: Fixed,
@@ -15,14 +16,14 @@ pub struct PaperGeometry {
 }
 
 // What `paper_geometry` answers: the paper, and how many codes were not known (0 or 1).
-#[derive(Clone, Copy)]
+#[derive(Clone, Copy, Debug, PartialEq, Eq)]
 pub struct Paper {
     pub geometry: PaperGeometry,
     pub unknown_paper: u64,
 }
 
 // Six margins in inches.
-#[derive(Clone, Copy)]
+#[derive(Clone, Copy, Debug, PartialEq)]
 pub struct Margins {
     pub left: f64,
     pub right: f64,
@@ -33,7 +34,7 @@ pub struct Margins {
 }
 
 // Where the content, the header and the footer stand, and how many margins did not hold (0 or 1).
-#[derive(Clone, Copy)]
+#[derive(Clone, Copy, Debug, PartialEq, Eq)]
 pub struct ContentGeometry {
     pub content: Rect,
     pub header_y: Fixed,
@@ -41,89 +42,43 @@ pub struct ContentGeometry {
     pub invalid_margins: u64,
 }
 
-// What `content_geometry` answers: the geometry, or the refusal 10.
-#[derive(Clone, Copy)]
-pub enum Content {
-    Value(ContentGeometry),
-    CoordinateOverflow,
-}
-
-// The width of each paper code in units, with its code behind it; 0 where the list lacks the code.
-const WIDTHS: [u32; 71] = [
-    0, 835584, // 1
-    835584, // 2
-    1081344, // 3
-    1671168, // 4
-    835584, // 5
-    540672, // 6
-    712704, // 7
-    1149460, // 8
-    812750, // 9
-    812750, // 10
-    572795, // 11
-    967559, // 12
-    681162, // 13
-    835584, // 14
-    832101, // 15
-    983040, // 16
-    1081344, // 17
-    835584, // 18
-    380928, // 19
-    405504, // 20
-    442368, // 21
-    466944, // 22
-    491520, // 23
-    1671168, // 24
-    2162688, // 25
-    3342336, // 26
-    425726, // 27
-    626978, // 28
-    1253957, // 29
-    886284, // 30
-    441207, // 31
-    0, 0, 0, 0, 0, 0, 0, 0, 0, 0, 967559, // 42
-    387024, // 43
-    0, 0, 0, 0, 0, 0, 0, 0, 0, 0, 0, 0, 0, 0, 0, 0, 0, 0, 0, 0, 0, 0, 1625499, // 66
-    0, 0, 0, 406375, // 70
-];
-
-// The height of each paper code in units, likewise.
-const HEIGHTS: [u32; 71] = [
-    0, 1081344, // 1
-    1081344, // 2
-    1671168, // 3
-    1081344, // 4
-    1376256, // 5
-    835584, // 6
-    1032192, // 7
-    1625499, // 8
-    1149460, // 9
-    1149460, // 10
-    812750, // 11
-    1366193, // 12
-    967559, // 13
-    1277952, // 14
-    1064315, // 15
-    1376256, // 16
-    1671168, // 17
-    1081344, // 18
-    872448, // 19
-    933888, // 20
-    1019904, // 21
-    1081344, // 22
-    1130496, // 23
-    2162688, // 24
-    3342336, // 25
-    4325376, // 26
-    851452, // 27
-    886284, // 28
-    1772568, // 29
-    1253957, // 30
-    626978, // 31
-    0, 0, 0, 0, 0, 0, 0, 0, 0, 0, 1366193, // 42
-    572795, // 43
-    0, 0, 0, 0, 0, 0, 0, 0, 0, 0, 0, 0, 0, 0, 0, 0, 0, 0, 0, 0, 0, 0, 2298920, // 66
-    0, 0, 0, 572795, // 70
+// The list of papers: each code, and its upright width and height in units.
+const SHEETS: [(u16, u32, u32); 35] = [
+    (1, 835584, 1081344),
+    (2, 835584, 1081344),
+    (3, 1081344, 1671168),
+    (4, 1671168, 1081344),
+    (5, 835584, 1376256),
+    (6, 540672, 835584),
+    (7, 712704, 1032192),
+    (8, 1149460, 1625499),
+    (9, 812750, 1149460),
+    (10, 812750, 1149460),
+    (11, 572795, 812750),
+    (12, 967559, 1366193),
+    (13, 681162, 967559),
+    (14, 835584, 1277952),
+    (15, 832101, 1064315),
+    (16, 983040, 1376256),
+    (17, 1081344, 1671168),
+    (18, 835584, 1081344),
+    (19, 380928, 872448),
+    (20, 405504, 933888),
+    (21, 442368, 1019904),
+    (22, 466944, 1081344),
+    (23, 491520, 1130496),
+    (24, 1671168, 2162688),
+    (25, 2162688, 3342336),
+    (26, 3342336, 4325376),
+    (27, 425726, 851452),
+    (28, 626978, 886284),
+    (29, 1253957, 1772568),
+    (30, 886284, 1253957),
+    (31, 441207, 626978),
+    (42, 967559, 1366193),
+    (43, 387024, 572795),
+    (66, 1625499, 2298920),
+    (70, 406375, 572795),
 ];
 
 // The code that an absent one means: Letter.
@@ -133,14 +88,12 @@ const DEFAULT_CODE: u16 = 1;
 fn resolved(code: u16) -> Paper
     ensures { given (Section.paper_found result) ≡ Section.upright (Section.resolved code Section.sheets) }
 {
-    let at = code as usize;
-    if at < 71 {
-        let width = WIDTHS[at];
-        if width > 0 {
-            return upright(code, width, HEIGHTS[at], 0);
+    for (listed, width, height) in SHEETS {
+        if listed == code {
+            return upright(code, width, height, 0);
         }
     }
-    upright(1, WIDTHS[1], HEIGHTS[1], 1)
+    upright(1, 835584, 1081344, 1)
 }
 
 fn upright(code: u16, width: u32, height: u32, unknown_paper: u64) -> Paper
@@ -162,15 +115,13 @@ fn turned(paper: Paper, landscape: bool) -> Paper
 {
     if landscape {
         let upright = paper.geometry;
-        let width = upright.height;
-        let height = upright.width;
         return Paper {
             geometry: PaperGeometry {
-                paper_code: upright.paper_code,
-                width,
-                height,
+                width: upright.height,
+                height: upright.width,
+                ..upright
             },
-            unknown_paper: paper.unknown_paper,
+            ..paper
         };
     }
     paper
@@ -187,18 +138,18 @@ pub fn paper_geometry(code: Option<u16>, landscape: bool) -> Paper
 fn usable(inches: f64) -> bool
     ensures { result ≡ Section.usable inches }
 {
-    (inches >= 0.0) & (inches < 1.0 / 0.0)
+    inches >= 0.0 && inches.is_finite()
 }
 
 fn all_usable(m: Margins) -> bool
     ensures { result ≡ Section.all_usable m }
 {
     usable(m.left)
-        & usable(m.right)
-        & usable(m.top)
-        & usable(m.bottom)
-        & usable(m.header)
-        & usable(m.footer)
+        && usable(m.right)
+        && usable(m.top)
+        && usable(m.bottom)
+        && usable(m.header)
+        && usable(m.footer)
 }
 
 // Whether inches, times 96, is less than a paper side in pixels: each operation rounded as f64.
@@ -208,25 +159,26 @@ fn shorter(inches: f64, side: Fixed) -> bool
     inches * 96.0 < std::num::nearest_i64_to_f64(side.raw()) / 1024.0
 }
 
+#[tactic(auto, unfolding(crate::specs::Paper::margins_hold))]
 fn margins_hold(width: Fixed, height: Fixed, m: Margins) -> bool
     ensures { result ≡ Section.margins_hold width.0 height.0 m }
 {
     all_usable(m)
-        & shorter(m.left + m.right, width)
-        & shorter(m.top + m.bottom, height)
-        & shorter(m.header, height)
-        & shorter(m.footer, height)
+        && shorter(m.left + m.right, width)
+        && shorter(m.top + m.bottom, height)
+        && shorter(m.header, height)
+        && shorter(m.footer, height)
 }
 
-// Six margins in units, each a length or the refusal 10.
+// Six margins in units.
 #[derive(Clone, Copy)]
 struct MarginLengths {
-    left: Length,
-    right: Length,
-    top: Length,
-    bottom: Length,
-    header: Length,
-    footer: Length,
+    left: Fixed,
+    right: Fixed,
+    top: Fixed,
+    bottom: Fixed,
+    header: Fixed,
+    footer: Fixed,
 }
 
 // The default left and right margins in units: 0.7 inches.
@@ -238,108 +190,74 @@ const DEFAULT_END: i64 = 73728;
 // The default header and footer margins in units: 0.3 inches.
 const DEFAULT_LINE: i64 = 29491;
 
-// What is left of a side after two margins.
-#[inline(always)]
-fn between(side: Fixed, near: Length, far: Length) -> Length
-    ensures { length_outcome result ≡ less_of (less_of (given side.0) (length_outcome near)) (length_outcome far) }
-{
-    less(less(Length::Value(side), near), far)
-}
+// The footer's own line in units: 16 pixels.
+const FOOTER_LINE: i64 = 16384;
 
-// Where the footer stands: one line of 16 pixels above its margin.
-#[inline(always)]
-fn footer_at(height: Fixed, footer: Length) -> Length
-    ensures { length_outcome result ≡ less_of (less_of (given height.0) (length_outcome footer)) (given (pos 16384)) }
+// Six margins in units, where none of them overflows.
+fn in_units(m: Margins) -> Result<MarginLengths, Refusal>
+    ensures { Lengths.margins_outcome result ≡ Lengths.in_units m }
 {
-    between(height, footer, Length::Value(Fixed::from_raw(16384)))
-}
-
-// The geometry, where none of its lengths overflowed.
-fn placed(
-    x: Length,
-    y: Length,
-    width: Length,
-    height: Length,
-    header_y: Length,
-    footer_y: Length,
-    invalid_margins: u64,
-) -> Content
-    ensures { Section.content_outcome result ≡ Section.placed (length_outcome x) (length_outcome y) (length_outcome width) (length_outcome height)
-        (length_outcome header_y) (length_outcome footer_y) invalid_margins }
-{
-    let Length::Value(x) = x else {
-        return Content::CoordinateOverflow;
-    };
-    let Length::Value(y) = y else {
-        return Content::CoordinateOverflow;
-    };
-    let Length::Value(width) = width else {
-        return Content::CoordinateOverflow;
-    };
-    let Length::Value(height) = height else {
-        return Content::CoordinateOverflow;
-    };
-    let Length::Value(header_y) = header_y else {
-        return Content::CoordinateOverflow;
-    };
-    let Length::Value(footer_y) = footer_y else {
-        return Content::CoordinateOverflow;
-    };
-    Content::Value(ContentGeometry {
-        content: Rect {
-            x,
-            y,
-            width,
-            height,
-        },
-        header_y,
-        footer_y,
-        invalid_margins,
+    Ok(MarginLengths {
+        left: inches_to_fixed(m.left)?,
+        right: inches_to_fixed(m.right)?,
+        top: inches_to_fixed(m.top)?,
+        bottom: inches_to_fixed(m.bottom)?,
+        header: inches_to_fixed(m.header)?,
+        footer: inches_to_fixed(m.footer)?,
     })
 }
 
 // The content between six margins in units.
 #[inline(always)]
-fn content_from(width: Fixed, height: Fixed, m: MarginLengths, invalid_margins: u64) -> Content
-    ensures { Section.content_outcome result ≡ Section.placed (length_outcome m.left) (length_outcome m.top)
-        (less_of (less_of (given width.0) (length_outcome m.left)) (length_outcome m.right))
-        (less_of (less_of (given height.0) (length_outcome m.top)) (length_outcome m.bottom))
-        (length_outcome m.header) (less_of (less_of (given height.0) (length_outcome m.footer)) (given (pos 16384))) invalid_margins }
+fn content_from(
+    width: Fixed,
+    height: Fixed,
+    m: MarginLengths,
+    invalid_margins: u64,
+) -> Result<ContentGeometry, Refusal>
+    ensures { Section.content_outcome result ≡ Section.placed (given m.left.0) (given m.top.0)
+        (less_of (less_of (given width.0) (given m.left.0)) (given m.right.0))
+        (less_of (less_of (given height.0) (given m.top.0)) (given m.bottom.0))
+        (given m.header.0) (less_of (less_of (given height.0) (given m.footer.0)) (given (pos 16384))) invalid_margins }
 {
-    placed(
-        m.left,
-        m.top,
-        between(width, m.left, m.right),
-        between(height, m.top, m.bottom),
-        m.header,
-        footer_at(height, m.footer),
+    let content = Rect {
+        x: m.left,
+        y: m.top,
+        width: width.less_both(m.left, m.right)?,
+        height: height.less_both(m.top, m.bottom)?,
+    };
+    Ok(ContentGeometry {
+        content,
+        header_y: m.header,
+        footer_y: height.less_both(m.footer, Fixed::from_raw(FOOTER_LINE))?,
         invalid_margins,
-    )
+    })
 }
 
 // The content between six margins.
-fn content_between(width: Fixed, height: Fixed, m: Margins, invalid_margins: u64) -> Content
+fn content_between(
+    width: Fixed,
+    height: Fixed,
+    m: Margins,
+    invalid_margins: u64,
+) -> Result<ContentGeometry, Refusal>
     ensures { Section.content_outcome result ≡ Section.content_between width.0 height.0 m invalid_margins }
 {
-    let lengths = MarginLengths {
-        left: inches_to_fixed(m.left),
-        right: inches_to_fixed(m.right),
-        top: inches_to_fixed(m.top),
-        bottom: inches_to_fixed(m.bottom),
-        header: inches_to_fixed(m.header),
-        footer: inches_to_fixed(m.footer),
-    };
-    content_from(width, height, lengths, invalid_margins)
+    content_from(width, height, in_units(m)?, invalid_margins)
 }
 
 // The content between the default margins.
 #[inline(always)]
-fn default_content(width: Fixed, height: Fixed, invalid_margins: u64) -> Content
+fn default_content(
+    width: Fixed,
+    height: Fixed,
+    invalid_margins: u64,
+) -> Result<ContentGeometry, Refusal>
     ensures { Section.content_outcome result ≡ Section.content_between width.0 height.0 Section.default_margins invalid_margins }
 {
-    let side = Length::Value(Fixed::from_raw(DEFAULT_SIDE));
-    let end = Length::Value(Fixed::from_raw(DEFAULT_END));
-    let line = Length::Value(Fixed::from_raw(DEFAULT_LINE));
+    let side = Fixed::from_raw(DEFAULT_SIDE);
+    let end = Fixed::from_raw(DEFAULT_END);
+    let line = Fixed::from_raw(DEFAULT_LINE);
     let lengths = MarginLengths {
         left: side,
         right: side,
@@ -352,7 +270,10 @@ fn default_content(width: Fixed, height: Fixed, invalid_margins: u64) -> Content
 }
 
 // What the margins leave of a paper; margins that do not hold are replaced, all six.
-pub fn content_geometry(paper: PaperGeometry, margins: Option<Margins>) -> Content
+pub fn content_geometry(
+    paper: PaperGeometry,
+    margins: Option<Margins>,
+) -> Result<ContentGeometry, Refusal>
     ensures { Section.content_outcome result ≡ Section.content_geometry paper.width.0 paper.height.0 margins }
 {
     let Some(m) = margins else {

@@ -4,41 +4,25 @@
 ghost use Rattle.std.specs.Prelude.{◌≡◌};
 ghost use Rattle.hexadecimal.specs.Hex.{digit_of, number};
 
-fn wide(byte: u8) -> u64
-    ensures { result ≡ byte }
-{
-    byte as u64
-}
-
-// What a hexadecimal digit stands for, and 16 for any other byte.
+// What a hexadecimal digit stands for.
 #[tactic(auto, unfolding(crate::specs::Hex::digit_of))]
-pub fn digit(byte: u8) -> u64
+pub fn digit(byte: u8) -> Option<u64>
     ensures { result ≡ digit_of byte }
 {
-    if byte < b'0' {
-        return 16;
+    match byte {
+        b'0'..=b'9' => Some(u64::from(byte - b'0')),
+        b'a'..=b'f' => Some(u64::from(byte - b'a') + 10),
+        _ => None,
     }
-    if byte <= b'9' {
-        return wide(byte - b'0');
-    }
-    if byte < b'a' {
-        return 16;
-    }
-    if byte <= b'f' {
-        return wide(byte - b'a') + 10;
-    }
-    16
 }
 
-// The last 64 bits of the number that the digits stand for.
+// The last 64 bits of the number that the digits stand for; a byte that is no digit stands for 0.
 pub fn bits(digits: &[u8]) -> u64
     ensures { result ≡ number 0 digits.now }
 {
     let mut value = 0;
-    let mut i = 0;
-    while i < digits.len() {
-        value = value % 0x1000_0000_0000_0000 * 16 + digit(digits[i]) % 16;
-        i += 1;
+    for &byte in digits {
+        value = value % 0x1000_0000_0000_0000 * 16 + digit(byte).unwrap_or(0) % 16;
     }
     value
 }

@@ -9,10 +9,10 @@ use crate::places::place_of;
 use crate::scale::{fit_scale, frame_at};
 use planner_compare::{longer, wide};
 use planner_rules::{
-    AreaNotes, AreaPlan, AxisRange, ChosenScale, CountedArea, FinalCut, Fit, Frames, PageSide,
-    PrintRange, Ready, ReadyArea, ReadyTitle, Settings, Shared, Stretch,
+    AreaNotes, AreaPlan, Axis, AxisRange, ChosenScale, CountedArea, FinalCut, Fit, Frames,
+    PageSide, PrintRange, Ready, ReadyArea, ReadyTitle, Settings, Shared, Stretch,
 };
-use planner_setup::{column_range, fixed_scale, looked_at, row_range};
+use planner_setup::{axis_range, fixed_scale, looked_at};
 use planner_titles::body_start;
 use units::Fixed;
 
@@ -64,8 +64,8 @@ pub(crate) fn ready_area(
     let column_asked = column_title.asked;
     let height = sides.height;
     let width = sides.width;
-    let row_axis = row_range(settings, range, row_asked);
-    let column_axis = column_range(settings, range, column_asked);
+    let row_axis = axis_range(Axis::Rows, settings, range, row_asked);
+    let column_axis = axis_range(Axis::Columns, settings, range, column_asked);
     ReadyArea {
         range,
         rows: ready_axis(row_axis, height, row_title, row_indexes),

@@ -14,7 +14,7 @@ use planner_areas::area_at;
 use planner_questions::{plan_refusal, room_in, room_refusal};
 use planner_rules::{
     Areas, Axis, ChosenScale, CountedAreas, Notes, Plan, Planning, Prepared, PrintRange, RunCounts,
-    Settings, Shared, SidesFound, Title, Writing,
+    Settings, Shared, Title, Writing,
 };
 use planner_setup::content_sides;
 
@@ -54,7 +54,7 @@ fn prepare(
     if refusal > 0 {
         return Prepared::Refused(refusal);
     }
-    let SidesFound::Value(sides) = content_sides(settings) else {
+    let Ok(sides) = content_sides(settings) else {
         return Prepared::Refused(10);
     };
     let rows = ready_title(

@@ -9,7 +9,7 @@ ghost use Rattle.planner_rules.specs.Scale as section;
 use crate::runs::run_end;
 use planner_rules::{ChosenScale, Fit, Frame, PageSide, Title};
 use planner_setup::{meets_target, middle_of};
-use units::{Fixed, Length};
+use units::Fixed;
 
 // So many units as a length. No titles, and no headings, are `Fixed::ZERO`, as in the Rust.
 fn length_of(n: u64) -> Fixed
@@ -36,8 +36,8 @@ fn capacity_at(page: PageSide, permille: u16, titles: u64) -> u64
         length_of(page.headings),
     );
     match answer {
-        Length::Value(capacity) => capacity.magnitude(),
-        Length::CoordinateOverflow => 0,
+        Ok(capacity) => capacity.magnitude(),
+        Err(_) => 0,
     }
 }
 
@@ -48,8 +48,8 @@ fn fits_side(page: PageSide, permille: u16, size: u64) -> bool
 {
     let answer = units::scale_fixed(length_of(size), permille);
     match answer {
-        Length::Value(scaled) => scaled.raw() <= page.side.raw(),
-        Length::CoordinateOverflow => false,
+        Ok(scaled) => scaled.raw() <= page.side.raw(),
+        Err(_) => false,
     }
 }
 

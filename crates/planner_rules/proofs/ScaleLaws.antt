@@ -2,38 +2,20 @@
 use mathlib.Core.Path.{◌≡◌, refl, sym, ap, ◌∙◌}
 use mathlib.Core.Bool.{Bool, true, false, ◌&&◌, and-true, and-false}
 use mathlib.Core.List.{List, [], ◌∷◌}
-use Prim.Native.Nat.{ℕ, zero, suc, ◌+◌, ◌*◌, ◌≤◌, ◌<◌}
+use Prim.Native.Nat.{ℕ, zero, suc, ◌+◌, ◌≤◌, ◌<◌}
 use native.Mathlib.Nat.{add-zero, zero-add}
 use native.Mathlib.Omega.{arith}
 use lib.ListN.{length}
-use borrow.Author.Tests.{eq-eqb, ne_eqb, lt-ltb, le-ltb, le-leb, lt-leb, leb-false}
-use Rattle.std.specs.Prelude.{Option}
+use borrow.Author.Tests.{ne_eqb, lt-ltb, le-ltb, le-leb, lt-leb, leb-false}
 use Rattle.planner_rules.specs.declared.titles.Title.{Title}
 use Rattle.planner_rules.specs.declared.titles.Title.TheVariants.{Absent, Pair}
 use Rattle.planner_rules.specs.Titles.{past_title}
 use Rattle.planner_rules.specs.Runs.{Run}
-use Rattle.planner_rules.specs.Scale.{Scale, Space, Body, or_else, clamped, fixed_scale, runs_at, fits_side, printed, rendered, all_fit, runs_fit, meets}
+use Rattle.planner_rules.specs.Scale.{Scale, Space, Body, runs_at, fits_side, printed, rendered, all_fit, runs_fit, meets}
 use Rattle.planner_rules.specs.Scale.{axis_passes, halve, fit_scale, titled}
-
--- ---- a percent, way by way
 
 abbrev pub scale_at : ℕ → ℕ → ℕ → Scale
 scale_at p c u = record { permille = p; clamp = c; unreachable = u }
-
-module _ (s : Option ℕ) (p : ℕ) (e : p ≡ or_else s 100) where
-  moved : (k : ℕ) → clamped p ≡ k → (p ≡ k → ⊥) → scale_at (k * 10) 1 0 ≡ fixed_scale s
-  unfolding fixed_scale
-  moved k c n = rw (← e, c, ne_eqb p k n)
-
-  pub too_small : p < 10 → scale_at 100 1 0 ≡ fixed_scale s
-  too_small h = moved 10 (omega arith) (λ q. omega arith)
-
-  pub too_large : 400 < p → scale_at 4000 1 0 ≡ fixed_scale s
-  too_large h = moved 400 (omega arith) (λ q. omega arith)
-
-  pub kept : 10 ≤ p → p ≤ 400 → scale_at (p * 10) 0 0 ≡ fixed_scale s
-  unfolding fixed_scale
-  kept h k = let c : clamped p ≡ p = omega arith in rw (← e, c, eq-eqb p p refl)
 
 -- ---- what a run takes of a page
 

@@ -1,8 +1,11 @@
 -- The plan call: what document 01's sections give, one after another, for both axes of each area, joined in job order (document 02, T-02), and
 -- what is asked first ("Questions in order"). Assumes nothing.
-use Rattle.std.specs.Prelude.{◌≡◌, Bool, cond, ◌&&◌, List, [], map, ℕ, ◌+◌, ◌≤◌, max, min, leb, eqb, ℤ, length}
+use Rattle.std.specs.Prelude.{◌≡◌, Bool, cond, ◌&&◌, List, [], map, ℕ, ◌+◌, ◌≤◌, max, min, leb, eqb, ℤ, length, Result, Ok, Err}
+use Rattle.units.specs.declared.refusal.Refusal.{Refusal}
 use Rattle.units.specs.Outcome.{Outcome, given, refused, and_then}
+use Rattle.units.specs.Refusals.{number_of}
 use Rattle.geometry.specs.Paper.{PaperFound, Placed, paper_geometry, content_geometry}
+use Rattle.planner_rules.specs.declared.titles.Axis.{Axis}
 use Rattle.planner_rules.specs.declared.titles.Axis.TheVariants.{Rows, Columns}
 use Rattle.planner_rules.specs.declared.titles.Title.{Title}
 use Rattle.planner_rules.specs.declared.titles.Widened.{Widened}
@@ -24,8 +27,6 @@ use Rattle.planner_rules.specs.declared.planning.AxisRange.{AxisRange}
 use Rattle.planner_rules.specs.declared.planning.Ready.{Ready}
 use Rattle.planner_rules.specs.declared.planning.FinalCut.{FinalCut}
 use Rattle.planner_rules.specs.declared.planning.ContentSides.{ContentSides}
-use Rattle.planner_rules.specs.declared.planning.SidesFound.{SidesFound}
-use Rattle.planner_rules.specs.declared.planning.SidesFound.TheVariants as found
 use Rattle.planner_rules.specs.declared.planning.Planning.{Planning}
 use Rattle.planner_rules.specs.declared.planning.Planning.TheVariants.{Value, Refused}
 use Rattle.planner_rules.specs.Slots.{Slots, below, mid}
@@ -481,10 +482,10 @@ axis_for r is ss fs ls bs = record {
 abbrev pub sides_of : ContentSides → Sides
 sides_of c = record { width = c.width.0; height = c.height.0; unknown = c.unknown; invalid = c.invalid }
 
--- the value or the number that each case of `SidesFound` stands for
-abbrev pub sides_outcome : SidesFound → Outcome Sides
-sides_outcome (found.Value c) = given (sides_of c)
-sides_outcome found.CoordinateOverflow = refused 10
+-- the sides or the number that an answer of `content_sides` stands for
+abbrev pub sides_outcome : Result ContentSides Refusal → Outcome Sides
+sides_outcome (Ok c) = given (sides_of c)
+sides_outcome (Err r) = refused (number_of r)
 
 -- a ready axis is this one
 pub record ReadyFor (r : Ready) (side : ℤ) (a : AxisInput) : Type 0 where
@@ -504,6 +505,11 @@ AreRows r s g title = (is ss fs ls bs : List ℕ) → axis_for r is ss fs ls (lo
 -- the same of columns
 abbrev pub AreColumns : AxisRange → Settings → PrintRange → Title → Type 0
 AreColumns r s g title = (is ss fs ls bs : List ℕ) → axis_for r is ss fs ls (looked_at s.fit bs) ≡ columns_of s g title is ss fs ls bs
+
+-- the axis that is asked for, as the settings and a range make it
+abbrev pub IsRange : Axis → AxisRange → Settings → PrintRange → Title → Type 0
+IsRange Rows = AreRows
+IsRange Columns = AreColumns
 
 -- what a ready axis has of a list that goes with the indexes
 abbrev pub within : Ready → List ℕ → List ℕ

@@ -18,7 +18,7 @@ pub use partition::AxisSetup;
 pub use planning::{
     AreaNotes, Areas, AxisRange, ContentSides, CountedArea, CountedAreas, FinalCut, Frames,
     Planning, Prepared, PrintRange, Ready, ReadyArea, ReadyTitle, RunCounts, Settings, Shared,
-    SidesFound, Writing,
+    Writing,
 };
 pub use runs::{Cut, Frame, RUN_NUMBERS, RunEnd, Tally};
 pub use scale::{ChosenScale, Fit, PageSide, Stretch};

@@ -156,13 +156,6 @@ pub struct ContentSides {
     pub invalid: u64,
 }
 
-// What paper and margins come to: the content's sides, or the refusal 10.
-#[derive(Clone, Copy)]
-pub enum SidesFound {
-    Value(ContentSides),
-    CoordinateOverflow,
-}
-
 // What all areas share: how they are printed, the content's sides, and both titles.
 #[derive(Clone, Copy)]
 pub struct Shared {

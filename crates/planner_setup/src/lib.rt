@@ -5,75 +5,57 @@ ghost use Rattle.std.specs.Prelude.{◌≡◌, cond};
 ghost use Rattle.planner_rules.specs.Scale.{fixed_scale, meets, middle, scale_of};
 ghost use Rattle.planner_rules.specs.Plan as call;
 
-use geometry::Content;
-use planner_rules::{
-    Axis, AxisRange, ChosenScale, ContentSides, PrintRange, Settings, SidesFound, Title,
-};
+use planner_rules::{Axis, AxisRange, ChosenScale, ContentSides, PrintRange, Settings, Title};
+use units::Refusal;
 
 // What an absent percent and an absent target mean.
 const DEFAULT_PERCENT: u16 = 100;
 
 const DEFAULT_TARGET: u16 = 1;
 
+// What headings take of a page's height, and of its width.
+const ROW_HEADINGS: u64 = 17_408;
+
+const COLUMN_HEADINGS: u64 = 38_912;
+
 // The scale of a percent, clamped.
+#[tactic(auto, unfolding(planner_rules::specs::Scale::fixed_scale))]
 pub fn fixed_scale(percent: Option<u16>) -> ChosenScale
     ensures { scale_of result ≡ fixed_scale percent }
 {
     let asked = percent.unwrap_or(DEFAULT_PERCENT);
-    if asked < 10 {
-        return ChosenScale {
-            permille: 100,
-            clamp: 1,
-            unreachable: 0,
-        };
-    }
-    if asked > 400 {
-        return ChosenScale {
-            permille: 4000,
-            clamp: 1,
-            unreachable: 0,
-        };
-    }
+    let kept = asked.clamp(10, 400);
     ChosenScale {
-        permille: asked * 10,
-        clamp: 0,
+        permille: kept * 10,
+        clamp: u64::from(asked != kept),
         unreachable: 0,
     }
 }
 
-// What headings take of a page, where they are on.
-fn headings_of(on: bool, size: u64) -> u64
-    ensures { result ≡ cond on size 0 }
+// An axis of a range as it is cut: the grid's last index, the headings, and the most pages along it.
+pub fn axis_range(axis: Axis, settings: Settings, range: PrintRange, title: Title) -> AxisRange
+    ensures { call.IsRange axis result settings range title }
 {
-    if on { size } else { 0 }
-}
-
-// The rows of a range as they are cut: the grid's last row, the headings, and the most pages downwards.
-pub fn row_range(settings: Settings, range: PrintRange, title: Title) -> AxisRange
-    ensures { call.AreRows result settings range title }
-{
-    let target = settings.fit_height;
+    let (first, last, headings, target) = match axis {
+        Axis::Rows => (
+            range.first_row,
+            range.last_row,
+            ROW_HEADINGS,
+            settings.fit_height,
+        ),
+        Axis::Columns => (
+            range.first_column,
+            range.last_column,
+            COLUMN_HEADINGS,
+            settings.fit_width,
+        ),
+    };
     AxisRange {
-        limit: Axis::Rows.limit(),
-        first: range.first_row,
-        last: range.last_row,
+        limit: axis.limit(),
+        first,
+        last,
         title,
-        headings: headings_of(settings.headings, 17_408),
-        target: target.unwrap_or(DEFAULT_TARGET),
-    }
-}
-
-// The columns of a range, likewise.
-pub fn column_range(settings: Settings, range: PrintRange, title: Title) -> AxisRange
-    ensures { call.AreColumns result settings range title }
-{
-    let target = settings.fit_width;
-    AxisRange {
-        limit: Axis::Columns.limit(),
-        first: range.first_column,
-        last: range.last_column,
-        title,
-        headings: headings_of(settings.headings, 38_912),
+        headings: if settings.headings { headings } else { 0 },
         target: target.unwrap_or(DEFAULT_TARGET),
     }
 }
@@ -86,23 +68,17 @@ pub fn looked_at(fit: bool, breaks: usize) -> usize
 }
 
 // The content's width and height, with what was noted of paper and margins.
-pub fn content_sides(settings: Settings) -> SidesFound
+#[tactic(auto, unfolding(planner_rules::specs::Plan::content_sides))]
+pub fn content_sides(settings: Settings) -> Result<ContentSides, Refusal>
     ensures { call.sides_outcome result ≡ call.content_sides settings }
 {
     let code = settings.paper;
     let margins = settings.margins;
     let paper = geometry::paper_geometry(code, settings.landscape);
-    let sheet = paper.geometry;
-    let found = geometry::content_geometry(sheet, margins);
-    let Content::Value(placed) = found else {
-        return SidesFound::CoordinateOverflow;
-    };
-    let content = placed.content;
-    let width = content.width;
-    let height = content.height;
-    SidesFound::Value(ContentSides {
-        width,
-        height,
+    let placed = geometry::content_geometry(paper.geometry, margins)?;
+    Ok(ContentSides {
+        width: placed.content.width,
+        height: placed.content.height,
         unknown: paper.unknown_paper,
         invalid: placed.invalid_margins,
     })
@@ -112,18 +88,13 @@ pub fn content_sides(settings: Settings) -> SidesFound
 pub fn meets_target(target: u16, runs: usize) -> bool
     ensures { result ≡ meets target runs }
 {
-    if target == 0 {
-        return true;
-    }
-    runs <= target as usize
+    target == 0 || runs <= target as usize
 }
 
 // The Rust's middle: low + (high - low) / 2, rounded up.
+#[tactic(auto, unfolding(planner_rules::specs::Scale::middle))]
 pub fn middle_of(low: u16, high: u16) -> u16
     ensures { result ≡ middle low high }
 {
-    if high <= low {
-        return low;
-    }
-    high - (high - low) / 2
+    low + high.saturating_sub(low).div_ceil(2)
 }

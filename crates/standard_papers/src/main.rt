@@ -3,50 +3,42 @@
 // is the limit. The file `stdout` has the answers of a second implementation, made from the standard's list.
 #![tactic(auto)]
 
-use geometry::{Content, Margins, PaperGeometry};
+use geometry::{Margins, PaperGeometry};
+use std::io;
+use std::io::{BufWriter, Write};
 use units::Fixed;
 
-// Standard output.
-const STDOUT: i32 = 1;
+// The codes whose sizes the standard decides.
+const CODES: [u16; 5] = [12, 13, 24, 25, 26];
 
-fn word(bytes: &[u8]) {
-    io::write_all(STDOUT, bytes);
-}
-
-fn count(n: u64) {
-    io::print_decimal(STDOUT, n);
-}
-
-// A length, and a space behind it.
-fn say(length: Fixed) {
-    if length.raw() < 0 {
-        word(b"-");
-    }
-    count(length.magnitude());
-    word(b" ");
-}
-
-fn say_numbers(answer: Content) {
-    let Content::Value(placed) = answer else {
-        word(b"no 10\n");
-        return;
+// Writes what margins leave of a paper: where the content, the header and the footer stand, and whether the margins held.
+fn write_content<W: Write>(
+    out: &mut W,
+    name: &str,
+    paper: PaperGeometry,
+    margins: Option<Margins>,
+) -> io::Result<()> {
+    write!(out, "  {name}: ")?;
+    let placed = match geometry::content_geometry(paper, margins) {
+        Ok(placed) => placed,
+        Err(refusal) => return writeln!(out, "no {}", refusal.number()),
     };
     let rect = placed.content;
-    say(rect.x);
-    say(rect.y);
-    say(rect.width);
-    say(rect.height);
-    say(placed.header_y);
-    say(placed.footer_y);
-    count(placed.invalid_margins);
-    word(b"\n");
-}
-
-fn say_content(name: &[u8], paper: PaperGeometry, margins: Option<Margins>) {
-    word(b"  ");
-    word(name);
-    word(b": ");
-    say_numbers(geometry::content_geometry(paper, margins));
+    write!(
+        out,
+        "{} {} {} {} ",
+        rect.x.raw(),
+        rect.y.raw(),
+        rect.width.raw(),
+        rect.height.raw()
+    )?;
+    writeln!(
+        out,
+        "{} {} {}",
+        placed.header_y.raw(),
+        placed.footer_y.raw(),
+        placed.invalid_margins
+    )
 }
 
 fn across(left: f64, right: f64) -> Option<Margins> {
@@ -77,53 +69,50 @@ fn inches(side: Fixed, more: f64, times: f64) -> f64 {
 }
 
 // Margins of such a length: two that share it, and header and footer alone.
-fn say_limits(paper: PaperGeometry, more: f64, times: f64) {
+fn write_limits<W: Write>(
+    out: &mut W,
+    paper: PaperGeometry,
+    more: f64,
+    times: f64,
+) -> io::Result<()> {
     let half = inches(paper.width, more, times) / 2.0;
-    say_content(b"left and right", paper, across(half, half));
+    write_content(out, "left and right", paper, across(half, half))?;
     let height = inches(paper.height, more, times);
-    say_content(
-        b"top and bottom",
-        paper,
-        along(height / 2.0, height / 2.0, 0.0, 0.0),
-    );
-    say_content(b"header", paper, along(0.0, 0.0, height, 0.0));
-    say_content(b"footer", paper, along(0.0, 0.0, 0.0, height));
+    let half = height / 2.0;
+    write_content(out, "top and bottom", paper, along(half, half, 0.0, 0.0))?;
+    write_content(out, "header", paper, along(0.0, 0.0, height, 0.0))?;
+    write_content(out, "footer", paper, along(0.0, 0.0, 0.0, height))
 }
 
-fn say_paper(code: u16, landscape: bool) {
+fn write_paper<W: Write>(out: &mut W, code: u16, landscape: bool) -> io::Result<()> {
     let answer = geometry::paper_geometry(Some(code), landscape);
     let paper = answer.geometry;
-    count(paper.paper_code as u64);
-    if landscape {
-        word(b" landscape: ");
-    } else {
-        word(b" upright: ");
+    let lies = if landscape { "landscape" } else { "upright" };
+    write!(out, "{} {lies}: ", paper.paper_code)?;
+    writeln!(
+        out,
+        "{} {} {}",
+        paper.width.raw(),
+        paper.height.raw(),
+        answer.unknown_paper
+    )?;
+    write_content(out, "absent", paper, None)?;
+    write_content(out, "3.5 and 3.5 inches", paper, across(3.5, 3.5))?;
+    writeln!(out, " a unit less than the side")?;
+    write_limits(out, paper, -1.0, 1.0)?;
+    writeln!(out, " the float below the side")?;
+    write_limits(out, paper, 0.0, 0.9999999999999999)?;
+    writeln!(out, " the side")?;
+    write_limits(out, paper, 0.0, 1.0)?;
+    writeln!(out, " the float above the side")?;
+    write_limits(out, paper, 0.0, 1.0000000000000002)
+}
+
+fn main(rt: HostRuntime) -> io::Result<()> {
+    let mut out = BufWriter::new(rt.alloc(), io::writer(&rt))?;
+    for code in CODES {
+        write_paper(&mut out, code, false)?;
+        write_paper(&mut out, code, true)?;
     }
-    say(paper.width);
-    say(paper.height);
-    count(answer.unknown_paper);
-    word(b"\n");
-    say_content(b"absent", paper, None);
-    say_content(b"3.5 and 3.5 inches", paper, across(3.5, 3.5));
-    word(b" a unit less than the side\n");
-    say_limits(paper, -1.0, 1.0);
-    word(b" the float below the side\n");
-    say_limits(paper, 0.0, 0.9999999999999999);
-    word(b" the side\n");
-    say_limits(paper, 0.0, 1.0);
-    word(b" the float above the side\n");
-    say_limits(paper, 0.0, 1.0000000000000002);
-}
-
-fn say_both(code: u16) {
-    say_paper(code, false);
-    say_paper(code, true);
-}
-
-fn main() {
-    say_both(12);
-    say_both(13);
-    say_both(24);
-    say_both(25);
-    say_both(26);
+    out.flush()
 }

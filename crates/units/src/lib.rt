@@ -4,7 +4,7 @@
 mod grid;
 mod refusal;
 
-ghost use Rattle.std.specs.Prelude.{◌≡◌, ◌+◌, ◌*◌, ◌/◌, ◌^◌, ◌<◌, min, unsigned_abs, MatchOption};
+ghost use Rattle.std.specs.Prelude.{◌≡◌, ◌+◌, ◌*◌, ◌/◌, ◌^◌, ◌<◌, min, pos, unsigned_abs, MatchOption};
 ghost use Rattle.units.specs.Outcome.{given, refused};
 ghost use Rattle.units.specs.Units.{length_outcome, in_i64, signed_ratio, less_of, at_least_one, scale_fixed, unscaled_capacity, inches_to_fixed};
 
@@ -53,6 +53,21 @@ impl Fixed {
         ensures { length_outcome result ≡ less_of (given self.0) (given other.0) }
     {
         within(self.0.checked_sub(other.0))
+    }
+
+    // What is left of it after two others, one after the other.
+    pub fn less_both(self, first: Fixed, second: Fixed) -> Result<Fixed, Refusal>
+        ensures { length_outcome result ≡ less_of (less_of (given self.0) (given first.0)) (given second.0) }
+    {
+        self.less(first)?.less(second)
+    }
+}
+
+impl Default for Fixed {
+    fn default() -> Self
+        ensures { result.0 ≡ pos 0 }
+    {
+        Self::ZERO
     }
 }
 
@@ -117,13 +132,6 @@ pub fn scale_fixed(size: Fixed, permille: u16) -> Result<Fixed, Refusal>
     signed_ratio(size.0, permille, 500, 1000)
 }
 
-// What titles and headings leave of a side.
-fn body_of(side: Fixed, titles: Fixed, headings: Fixed) -> Result<Fixed, Refusal>
-    ensures { length_outcome result ≡ less_of (less_of (given side.0) (given titles.0)) (given headings.0) }
-{
-    side.less(titles)?.less(headings)
-}
-
 // The length, never under 1, and 1 where it overflowed.
 fn at_least_one(length: Result<Fixed, Refusal>) -> Fixed
     ensures { result.0 ≡ at_least_one (length_outcome length) }
@@ -147,7 +155,7 @@ pub fn unscaled_capacity(
         return Err(Refusal::CoordinateOverflow);
     }
     let whole = signed_ratio(side.0, 1000, 0, permille)?;
-    Ok(at_least_one(body_of(whole, titles, headings)))
+    Ok(at_least_one(whole.less_both(titles, headings)))
 }
 
 // Inches × 96 × 1,024, to the nearest unit.

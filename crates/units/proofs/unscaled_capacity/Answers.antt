@@ -31,6 +31,6 @@ returns c =
     let a = c.args in
     let s : SFits w64 a.side.0 = search rules in
     let q = given c.in_ok-whole.whole.0 in
-    ap given (c.at_least_one.ensures ∙ ap at_least_one c.body_of.ensures)
+    ap given (c.at_least_one.ensures ∙ ap at_least_one c.less_both.ensures)
     ∙ capacity_of a.side.0 a.permille a.titles.0 a.headings.0 q c.if-permille-eq0.false
     (whole a.side.0 a.permille q s c.in_ok-whole.ensures)

@@ -6,4 +6,4 @@ use Rattle.geometry.proofs.paper.default_content.Goals as goal
 pub returns : goal.returns
 unfolding content_between default_margins
 returns c =
-    rw (c.content_from.ensures, c.from_raw.ensures, c.from_raw-2.ensures, c.from_raw-3.ensures, default_side, default_end, default_line)
+    rw (c.content_from.ensures, c.from_raw-side.ensures, c.from_raw-end.ensures, c.from_raw-line.ensures, default_side, default_end, default_line)

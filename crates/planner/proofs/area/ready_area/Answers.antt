@@ -5,17 +5,17 @@ use Rattle.planner_rules.specs.Steps.{ready_from}
 use Rattle.planner.proofs.area.ready_area.Goals as goal
 
 pub ready_axis-requires : goal.ready_axis-requires
-ready_axis-requires c = rw (ap (λ (a : AxisInput). a.first) (c.row_range-row_axis.ensures [] [] [] [] [])) c.requires.startable_rows
+ready_axis-requires c = rw (ap (λ (a : AxisInput). a.first) (c.axis_range-row_axis.ensures [] [] [] [] [])) c.requires.startable_rows
 
 pub ready_axis-requires-2 : goal.ready_axis-requires-2
-ready_axis-requires-2 c = rw (ap (λ (a : AxisInput). a.first) (c.column_range-column_axis.ensures [] [] [] [] [])) c.requires.startable_columns
+ready_axis-requires-2 c = rw (ap (λ (a : AxisInput). a.first) (c.axis_range-column_axis.ensures [] [] [] [] [])) c.requires.startable_columns
 
 pub returns : goal.returns
 returns c =
     let a = c.args in
     let x = a.shared in
     let rows = c.ready_axis.ensures
-    ∙ ap (ready_from x.sides.height x.rows) (c.row_range-row_axis.ensures a.row_indexes.now [] [] [] []) in
+    ∙ ap (ready_from x.sides.height x.rows) (c.axis_range-row_axis.ensures a.row_indexes.now [] [] [] []) in
     let columns = c.ready_axis-2.ensures
-    ∙ ap (ready_from x.sides.width x.columns) (c.column_range-column_axis.ensures a.column_indexes.now [] [] [] []) in
+    ∙ ap (ready_from x.sides.width x.columns) (c.axis_range-column_axis.ensures a.column_indexes.now [] [] [] []) in
     λ i. record { range = a.range; rows = rows i; columns = columns i }

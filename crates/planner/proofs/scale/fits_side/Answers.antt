@@ -5,14 +5,14 @@ use Rattle.units.specs.Units.{scale_fixed}
 use Rattle.planner_rules.specs.Scale.{fits_side}
 use Rattle.planner.proofs.scale.fits_side.Goals as goal
 
-pub returns-in-Value : goal.returns-in-Value
+pub returns-in-Ok : goal.returns-in-Ok
 unfolding fits_side
-returns-in-Value c =
+returns-in-Ok c =
     let X : SFits w64 c.raw.result = search rules in
-    let Y : SFits w64 c.raw-in-Value.result = search rules in
-    let e : given c.in-Value.scaled.0 ≡ scale_fixed (pos c.args.size) c.args.permille = rw c.length_of.ensures at c.in-Value.ensures in
-    rw (← e, to_z-of_z X, to_z-of_z Y, c.raw.ensures, c.raw-in-Value.ensures)
+    let Y : SFits w64 c.raw-in-Ok.result = search rules in
+    let e : given c.in-Ok.scaled.0 ≡ scale_fixed (pos c.args.size) c.args.permille = rw c.length_of.ensures at c.in-Ok.ensures in
+    rw (← e, to_z-of_z X, to_z-of_z Y, c.raw.ensures, c.raw-in-Ok.ensures)
 
-pub returns-in-CoordinateOverflow : goal.returns-in-CoordinateOverflow
+pub returns-in-Err : goal.returns-in-Err
 unfolding fits_side
-returns-in-CoordinateOverflow c = rw (← (rw c.length_of.ensures at c.in-CoordinateOverflow.ensures))
+returns-in-Err c = rw (← (rw c.length_of.ensures at c.in-Err.ensures))
