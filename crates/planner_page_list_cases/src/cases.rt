@@ -2,7 +2,8 @@
 use crate::{places, text};
 use geometry::{MarginSetting, Setting};
 use planner_rules::{
-    Areas, CellLimit, Listing, PageOrder, Plan, Planning, PrintRange, RUN_NUMBERS, Settings, Title,
+    Areas, AxisLists, CellLimit, Listing, MergeList, PageOrder, Plan, Planning, PrintRange,
+    RUN_NUMBERS, Request, Settings, SheetLists, SlotList, Title,
 };
 
 // The most runs of these plans.
@@ -81,36 +82,33 @@ fn listed(plan: Plan, row_runs: &[u64], column_runs: &[u64]) {
     places::say_places(list, answered(answer), plan, row_runs, column_runs)
 }
 
+// No merge.
+const NONE: MergeList<'static> = MergeList {
+    firsts: &[],
+    lasts: &[],
+};
+
+// The slots of an axis, and its breaks.
+fn axis<'a>(indexes: &'a [u32], sizes: &'a [u64], breaks: &'a [u32]) -> AxisLists<'a> {
+    AxisLists {
+        slots: SlotList { indexes, sizes },
+        merges: NONE,
+        breaks,
+    }
+}
+
 // Plans slots, and lists the pages.
-fn planned(
-    settings: Settings,
-    areas: Areas,
-    row_indexes: &[u32],
-    row_sizes: &[u64],
-    column_indexes: &[u32],
-    column_sizes: &[u64],
-    row_breaks: &[u32],
-) {
+fn planned(settings: Settings, areas: Areas, rows: AxisLists, columns: AxisLists) {
     let mut row_runs = [0u64; ROW_RUNS * RUN_NUMBERS];
     let mut column_runs = [0u64; COLUMN_RUNS * RUN_NUMBERS];
-    let planning = planner::plan_pages(
+    let request = Request {
         settings,
         areas,
-        Title::Absent,
-        Title::Absent,
-        row_indexes,
-        row_sizes,
-        column_indexes,
-        column_sizes,
-        &[],
-        &[],
-        &[],
-        &[],
-        row_breaks,
-        &[],
-        &mut row_runs,
-        &mut column_runs,
-    );
+        row_title: Title::Absent,
+        column_title: Title::Absent,
+    };
+    let lists = SheetLists { rows, columns };
+    let planning = planner::plan_pages(&request, &lists, &mut row_runs, &mut column_runs);
     let Planning::Value(plan) = planning else {
         text::word(b"no plan\n");
         return;
@@ -123,11 +121,8 @@ fn example(order: PageOrder) {
     planned(
         settings(Setting::Absent, order),
         one_area(range(2, 1)),
-        &[0, 1, 2],
-        &[400000, 400000, 400000],
-        &[0, 1],
-        &[400000, 400000],
-        &[],
+        axis(&[0, 1, 2], &[400000, 400000, 400000], &[]),
+        axis(&[0, 1], &[400000, 400000], &[]),
     )
 }
 
@@ -136,11 +131,8 @@ fn break_case() {
     planned(
         settings(Setting::Absent, PageOrder::DownThenOver),
         one_area(range(2, 0)),
-        &[0, 1, 2],
-        &[400000, 400000, 400000],
-        &[],
-        &[],
-        &[1],
+        axis(&[0, 1, 2], &[400000, 400000, 400000], &[1]),
+        axis(&[], &[], &[]),
     )
 }
 
@@ -149,11 +141,12 @@ fn five_case() {
     planned(
         settings(Setting::Given(200), PageOrder::DownThenOver),
         one_area(range(4, 0)),
-        &[0, 1, 2, 3, 4],
-        &[400000, 400000, 400000, 400000, 400000],
-        &[0],
-        &[400000],
-        &[],
+        axis(
+            &[0, 1, 2, 3, 4],
+            &[400000, 400000, 400000, 400000, 400000],
+            &[],
+        ),
+        axis(&[0], &[400000], &[]),
     )
 }
 
@@ -164,11 +157,8 @@ fn two_areas() {
     planned(
         settings(Setting::Absent, PageOrder::DownThenOver),
         areas_of(2, rows, columns, columns),
-        &[0, 1, 2],
-        &[400000, 400000, 400000],
-        &[0, 1],
-        &[400000, 400000],
-        &[],
+        axis(&[0, 1, 2], &[400000, 400000, 400000], &[]),
+        axis(&[0, 1], &[400000, 400000], &[]),
     )
 }
 
@@ -189,11 +179,8 @@ fn three_areas() {
     planned(
         settings(Setting::Absent, PageOrder::DownThenOver),
         areas_of(3, last, range(0, 0), outside),
-        &[0, 1, 2],
-        &[400000, 400000, 400000],
-        &[0, 1],
-        &[400000, 400000],
-        &[],
+        axis(&[0, 1, 2], &[400000, 400000, 400000], &[]),
+        axis(&[0, 1], &[400000, 400000], &[]),
     )
 }
 

@@ -1,15 +1,16 @@
 // What is asked of lists before a call answers: document 01, section "Questions in order".
 #![tactic(auto)]
 
-ghost use Rattle.std.specs.Prelude.{◌≡◌, ℕ, ◌/◌, ◌&&◌, List};
+ghost use Rattle.std.specs.Prelude.{◌≡◌, ◌/◌, ◌&&◌};
 ghost use Rattle.planner_rules.specs.Questions.{no_or, equally_long, all_ordered, all_within, rising, rising_within, all_small};
 ghost use Rattle.planner_rules.specs.Areas.{areas_in, every_area, upright, inside_grid};
 ghost use Rattle.planner_rules.specs.Plan as call;
+ghost use Rattle.planner_rules.specs.Asked.{sheet_asked};
 ghost use Rattle.planner_rules.specs.Partition as partition;
 
 use planner_areas::{area_at, at_most_eight, cells_hold};
 use planner_compare::shorter;
-use planner_rules::{Areas, AxisSetup, PrintRange, RUN_NUMBERS, Settings, Title};
+use planner_rules::{Areas, AxisLists, AxisSetup, PrintRange, RUN_NUMBERS, Request, SheetLists};
 use units::{LARGEST_SIZE, MAX_WORKSHEET_COLUMN, MAX_WORKSHEET_ROW};
 
 // How many runs a list of so many numbers has room for.
@@ -127,13 +128,16 @@ fn ask_areas(areas: Areas) -> AreasAsked
 }
 
 // 6 of the lists of an axis: equally long, and no first is above its last.
-fn formed(indexes: &[u32], sizes: &[u64], merge_firsts: &[u32], merge_lasts: &[u32]) -> bool
-    ensures { result ≡ (equally_long indexes.now sizes.now && equally_long merge_firsts.now merge_lasts.now
-        && all_ordered merge_firsts.now merge_lasts.now) }
+fn formed(axis: &AxisLists) -> bool
+    ensures { let slots = axis.now.slots in
+        let merges = axis.now.merges in
+        result ≡ (equally_long slots.indexes.now slots.sizes.now && equally_long merges.firsts.now merges.lasts.now
+        && all_ordered merges.firsts.now merges.lasts.now) }
 {
-    (indexes.len() == sizes.len())
-        & (merge_firsts.len() == merge_lasts.len())
-        & pairs_ordered(merge_firsts, merge_lasts)
+    let AxisLists { slots, merges, .. } = *axis;
+    (slots.indexes.len() == slots.sizes.len())
+        & (merges.firsts.len() == merges.lasts.len())
+        & pairs_ordered(merges.firsts, merges.lasts)
 }
 
 // The number of a question whose answer is no, or the number that comes after it.
@@ -166,47 +170,28 @@ pub fn partition_refusal(
 }
 
 // The first of the questions 4, 6, 7, 15, 8 and 9 whose answer is no, or 0. Cells are counted only where 4, 6 and 7 are answered with yes.
-pub fn plan_refusal(
-    settings: Settings,
-    areas: Areas,
-    row_indexes: &[u32],
-    row_sizes: &[u64],
-    column_indexes: &[u32],
-    column_sizes: &[u64],
-    merge_first_rows: &[u32],
-    merge_first_columns: &[u32],
-    merge_last_rows: &[u32],
-    merge_last_columns: &[u32],
-) -> u8
-    ensures { (rt ct : Title) (rb cb : List ℕ) →
-        result ≡ call.first_no
-        (call.sheet_of settings rt ct row_indexes.now row_sizes.now column_indexes.now
-        column_sizes.now merge_first_rows.now merge_first_columns.now
-        merge_last_rows.now merge_last_columns.now rb cb) areas }
+pub fn plan_refusal(request: &Request, lists: &SheetLists) -> u8
+    ensures { result ≡ call.first_no (sheet_asked request.now lists.now) request.now.areas }
 {
+    let SheetLists { rows, columns } = *lists;
+    let areas = request.areas;
     let asked = ask_areas(areas);
     let four = (1 <= areas.count) & (areas.count <= 8);
-    let six = formed(row_indexes, row_sizes, merge_first_rows, merge_last_rows)
-        & formed(
-            column_indexes,
-            column_sizes,
-            merge_first_columns,
-            merge_last_columns,
-        )
-        & (merge_first_rows.len() == merge_first_columns.len())
+    let six = formed(&rows)
+        & formed(&columns)
+        & (rows.merges.firsts.len() == columns.merges.firsts.len())
         & asked.upright;
-    let seven = all_within(merge_last_rows, MAX_WORKSHEET_ROW)
-        & all_within(merge_last_columns, MAX_WORKSHEET_COLUMN as u32)
+    let seven = all_within(rows.merges.lasts, MAX_WORKSHEET_ROW)
+        & all_within(columns.merges.lasts, MAX_WORKSHEET_COLUMN as u32)
         & asked.inside;
     let early = no_or(4, four, no_or(6, six, no_or(7, seven, 0)));
     if early > 0 {
         return early;
     }
-    let most = settings.cell_limit;
-    let fifteen = cells_hold(most, areas);
-    let eight = rising_within(row_indexes, MAX_WORKSHEET_ROW)
-        & rising_within(column_indexes, MAX_WORKSHEET_COLUMN as u32);
-    let nine = all_small(row_sizes) & all_small(column_sizes);
+    let fifteen = cells_hold(request.settings.cell_limit, areas);
+    let eight = rising_within(rows.slots.indexes, MAX_WORKSHEET_ROW)
+        & rising_within(columns.slots.indexes, MAX_WORKSHEET_COLUMN as u32);
+    let nine = all_small(rows.slots.sizes) & all_small(columns.slots.sizes);
     no_or(15, fifteen, no_or(8, eight, no_or(9, nine, 0)))
 }
 

@@ -17,8 +17,8 @@ pub use pages::{
 pub use partition::{AxisSetup, Partition};
 pub use planning::{
     AreaNotes, Areas, AxisRange, CellLimit, ContentSides, CountedArea, CountedAreas, FinalCut,
-    Frames, Planning, Prepared, PrintRange, Ready, ReadyArea, ReadyTitle, RunCounts, Settings,
-    Shared, SidesFound, Writing,
+    Frames, Planning, Prepared, PrintRange, Ready, ReadyArea, ReadyTitle, Request, RunCounts,
+    Settings, Shared, SidesFound, Writing,
 };
 pub use runs::{Cut, Frame, Held, RUN_NUMBERS, RunEnd, Tally};
 pub use scale::{ChosenScale, Fit, PageSide, Stretch};
