@@ -1,6 +1,7 @@
 -- The plan of a job's bytes: document 01, sections "Jobs" and "Questions in order", and document 02, T-02. Assumes nothing.
 use Rattle.std.specs.Prelude.{◌≡◌, true, List, ℕ, suc, ◌*◌, ◌<◌, ◌≤◌, length, take}
 use Rattle.units.specs.Outcome.{Outcome, given, and_then}
+use Rattle.planner_rules.specs.declared.lists.SheetLists.{SheetLists}
 use Rattle.planner_rules.specs.declared.planning.Areas.{Areas}
 use Rattle.planner_rules.specs.Plan.{Sheet, Layout, AreaLayout, Planned, Counted, AreaWrote, sheet_of, planned, counted, area_written}
 use Rattle.planner_rules.specs.Demand.{CoversPairs, FewestPlan, LargestPlan}
@@ -24,6 +25,13 @@ use Rattle.job.specs.declared.bytes.Answer.{Answer}
 use Rattle.job.specs.declared.bytes.Answer.TheVariants.{ToPlan, ToWrite}
 
 -- ---- what was read, as the planner takes it
+
+-- the ten lists of a sheet
+abbrev pub lists_in : SheetLists → Lists
+lists_in l =
+    lists l.rows.slots.indexes.now l.rows.slots.sizes.now l.columns.slots.indexes.now l.columns.slots.sizes.now
+    l.rows.merges.firsts.now l.columns.merges.firsts.now l.rows.merges.lasts.now l.columns.merges.lasts.now
+    l.rows.breaks.now l.columns.breaks.now
 
 -- settings and ten lists
 abbrev pub sheet_read : JobSettings → Lists → Sheet
@@ -105,22 +113,22 @@ fronts n l =
     (take n.merges l.merge_first_rows) (take n.merges l.merge_first_columns) (take n.merges l.merge_last_rows)
     (take n.merges l.merge_last_columns) (take n.row_breaks l.row_breaks) (take n.column_breaks l.column_breaks)
 
--- the lists are as long as a job that was read to them says
-pub record Long (j : Job) (l : Lists) : Type 0 where
-  pub row_indexes_long : j.items.rows ≤ length l.row_indexes
-  pub row_sizes_long : j.items.rows ≤ length l.row_sizes
-  pub column_indexes_long : j.items.columns ≤ length l.column_indexes
-  pub column_sizes_long : j.items.columns ≤ length l.column_sizes
-  pub merge_first_rows_long : j.items.merges ≤ length l.merge_first_rows
-  pub merge_first_columns_long : j.items.merges ≤ length l.merge_first_columns
-  pub merge_last_rows_long : j.items.merges ≤ length l.merge_last_rows
-  pub merge_last_columns_long : j.items.merges ≤ length l.merge_last_columns
-  pub row_breaks_long : j.items.row_breaks ≤ length l.row_breaks
-  pub column_breaks_long : j.items.column_breaks ≤ length l.column_breaks
+-- the lists are as long as so many items say
+pub record Long (n : Items) (l : Lists) : Type 0 where
+  pub row_indexes_long : n.rows ≤ length l.row_indexes
+  pub row_sizes_long : n.rows ≤ length l.row_sizes
+  pub column_indexes_long : n.columns ≤ length l.column_indexes
+  pub column_sizes_long : n.columns ≤ length l.column_sizes
+  pub merge_first_rows_long : n.merges ≤ length l.merge_first_rows
+  pub merge_first_columns_long : n.merges ≤ length l.merge_first_columns
+  pub merge_last_rows_long : n.merges ≤ length l.merge_last_rows
+  pub merge_last_columns_long : n.merges ≤ length l.merge_last_columns
+  pub row_breaks_long : n.row_breaks ≤ length l.row_breaks
+  pub column_breaks_long : n.column_breaks ≤ length l.column_breaks
 
 -- what was read, if a job was, stands in the lists
 pub record Filled (reading : Reading) (l : Lists) : Type 0 where
-  pub filled : (j : Job) → reading ≡ Value j → Long j l
+  pub filled : (j : Job) → reading ≡ Value j → Long j.items l
 
 -- a refusal is handed on, and writes nothing; a job is answered
 pub record ReadTold (w : Wanted) (reading : Reading) (l : Lists) (r : Answer) (rows₀ columns₀ rows columns : List ℕ) : Type 0 where

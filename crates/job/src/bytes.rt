@@ -6,10 +6,11 @@ ghost use Rattle.planner_rules.specs.Demand.{CoversPairs, FewestPlan, LargestPla
 ghost use Rattle.job_reader.specs.Reading.{lists};
 ghost use Rattle.job.specs.PlanJob as section;
 
+use job_questions::Items;
 use job_reader::{Reading, read_job};
 use job_settings::{JobSettings, areas_for, settings_for};
 use planner::{count_pages, plan_pages, write_area};
-use planner_rules::{Planning, Writing};
+use planner_rules::{AxisLists, MergeList, Planning, Request, SheetLists, SlotList, Writing};
 
 // What is asked of a job: its plan, how many pages it has, or the runs of the area with a number, from 1, at a permille.
 #[derive(Clone, Copy)]
@@ -54,161 +55,104 @@ fn refused_to(wanted: Wanted, number: u8) -> Answer
     }
 }
 
-// Answers what is wanted of settings and ten lists.
+// Answers what is wanted of settings and lists.
 fn answer_lists(
     wanted: Wanted,
     read: JobSettings,
-    row_indexes: &[u32],
-    row_sizes: &[u64],
-    column_indexes: &[u32],
-    column_sizes: &[u64],
-    merge_first_rows: &[u32],
-    merge_first_columns: &[u32],
-    merge_last_rows: &[u32],
-    merge_last_columns: &[u32],
-    row_breaks: &[u32],
-    column_breaks: &[u32],
+    lists: &SheetLists,
     row_runs: &mut [u64],
     column_runs: &mut [u64],
 ) -> Answer
-    ensures { section.ListsTold wanted read
-        (lists row_indexes.now row_sizes.now column_indexes.now column_sizes.now
-        merge_first_rows.now merge_first_columns.now merge_last_rows.now merge_last_columns.now
-        row_breaks.now column_breaks.now)
+    ensures { section.ListsTold wanted read (section.lists_in lists.now)
         result row_runs.old column_runs.old row_runs.new column_runs.new }
 {
-    let settings = settings_for(read);
-    let areas = areas_for(read.areas);
-    let row_title = read.row_title;
-    let column_title = read.column_title;
+    let request = Request {
+        settings: settings_for(read),
+        areas: areas_for(read.areas),
+        row_title: read.row_title,
+        column_title: read.column_title,
+    };
     match wanted {
-        Wanted::Plan => Answer::ToPlan(plan_pages(
-            settings,
-            areas,
-            row_title,
-            column_title,
-            row_indexes,
-            row_sizes,
-            column_indexes,
-            column_sizes,
-            merge_first_rows,
-            merge_first_columns,
-            merge_last_rows,
-            merge_last_columns,
-            row_breaks,
-            column_breaks,
-            row_runs,
-            column_runs,
-        )),
-        Wanted::Count => Answer::ToPlan(count_pages(
-            settings,
-            areas,
-            row_title,
-            column_title,
-            row_indexes,
-            row_sizes,
-            column_indexes,
-            column_sizes,
-            merge_first_rows,
-            merge_first_columns,
-            merge_last_rows,
-            merge_last_columns,
-            row_breaks,
-            column_breaks,
-        )),
+        Wanted::Plan => Answer::ToPlan(plan_pages(&request, lists, row_runs, column_runs)),
+        Wanted::Count => Answer::ToPlan(count_pages(&request, lists)),
         Wanted::Area(number, permille) => Answer::ToWrite(write_area(
-            settings,
-            areas,
-            row_title,
-            column_title,
+            &request,
+            lists,
             number,
             permille,
-            row_indexes,
-            row_sizes,
-            column_indexes,
-            column_sizes,
-            merge_first_rows,
-            merge_first_columns,
-            merge_last_rows,
-            merge_last_columns,
-            row_breaks,
-            column_breaks,
             row_runs,
             column_runs,
         )),
     }
 }
 
-// Answers what is wanted of what was read to ten lists.
+// The fronts of lists, as long as so many items say.
+fn fronts<'a>(items: Items, lists: &SheetLists<'a>) -> SheetLists<'a>
+    requires { section.Long items (section.lists_in lists.now) }
+    ensures { section.lists_in result ≡ section.fronts items (section.lists_in lists.now) }
+{
+    let SheetLists { rows, columns } = *lists;
+    SheetLists {
+        rows: AxisLists {
+            slots: SlotList {
+                indexes: &rows.slots.indexes[..items.rows],
+                sizes: &rows.slots.sizes[..items.rows],
+            },
+            merges: MergeList {
+                firsts: &rows.merges.firsts[..items.merges],
+                lasts: &rows.merges.lasts[..items.merges],
+            },
+            breaks: &rows.breaks[..items.row_breaks],
+        },
+        columns: AxisLists {
+            slots: SlotList {
+                indexes: &columns.slots.indexes[..items.columns],
+                sizes: &columns.slots.sizes[..items.columns],
+            },
+            merges: MergeList {
+                firsts: &columns.merges.firsts[..items.merges],
+                lasts: &columns.merges.lasts[..items.merges],
+            },
+            breaks: &columns.breaks[..items.column_breaks],
+        },
+    }
+}
+
+// Answers what is wanted of what was read to lists.
 fn answer_read(
     wanted: Wanted,
     reading: Reading,
-    row_indexes: &[u32],
-    row_sizes: &[u64],
-    column_indexes: &[u32],
-    column_sizes: &[u64],
-    merge_first_rows: &[u32],
-    merge_first_columns: &[u32],
-    merge_last_rows: &[u32],
-    merge_last_columns: &[u32],
-    row_breaks: &[u32],
-    column_breaks: &[u32],
+    lists: &SheetLists,
     row_runs: &mut [u64],
     column_runs: &mut [u64],
 ) -> Answer
-    requires { section.Filled reading
-        (lists row_indexes.now row_sizes.now column_indexes.now column_sizes.now merge_first_rows.now merge_first_columns.now
-        merge_last_rows.now merge_last_columns.now row_breaks.now column_breaks.now) }
-    ensures { section.ReadTold wanted reading
-        (lists row_indexes.now row_sizes.now column_indexes.now column_sizes.now
-        merge_first_rows.now merge_first_columns.now merge_last_rows.now merge_last_columns.now
-        row_breaks.now column_breaks.now)
+    requires { section.Filled reading (section.lists_in lists.now) }
+    ensures { section.ReadTold wanted reading (section.lists_in lists.now)
         result row_runs.old column_runs.old row_runs.new column_runs.new }
 {
     match reading {
         Reading::Refused(number) => refused_to(wanted, number),
         Reading::Value(job) => {
-            let settings = job.settings;
-            let items = job.items;
-            let rows = items.rows;
-            let columns = items.columns;
-            let merges = items.merges;
-            let row_break_count = items.row_breaks;
-            let column_break_count = items.column_breaks;
-            answer_lists(
-                wanted,
-                settings,
-                &row_indexes[..rows],
-                &row_sizes[..rows],
-                &column_indexes[..columns],
-                &column_sizes[..columns],
-                &merge_first_rows[..merges],
-                &merge_first_columns[..merges],
-                &merge_last_rows[..merges],
-                &merge_last_columns[..merges],
-                &row_breaks[..row_break_count],
-                &column_breaks[..column_break_count],
-                row_runs,
-                column_runs,
-            )
+            let read = fronts(job.items, lists);
+            answer_lists(wanted, job.settings, &read, row_runs, column_runs)
         }
     }
 }
 
 // Reads a job into ten lists that hold its items, and answers what is wanted of it.
-fn answer_in(
+fn answer_in<'a>(
     wanted: Wanted,
     bytes: &[u8],
-    row_indexes: &mut [u32],
-    row_sizes: &mut [u64],
-    column_indexes: &mut [u32],
-    column_sizes: &mut [u64],
-    merge_first_rows: &mut [u32],
-    merge_first_columns: &mut [u32],
-    merge_last_rows: &mut [u32],
-    merge_last_columns: &mut [u32],
-    row_breaks: &mut [u32],
-    column_breaks: &mut [u32],
+    row_indexes: &'a mut [u32],
+    row_sizes: &'a mut [u64],
+    column_indexes: &'a mut [u32],
+    column_sizes: &'a mut [u64],
+    merge_first_rows: &'a mut [u32],
+    merge_first_columns: &'a mut [u32],
+    merge_last_rows: &'a mut [u32],
+    merge_last_columns: &'a mut [u32],
+    row_breaks: &'a mut [u32],
+    column_breaks: &'a mut [u32],
     row_runs: &mut [u64],
     column_runs: &mut [u64],
 ) -> Answer
@@ -231,22 +175,31 @@ fn answer_in(
         row_breaks,
         column_breaks,
     );
-    answer_read(
-        wanted,
-        reading,
-        row_indexes,
-        row_sizes,
-        column_indexes,
-        column_sizes,
-        merge_first_rows,
-        merge_first_columns,
-        merge_last_rows,
-        merge_last_columns,
-        row_breaks,
-        column_breaks,
-        row_runs,
-        column_runs,
-    )
+    let lists = SheetLists {
+        rows: AxisLists {
+            slots: SlotList {
+                indexes: row_indexes,
+                sizes: row_sizes,
+            },
+            merges: MergeList {
+                firsts: merge_first_rows,
+                lasts: merge_last_rows,
+            },
+            breaks: row_breaks,
+        },
+        columns: AxisLists {
+            slots: SlotList {
+                indexes: column_indexes,
+                sizes: column_sizes,
+            },
+            merges: MergeList {
+                firsts: merge_first_columns,
+                lasts: merge_last_columns,
+            },
+            breaks: column_breaks,
+        },
+    };
+    answer_read(wanted, reading, &lists, row_runs, column_runs)
 }
 
 // Answers what is wanted of a job, by arrays that hold so many rows and merges, columns and breaks.

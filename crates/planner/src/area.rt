@@ -1,16 +1,19 @@
 // One area: ready to be cut, its scale, counted and written. Document 01, sections "Scale" and "Pages", and document 02, T-02.
 ghost use Rattle.std.specs.Prelude.{◌≡◌, cond, ◌&&◌, []};
 ghost use Rattle.planner_rules.specs.Scale.{fixed_scale, fit_scale, scale_of, fit_passes, Low};
+ghost use Rattle.planner_rules.specs.Asked.{sheet_by};
 ghost use Rattle.planner_rules.specs.Plan as call;
 ghost use Rattle.planner_rules.specs.Steps as step;
 
 use crate::cut::{count_cut, write_cut};
+use crate::memory::in_memory;
 use crate::places::place_of;
 use crate::scale::{fit_scale, frame_at};
+use crate::settled::SettledSheet;
 use planner_compare::{longer, wide};
 use planner_rules::{
-    AreaNotes, AreaPlan, Axis, AxisRange, ChosenScale, CountedArea, FinalCut, Fit, Frames,
-    PageSide, PrintRange, Ready, ReadyArea, ReadyTitle, Settings, Shared, Stretch,
+    AreaNotes, AreaPlan, Axis, AxisRange, ChosenScale, CountedArea, FinalCut, Fit, Frames, PageSide,
+    PrintRange, Ready, ReadyArea, ReadyTitle, Shared, SheetLists, Stretch,
 };
 use planner_setup::{axis_range, fixed_scale, looked_at};
 use planner_titles::body_start;
@@ -45,34 +48,6 @@ fn ready_axis(axis: AxisRange, side: Fixed, title: ReadyTitle, indexes: &[u32]) 
     }
 }
 
-// Finds both bodies of an area.
-pub(crate) fn ready_area(
-    shared: Shared,
-    range: PrintRange,
-    row_indexes: &[u32],
-    column_indexes: &[u32],
-) -> ReadyArea
-    requires startable_rows { step.Startable row_indexes.now shared.rows range.first_row }
-    requires startable_columns { step.Startable column_indexes.now shared.columns range.first_column }
-    ensures { result ≡ step.ready_in shared range row_indexes.now column_indexes.now }
-{
-    let settings = shared.settings;
-    let sides = shared.sides;
-    let row_title = shared.rows;
-    let column_title = shared.columns;
-    let row_asked = row_title.asked;
-    let column_asked = column_title.asked;
-    let height = sides.height;
-    let width = sides.width;
-    let row_axis = axis_range(Axis::Rows, settings, range, row_asked);
-    let column_axis = axis_range(Axis::Columns, settings, range, column_asked);
-    ReadyArea {
-        range,
-        rows: ready_axis(row_axis, height, row_title, row_indexes),
-        columns: ready_axis(column_axis, width, column_title, column_indexes),
-    }
-}
-
 // What the runs of both axes go by at a permille.
 #[inline(always)]
 pub(crate) fn frames_at(ready: ReadyArea, permille: u16) -> Frames
@@ -80,64 +55,10 @@ pub(crate) fn frames_at(ready: ReadyArea, permille: u16) -> Frames
     requires low_columns { Low ready.columns.fit.page }
     ensures { result ≡ step.frames_of ready permille }
 {
-    let rows = ready.rows;
-    let columns = ready.columns;
-    let row_fit = rows.fit;
-    let column_fit = columns.fit;
     Frames {
-        rows: frame_at(row_fit, permille),
-        columns: frame_at(column_fit, permille),
+        rows: frame_at(ready.rows.fit, permille),
+        columns: frame_at(ready.columns.fit, permille),
     }
-}
-
-// The scale of an area: by fitting, or by percent.
-#[inline(always)]
-pub(crate) fn choose_scale(
-    settings: Settings,
-    ready: ReadyArea,
-    row_indexes: &[u32],
-    row_sizes: &[u64],
-    column_indexes: &[u32],
-    column_sizes: &[u64],
-    merge_first_rows: &[u32],
-    merge_first_columns: &[u32],
-    merge_last_rows: &[u32],
-    merge_last_columns: &[u32],
-) -> ChosenScale
-    requires cuttable_rows { call.Cuttable ready.rows row_indexes.now row_sizes.now }
-    requires cuttable_columns { call.Cuttable ready.columns column_indexes.now column_sizes.now }
-    ensures { scale_of result ≡ cond settings.fit
-        (fit_scale
-        (λ p. fit_passes ready.rows.fit merge_first_rows.now merge_last_rows.now
-        (call.within ready.rows row_indexes.now) (call.within ready.rows row_sizes.now) p && fit_passes
-        ready.columns.fit merge_first_columns.now merge_last_columns.now
-        (call.within ready.columns column_indexes.now) (call.within ready.columns column_sizes.now) p))
-        (fixed_scale settings.percent) }
-{
-    if settings.fit {
-        let rows = ready.rows;
-        let columns = ready.columns;
-        let row_fit = rows.fit;
-        let column_fit = columns.fit;
-        let row_from = rows.from;
-        let row_to = rows.to;
-        let column_from = columns.from;
-        let column_to = columns.to;
-        return fit_scale(
-            row_fit,
-            column_fit,
-            merge_first_rows,
-            merge_last_rows,
-            &row_indexes[row_from..row_to],
-            &row_sizes[row_from..row_to],
-            merge_first_columns,
-            merge_last_columns,
-            &column_indexes[column_from..column_to],
-            &column_sizes[column_from..column_to],
-        );
-    }
-    let percent = settings.percent;
-    fixed_scale(percent)
 }
 
 // What an area comes to by its final cuts.
@@ -165,236 +86,216 @@ fn area_from(scale: ChosenScale, rows: FinalCut, columns: FinalCut) -> CountedAr
     }
 }
 
-// Counts the final cuts of an area at a scale. With fit on, no break is looked at.
-#[inline(always)]
-pub(crate) fn count_at(
-    fit: bool,
-    ready: ReadyArea,
-    frames: Frames,
-    scale: ChosenScale,
-    row_indexes: &[u32],
-    row_sizes: &[u64],
-    column_indexes: &[u32],
-    column_sizes: &[u64],
-    merge_first_rows: &[u32],
-    merge_first_columns: &[u32],
-    merge_last_rows: &[u32],
-    merge_last_columns: &[u32],
-    row_breaks: &[u32],
-    column_breaks: &[u32],
-) -> CountedArea
-    requires cuttable_rows { call.Cuttable ready.rows row_indexes.now row_sizes.now }
-    requires cuttable_columns { call.Cuttable ready.columns column_indexes.now column_sizes.now }
-    requires frames_are { frames ≡ step.frames_of ready scale.permille }
-    ensures counted { let rows = step.ready_cut ready.rows scale.permille row_indexes.now row_sizes.now
-        merge_first_rows.now merge_last_rows.now (call.looked_at fit row_breaks.now) in
-        let columns = step.ready_cut ready.columns scale.permille column_indexes.now column_sizes.now
-        merge_first_columns.now merge_last_columns.now (call.looked_at fit column_breaks.now) in
-        result ≡ step.area_from rows columns (scale_of scale) }
-    ensures few_cut { step.FewCut result }
-{
-    let rows = ready.rows;
-    let columns = ready.columns;
-    let permille = scale.permille;
-    let row_kept = looked_at(fit, row_breaks.len());
-    let column_kept = looked_at(fit, column_breaks.len());
-    let row_cut = count_cut(
-        rows,
-        frames.rows,
-        permille,
-        merge_first_rows,
-        merge_last_rows,
-        &row_breaks[..row_kept],
-        row_indexes,
-        row_sizes,
-    );
-    let column_cut = count_cut(
-        columns,
-        frames.columns,
-        permille,
-        merge_first_columns,
-        merge_last_columns,
-        &column_breaks[..column_kept],
-        column_indexes,
-        column_sizes,
-    );
-    area_from(scale, row_cut, column_cut)
-}
+impl SettledSheet<'_> {
+    // Finds both bodies of an area.
+    pub(crate) fn ready(&self, range: PrintRange) -> ReadyArea
+        requires fine_area { step.FineArea range }
+        ensures { let lists = self.now.lists.now in
+            result ≡ step.ready_in self.now.shared.now range lists.rows.slots.indexes.now lists.columns.slots.indexes.now }
+    {
+        let Shared {
+            settings,
+            sides,
+            rows,
+            columns,
+        } = *self.shared;
+        let lists = self.lists;
+        let row_axis = axis_range(Axis::Rows, settings, range, rows.asked);
+        let column_axis = axis_range(Axis::Columns, settings, range, columns.asked);
+        ReadyArea {
+            range,
+            rows: ready_axis(row_axis, sides.height, rows, lists.rows.slots.indexes),
+            columns: ready_axis(
+                column_axis,
+                sides.width,
+                columns,
+                lists.columns.slots.indexes,
+            ),
+        }
+    }
 
-// Counts an area at the scale that is chosen for it.
-#[inline(always)]
-pub(crate) fn count_area(
-    shared: Shared,
-    range: PrintRange,
-    row_indexes: &[u32],
-    row_sizes: &[u64],
-    column_indexes: &[u32],
-    column_sizes: &[u64],
-    merge_first_rows: &[u32],
-    merge_first_columns: &[u32],
-    merge_last_rows: &[u32],
-    merge_last_columns: &[u32],
-    row_breaks: &[u32],
-    column_breaks: &[u32],
-) -> CountedArea
-    requires settled { let sheet = step.sheet_by shared row_indexes.now row_sizes.now column_indexes.now column_sizes.now merge_first_rows.now
-        merge_first_columns.now merge_last_rows.now merge_last_columns.now row_breaks.now column_breaks.now in
-        step.Settled shared sheet }
-    requires fine_area { step.FineArea range }
-    ensures counted { let sheet = step.sheet_by shared row_indexes.now row_sizes.now column_indexes.now
-        column_sizes.now merge_first_rows.now merge_first_columns.now merge_last_rows.now
-        merge_last_columns.now row_breaks.now column_breaks.now in
-        result ≡ (call.area_layout (step.sides_in shared) sheet range).counted }
-    ensures few { step.Few result }
-{
-    let settings = shared.settings;
-    let ready = ready_area(shared, range, row_indexes, column_indexes);
-    let scale = choose_scale(
-        settings,
-        ready,
-        row_indexes,
-        row_sizes,
-        column_indexes,
-        column_sizes,
-        merge_first_rows,
-        merge_first_columns,
-        merge_last_rows,
-        merge_last_columns,
-    );
-    let frames = frames_at(ready, scale.permille);
-    count_at(
-        settings.fit,
-        ready,
-        frames,
-        scale,
-        row_indexes,
-        row_sizes,
-        column_indexes,
-        column_sizes,
-        merge_first_rows,
-        merge_first_columns,
-        merge_last_rows,
-        merge_last_columns,
-        row_breaks,
-        column_breaks,
+    // The scale of an area: by fitting, or by percent.
+    #[inline(always)]
+    pub(crate) fn choose_scale(&self, ready: ReadyArea) -> ChosenScale
+        requires cuttable_rows { let slots = self.now.lists.now.rows.slots in call.Cuttable ready.rows slots.indexes.now slots.sizes.now }
+        requires cuttable_columns { let slots = self.now.lists.now.columns.slots in call.Cuttable ready.columns slots.indexes.now slots.sizes.now }
+        ensures { let settings = self.now.shared.now.settings in
+            let rows = self.now.lists.now.rows in
+            let columns = self.now.lists.now.columns in
+            scale_of result ≡ cond settings.fit
+            (fit_scale
+            (λ p. fit_passes ready.rows.fit rows.merges.firsts.now rows.merges.lasts.now
+            (call.within ready.rows rows.slots.indexes.now) (call.within ready.rows rows.slots.sizes.now) p && fit_passes
+            ready.columns.fit columns.merges.firsts.now columns.merges.lasts.now
+            (call.within ready.columns columns.slots.indexes.now) (call.within ready.columns columns.slots.sizes.now) p))
+            (fixed_scale settings.percent) }
+    {
+        if !self.shared.settings.fit {
+            return fixed_scale(self.shared.settings.percent);
+        }
+        let ReadyArea { rows, columns, .. } = ready;
+        let SheetLists {
+            rows: row_lists,
+            columns: column_lists,
+        } = *self.lists;
+        fit_scale(
+            rows.fit,
+            columns.fit,
+            row_lists.merges.firsts,
+            row_lists.merges.lasts,
+            &row_lists.slots.indexes[rows.from..rows.to],
+            &row_lists.slots.sizes[rows.from..rows.to],
+            column_lists.merges.firsts,
+            column_lists.merges.lasts,
+            &column_lists.slots.indexes[columns.from..columns.to],
+            &column_lists.slots.sizes[columns.from..columns.to],
+        )
+    }
+
+    // Counts the final cuts of an area at a scale. With fit on, no break is looked at.
+    #[inline(always)]
+    pub(crate) fn count_at(
+        &self,
+        ready: ReadyArea,
+        frames: Frames,
+        scale: ChosenScale,
+    ) -> CountedArea
+        requires cuttable_rows { let slots = self.now.lists.now.rows.slots in call.Cuttable ready.rows slots.indexes.now slots.sizes.now }
+        requires cuttable_columns { let slots = self.now.lists.now.columns.slots in call.Cuttable ready.columns slots.indexes.now slots.sizes.now }
+        requires frames_are { frames ≡ step.frames_of ready scale.permille }
+        ensures counted { let fit = self.now.shared.now.settings.fit in
+            let rows = self.now.lists.now.rows in
+            let columns = self.now.lists.now.columns in
+            let row_cut = step.ready_cut ready.rows scale.permille rows.slots.indexes.now rows.slots.sizes.now
+            rows.merges.firsts.now rows.merges.lasts.now (call.looked_at fit rows.breaks.now) in
+            let column_cut = step.ready_cut ready.columns scale.permille columns.slots.indexes.now columns.slots.sizes.now
+            columns.merges.firsts.now columns.merges.lasts.now (call.looked_at fit columns.breaks.now) in
+            result ≡ step.area_from row_cut column_cut (scale_of scale) }
+        ensures few_cut { step.FewCut result }
+    {
+        let fit = self.shared.settings.fit;
+        let SheetLists { rows, columns } = *self.lists;
+        let row_breaks = in_memory(rows.breaks);
+        let column_breaks = in_memory(columns.breaks);
+        let row_kept = looked_at(fit, row_breaks.len());
+        let column_kept = looked_at(fit, column_breaks.len());
+        let row_cut = count_cut(
+            ready.rows,
+            frames.rows,
+            scale.permille,
+            rows.merges.firsts,
+            rows.merges.lasts,
+            &row_breaks[..row_kept],
+            rows.slots.indexes,
+            rows.slots.sizes,
+        );
+        let column_cut = count_cut(
+            ready.columns,
+            frames.columns,
+            scale.permille,
+            columns.merges.firsts,
+            columns.merges.lasts,
+            &column_breaks[..column_kept],
+            columns.slots.indexes,
+            columns.slots.sizes,
+        );
+        area_from(scale, row_cut, column_cut)
+    }
+
+    // Counts an area at the scale that is chosen for it.
+    #[inline(always)]
+    pub(crate) fn count_area(&self, range: PrintRange) -> CountedArea
+        requires fine_area { step.FineArea range }
+        ensures counted { let shared = self.now.shared.now in
+            result ≡ (call.area_layout (step.sides_in shared) (sheet_by shared self.now.lists.now) range).counted }
+        ensures few { step.Few result }
+    {
+        let ready = self.ready(range);
+        let scale = self.choose_scale(ready);
+        let frames = frames_at(ready, scale.permille);
+        self.count_at(ready, frames, scale)
+    }
+
+    // Writes the runs of an area that is ready, from a place in each list on.
+    #[inline(always)]
+    pub(crate) fn write_ready(
+        &self,
+        ready: ReadyArea,
+        frames: Frames,
+        area: AreaPlan,
+        row_at: usize,
+        column_at: usize,
+        row_runs: &mut [u64],
+        column_runs: &mut [u64],
     )
-}
+        requires writable { let shared = self.now.shared.now in
+            step.Writable shared (sheet_by shared self.now.lists.now) ready.range area row_at column_at row_runs.old column_runs.old }
+        requires is_ready { let lists = self.now.lists.now in
+            ready ≡ step.ready_in self.now.shared.now ready.range lists.rows.slots.indexes.now lists.columns.slots.indexes.now }
+        requires frames_are { frames ≡ step.frames_of ready area.permille }
+        ensures { let shared = self.now.shared.now in
+            let sheet = sheet_by shared self.now.lists.now in
+            (row_runs.new ≡ step.put_at (step.rows_at shared sheet ready.range area.permille) row_at row_runs.old)
+            × (column_runs.new ≡ step.put_at (step.columns_at shared sheet ready.range area.permille) column_at column_runs.old) }
+    {
+        let fit = self.shared.settings.fit;
+        let SheetLists { rows, columns } = *self.lists;
+        let row_kept = looked_at(fit, rows.breaks.len());
+        let column_kept = looked_at(fit, columns.breaks.len());
+        write_cut(
+            ready.rows,
+            frames.rows,
+            area.rows_empty,
+            ready.range.first_row,
+            rows.merges.firsts,
+            rows.merges.lasts,
+            &rows.breaks[..row_kept],
+            rows.slots.indexes,
+            rows.slots.sizes,
+            &mut row_runs[row_at..],
+        );
+        write_cut(
+            ready.columns,
+            frames.columns,
+            area.columns_empty,
+            ready.range.first_column,
+            columns.merges.firsts,
+            columns.merges.lasts,
+            &columns.breaks[..column_kept],
+            columns.slots.indexes,
+            columns.slots.sizes,
+            &mut column_runs[column_at..],
+        );
+    }
 
-// Writes the runs of an area that is ready, from a place in each list on.
-#[inline(always)]
-pub(crate) fn write_ready(
-    shared: Shared,
-    ready: ReadyArea,
-    frames: Frames,
-    area: AreaPlan,
-    row_at: usize,
-    column_at: usize,
-    row_indexes: &[u32],
-    row_sizes: &[u64],
-    column_indexes: &[u32],
-    column_sizes: &[u64],
-    merge_first_rows: &[u32],
-    merge_first_columns: &[u32],
-    merge_last_rows: &[u32],
-    merge_last_columns: &[u32],
-    row_breaks: &[u32],
-    column_breaks: &[u32],
-    row_runs: &mut [u64],
-    column_runs: &mut [u64],
-)
-    requires settled { let sheet = step.sheet_by shared row_indexes.now row_sizes.now column_indexes.now column_sizes.now merge_first_rows.now
-        merge_first_columns.now merge_last_rows.now merge_last_columns.now row_breaks.now column_breaks.now in
-        step.Settled shared sheet × step.Writable shared sheet ready.range area row_at column_at row_runs.old column_runs.old }
-    requires is_ready { ready ≡ step.ready_in shared ready.range row_indexes.now column_indexes.now }
-    requires frames_are { frames ≡ step.frames_of ready area.permille }
-    ensures { let sheet = step.sheet_by shared row_indexes.now row_sizes.now column_indexes.now
-        column_sizes.now merge_first_rows.now merge_first_columns.now merge_last_rows.now
-        merge_last_columns.now row_breaks.now column_breaks.now in
-        (row_runs.new ≡ step.put_at (step.rows_at shared sheet ready.range area.permille) row_at row_runs.old)
-        × (column_runs.new ≡ step.put_at (step.columns_at shared sheet ready.range area.permille) column_at column_runs.old) }
-{
-    let settings = shared.settings;
-    let range = ready.range;
-    let rows = ready.rows;
-    let columns = ready.columns;
-    let row_kept = looked_at(settings.fit, row_breaks.len());
-    let column_kept = looked_at(settings.fit, column_breaks.len());
-    write_cut(
-        rows,
-        frames.rows,
-        area.rows_empty,
-        range.first_row,
-        merge_first_rows,
-        merge_last_rows,
-        &row_breaks[..row_kept],
-        row_indexes,
-        row_sizes,
-        &mut row_runs[row_at..],
-    );
-    write_cut(
-        columns,
-        frames.columns,
-        area.columns_empty,
-        range.first_column,
-        merge_first_columns,
-        merge_last_columns,
-        &column_breaks[..column_kept],
-        column_indexes,
-        column_sizes,
-        &mut column_runs[column_at..],
-    );
-}
-
-// Writes the runs of an area, from a place in each list on.
-pub(crate) fn write_area_runs(
-    shared: Shared,
-    range: PrintRange,
-    area: AreaPlan,
-    row_at: usize,
-    column_at: usize,
-    row_indexes: &[u32],
-    row_sizes: &[u64],
-    column_indexes: &[u32],
-    column_sizes: &[u64],
-    merge_first_rows: &[u32],
-    merge_first_columns: &[u32],
-    merge_last_rows: &[u32],
-    merge_last_columns: &[u32],
-    row_breaks: &[u32],
-    column_breaks: &[u32],
-    row_runs: &mut [u64],
-    column_runs: &mut [u64],
-)
-    requires settled { let sheet = step.sheet_by shared row_indexes.now row_sizes.now column_indexes.now column_sizes.now merge_first_rows.now
-        merge_first_columns.now merge_last_rows.now merge_last_columns.now row_breaks.now column_breaks.now in
-        step.Settled shared sheet × step.Writable shared sheet range area row_at column_at row_runs.old column_runs.old }
-    requires fine_area { step.FineArea range }
-    ensures { let sheet = step.sheet_by shared row_indexes.now row_sizes.now column_indexes.now
-        column_sizes.now merge_first_rows.now merge_first_columns.now merge_last_rows.now
-        merge_last_columns.now row_breaks.now column_breaks.now in
-        (row_runs.new ≡ step.put_at (step.rows_at shared sheet range area.permille) row_at row_runs.old)
-        × (column_runs.new ≡ step.put_at (step.columns_at shared sheet range area.permille) column_at column_runs.old) }
-{
-    let ready = ready_area(shared, range, row_indexes, column_indexes);
-    let frames = frames_at(ready, area.permille);
-    write_ready(
-        shared,
-        ready,
-        frames,
-        area,
-        row_at,
-        column_at,
-        row_indexes,
-        row_sizes,
-        column_indexes,
-        column_sizes,
-        merge_first_rows,
-        merge_first_columns,
-        merge_last_rows,
-        merge_last_columns,
-        row_breaks,
-        column_breaks,
-        row_runs,
-        column_runs,
-    );
+    // Writes the runs of an area, from a place in each list on.
+    pub(crate) fn write_runs(
+        &self,
+        range: PrintRange,
+        area: AreaPlan,
+        row_at: usize,
+        column_at: usize,
+        row_runs: &mut [u64],
+        column_runs: &mut [u64],
+    )
+        requires fine_area { step.FineArea range }
+        requires writable { let shared = self.now.shared.now in
+            step.Writable shared (sheet_by shared self.now.lists.now) range area row_at column_at row_runs.old column_runs.old }
+        ensures { let shared = self.now.shared.now in
+            let sheet = sheet_by shared self.now.lists.now in
+            (row_runs.new ≡ step.put_at (step.rows_at shared sheet range area.permille) row_at row_runs.old)
+            × (column_runs.new ≡ step.put_at (step.columns_at shared sheet range area.permille) column_at column_runs.old) }
+    {
+        let ready = self.ready(range);
+        let frames = frames_at(ready, area.permille);
+        self.write_ready(
+            ready,
+            frames,
+            area,
+            row_at,
+            column_at,
+            row_runs,
+            column_runs,
+        );
+    }
 }

@@ -3,13 +3,14 @@ ghost use Rattle.std.specs.Prelude.{◌≡◌, [], map, ◌+◌, ◌<◌};
 ghost use Rattle.planner_rules.specs.Slots.{written};
 ghost use Rattle.planner_rules.specs.Areas.{areas_in, held_plans};
 ghost use Rattle.planner_rules.specs.Lent.{flat};
+ghost use Rattle.planner_rules.specs.Asked.{sheet_by};
 ghost use Rattle.planner_rules.specs.Plan as call;
 ghost use Rattle.planner_rules.specs.Steps as step;
 
-use crate::area::{count_area, write_area_runs};
+use crate::settled::SettledSheet;
 use planner_areas::{area_at, plan_at, with_plan};
 use planner_rules::{
-    AreaNotes, AreaPlan, AreaPlans, Areas, CountedArea, CountedAreas, RUN_NUMBERS, Shared,
+    AreaNotes, AreaPlan, AreaPlans, Areas, CountedArea, CountedAreas, RUN_NUMBERS,
 };
 
 const MOST: u64 = 18_446_744_073_709_551_615;
@@ -91,112 +92,53 @@ pub(crate) fn add_area(all: CountedAreas, at: usize, counted: CountedArea) -> Co
     }
 }
 
-// Counts the areas in job order, each at its own scale.
-#[inline(always)]
-pub(crate) fn count_areas(
-    shared: Shared,
-    areas: Areas,
-    row_indexes: &[u32],
-    row_sizes: &[u64],
-    column_indexes: &[u32],
-    column_sizes: &[u64],
-    merge_first_rows: &[u32],
-    merge_first_columns: &[u32],
-    merge_last_rows: &[u32],
-    merge_last_columns: &[u32],
-    row_breaks: &[u32],
-    column_breaks: &[u32],
-) -> CountedAreas
-    requires settled { let sheet = step.sheet_by shared row_indexes.now row_sizes.now column_indexes.now column_sizes.now merge_first_rows.now
-        merge_first_columns.now merge_last_rows.now merge_last_columns.now row_breaks.now column_breaks.now in
-        step.Settled shared sheet }
-    requires fine_areas { step.FineAreas areas }
-    ensures { let sheet = step.sheet_by shared row_indexes.now row_sizes.now column_indexes.now
-        column_sizes.now merge_first_rows.now merge_first_columns.now merge_last_rows.now
-        merge_last_columns.now row_breaks.now column_breaks.now in
-        result ≡ step.counted_of (call.layouts_of (step.sides_in shared) sheet (areas_in areas)) }
-{
-    let mut all = no_areas();
-    let mut i = 0;
-    while i < areas.count {
-        let range = area_at(areas, i);
-        let counted = count_area(
-            shared,
-            range,
-            row_indexes,
-            row_sizes,
-            column_indexes,
-            column_sizes,
-            merge_first_rows,
-            merge_first_columns,
-            merge_last_rows,
-            merge_last_columns,
-            row_breaks,
-            column_breaks,
-        );
-        all = add_area(all, i, counted);
-        i += 1;
+impl SettledSheet<'_> {
+    // Counts the areas in job order, each at its own scale.
+    #[inline(always)]
+    pub(crate) fn count_areas(&self, areas: Areas) -> CountedAreas
+        requires fine_areas { step.FineAreas areas }
+        ensures { let shared = self.now.shared.now in
+            let sheet = sheet_by shared self.now.lists.now in
+            result ≡ step.counted_of (call.layouts_of (step.sides_in shared) sheet (areas_in areas)) }
+    {
+        let mut all = no_areas();
+        let mut i = 0;
+        while i < areas.count {
+            let range = area_at(areas, i);
+            let counted = self.count_area(range);
+            all = add_area(all, i, counted);
+            i += 1;
+        }
+        all
     }
-    all
-}
 
-// Writes the runs of all areas in job order, each at the permille that it was counted at.
-pub(crate) fn write_areas(
-    shared: Shared,
-    areas: Areas,
-    plans: AreaPlans,
-    row_indexes: &[u32],
-    row_sizes: &[u64],
-    column_indexes: &[u32],
-    column_sizes: &[u64],
-    merge_first_rows: &[u32],
-    merge_first_columns: &[u32],
-    merge_last_rows: &[u32],
-    merge_last_columns: &[u32],
-    row_breaks: &[u32],
-    column_breaks: &[u32],
-    row_runs: &mut [u64],
-    column_runs: &mut [u64],
-)
-    requires settled { let sheet = step.sheet_by shared row_indexes.now row_sizes.now column_indexes.now column_sizes.now merge_first_rows.now
-        merge_first_columns.now merge_last_rows.now merge_last_columns.now row_breaks.now column_breaks.now in
-        let layouts = call.layouts_of (step.sides_in shared) sheet (areas_in areas) in
-        step.Settled shared sheet × (plans ≡ held_plans (map call.plan_in layouts)) × step.RoomForAll layouts row_runs.old column_runs.old }
-    requires fine_areas { step.FineAreas areas }
-    ensures { let sheet = step.sheet_by shared row_indexes.now row_sizes.now column_indexes.now
-        column_sizes.now merge_first_rows.now merge_first_columns.now merge_last_rows.now
-        merge_last_columns.now row_breaks.now column_breaks.now in
-        let layouts = call.layouts_of (step.sides_in shared) sheet (areas_in areas) in
-        (row_runs.new ≡ written (flat (call.row_runs_of layouts)) row_runs.old)
-        × (column_runs.new ≡ written (flat (call.column_runs_of layouts)) column_runs.old) }
-{
-    let mut row_at = 0;
-    let mut column_at = 0;
-    let mut i = 0;
-    while i < areas.count {
-        let range = area_at(areas, i);
-        let area = plan_at(plans, i);
-        write_area_runs(
-            shared,
-            range,
-            area,
-            row_at,
-            column_at,
-            row_indexes,
-            row_sizes,
-            column_indexes,
-            column_sizes,
-            merge_first_rows,
-            merge_first_columns,
-            merge_last_rows,
-            merge_last_columns,
-            row_breaks,
-            column_breaks,
-            row_runs,
-            column_runs,
-        );
-        row_at += area.row_runs * RUN_NUMBERS;
-        column_at += area.column_runs * RUN_NUMBERS;
-        i += 1;
+    // Writes the runs of all areas in job order, each at the permille that it was counted at.
+    pub(crate) fn write_areas(
+        &self,
+        areas: Areas,
+        plans: AreaPlans,
+        row_runs: &mut [u64],
+        column_runs: &mut [u64],
+    )
+        requires counted { let shared = self.now.shared.now in
+            let layouts = call.layouts_of (step.sides_in shared) (sheet_by shared self.now.lists.now) (areas_in areas) in
+            (plans ≡ held_plans (map call.plan_in layouts)) × step.RoomForAll layouts row_runs.old column_runs.old }
+        requires fine_areas { step.FineAreas areas }
+        ensures { let shared = self.now.shared.now in
+            let layouts = call.layouts_of (step.sides_in shared) (sheet_by shared self.now.lists.now) (areas_in areas) in
+            (row_runs.new ≡ written (flat (call.row_runs_of layouts)) row_runs.old)
+            × (column_runs.new ≡ written (flat (call.column_runs_of layouts)) column_runs.old) }
+    {
+        let mut row_at = 0;
+        let mut column_at = 0;
+        let mut i = 0;
+        while i < areas.count {
+            let range = area_at(areas, i);
+            let area = plan_at(plans, i);
+            self.write_runs(range, area, row_at, column_at, row_runs, column_runs);
+            row_at += area.row_runs * RUN_NUMBERS;
+            column_at += area.column_runs * RUN_NUMBERS;
+            i += 1;
+        }
     }
 }

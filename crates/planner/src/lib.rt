@@ -5,11 +5,13 @@ mod area;
 mod areas;
 mod cut;
 mod filling;
+mod memory;
 mod partition;
 mod places;
 mod plan;
 mod runs;
 mod scale;
+mod settled;
 mod title;
 
 pub use partition::partition_axis_with_breaks;

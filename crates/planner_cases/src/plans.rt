@@ -10,7 +10,7 @@ use crate::plan_head::{HEAD, length};
 use crate::{fields, page_text, plan_head as head};
 use geometry::Margins;
 use job_records::float;
-use planner_rules::{Areas, Settings};
+use planner_rules::{AxisLists, MergeList, Request, Settings, SheetLists, SlotList};
 
 // Reads the margins, if they are given.
 fn read_settings(line: &[u8; TEXT]) -> Settings {
@@ -32,42 +32,15 @@ fn read_settings(line: &[u8; TEXT]) -> Settings {
 // Lends two lists for the runs, plans, and answers what the lists hold then, and pages.
 fn planned(
     line: &[u8; TEXT],
-    settings: Settings,
-    areas: Areas,
-    row_indexes: &[u32],
-    row_sizes: &[u64],
-    column_indexes: &[u32],
-    column_sizes: &[u64],
-    merge_first_rows: &[u32],
-    merge_first_columns: &[u32],
-    merge_last_rows: &[u32],
-    merge_last_columns: &[u32],
-    row_breaks: &[u32],
-    column_breaks: &[u32],
+    request: &Request,
+    lists: &SheetLists,
     out: &mut [u8; LINE],
 ) -> usize {
     let mut rows = numbers_from(ROWS);
     let mut columns = numbers_from(COLUMNS);
     let n = capped(length(line, 10), NUMBERS);
     let m = capped(length(line, 11), NUMBERS);
-    let planning = planner::plan_pages(
-        settings,
-        areas,
-        head::row_title(line),
-        head::column_title(line),
-        row_indexes,
-        row_sizes,
-        column_indexes,
-        column_sizes,
-        merge_first_rows,
-        merge_first_columns,
-        merge_last_rows,
-        merge_last_columns,
-        row_breaks,
-        column_breaks,
-        &mut rows[0..n],
-        &mut columns[0..m],
-    );
+    let planning = planner::plan_pages(request, lists, &mut rows[0..n], &mut columns[0..m]);
     page_text::answered(out, planning, runs(&rows, n), runs(&columns, m))
 }
 
@@ -86,20 +59,35 @@ pub(crate) fn read_plan(out: &mut [u8; LINE]) -> usize {
     let last_columns = read_numbers(length(&line, 7));
     let row_breaks = read_numbers(length(&line, 8));
     let column_breaks = read_numbers(length(&line, 9));
-    planned(
-        &line,
+    let request = Request {
         settings,
         areas,
-        numbers(&row_indexes, length(&line, 0)),
-        sizes(&row_sizes, length(&line, 1)),
-        numbers(&column_indexes, length(&line, 2)),
-        sizes(&column_sizes, length(&line, 3)),
-        numbers(&first_rows, length(&line, 4)),
-        numbers(&first_columns, length(&line, 5)),
-        numbers(&last_rows, length(&line, 6)),
-        numbers(&last_columns, length(&line, 7)),
-        numbers(&row_breaks, length(&line, 8)),
-        numbers(&column_breaks, length(&line, 9)),
-        out,
-    )
+        row_title: head::row_title(&line),
+        column_title: head::column_title(&line),
+    };
+    let lists = SheetLists {
+        rows: AxisLists {
+            slots: SlotList {
+                indexes: numbers(&row_indexes, length(&line, 0)),
+                sizes: sizes(&row_sizes, length(&line, 1)),
+            },
+            merges: MergeList {
+                firsts: numbers(&first_rows, length(&line, 4)),
+                lasts: numbers(&last_rows, length(&line, 6)),
+            },
+            breaks: numbers(&row_breaks, length(&line, 8)),
+        },
+        columns: AxisLists {
+            slots: SlotList {
+                indexes: numbers(&column_indexes, length(&line, 2)),
+                sizes: sizes(&column_sizes, length(&line, 3)),
+            },
+            merges: MergeList {
+                firsts: numbers(&first_columns, length(&line, 5)),
+                lasts: numbers(&last_columns, length(&line, 7)),
+            },
+            breaks: numbers(&column_breaks, length(&line, 9)),
+        },
+    };
+    planned(&line, &request, &lists, out)
 }

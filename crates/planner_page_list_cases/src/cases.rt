@@ -1,7 +1,8 @@
 // Plans whose pages are listed. Slots are 400,000 each, on Letter.
 use crate::{places, text};
 use planner_rules::{
-    Areas, Listing, PageOrder, Plan, Planning, PrintRange, RUN_NUMBERS, Settings, Title,
+    Areas, AxisLists, Listing, MergeList, PageOrder, Plan, Planning, PrintRange,
+    RUN_NUMBERS, Request, Settings, SheetLists, SlotList, Title,
 };
 
 // The most runs of these plans.
@@ -80,36 +81,33 @@ fn listed(plan: Plan, row_runs: &[u64], column_runs: &[u64]) {
     places::say_places(list, answered(answer), plan, row_runs, column_runs)
 }
 
+// No merge.
+const NONE: MergeList<'static> = MergeList {
+    firsts: &[],
+    lasts: &[],
+};
+
+// The slots of an axis, and its breaks.
+fn axis<'a>(indexes: &'a [u32], sizes: &'a [u64], breaks: &'a [u32]) -> AxisLists<'a> {
+    AxisLists {
+        slots: SlotList { indexes, sizes },
+        merges: NONE,
+        breaks,
+    }
+}
+
 // Plans slots, and lists the pages.
-fn planned(
-    settings: Settings,
-    areas: Areas,
-    row_indexes: &[u32],
-    row_sizes: &[u64],
-    column_indexes: &[u32],
-    column_sizes: &[u64],
-    row_breaks: &[u32],
-) {
+fn planned(settings: Settings, areas: Areas, rows: AxisLists, columns: AxisLists) {
     let mut row_runs = [0u64; ROW_RUNS * RUN_NUMBERS];
     let mut column_runs = [0u64; COLUMN_RUNS * RUN_NUMBERS];
-    let planning = planner::plan_pages(
+    let request = Request {
         settings,
         areas,
-        Title::Absent,
-        Title::Absent,
-        row_indexes,
-        row_sizes,
-        column_indexes,
-        column_sizes,
-        &[],
-        &[],
-        &[],
-        &[],
-        row_breaks,
-        &[],
-        &mut row_runs,
-        &mut column_runs,
-    );
+        row_title: Title::Absent,
+        column_title: Title::Absent,
+    };
+    let lists = SheetLists { rows, columns };
+    let planning = planner::plan_pages(&request, &lists, &mut row_runs, &mut column_runs);
     let Planning::Value(plan) = planning else {
         text::word(b"no plan\n");
         return;
@@ -122,11 +120,8 @@ fn example(order: PageOrder) {
     planned(
         settings(None, order),
         one_area(range(2, 1)),
-        &[0, 1, 2],
-        &[400000, 400000, 400000],
-        &[0, 1],
-        &[400000, 400000],
-        &[],
+        axis(&[0, 1, 2], &[400000, 400000, 400000], &[]),
+        axis(&[0, 1], &[400000, 400000], &[]),
     )
 }
 
@@ -135,11 +130,8 @@ fn break_case() {
     planned(
         settings(None, PageOrder::DownThenOver),
         one_area(range(2, 0)),
-        &[0, 1, 2],
-        &[400000, 400000, 400000],
-        &[],
-        &[],
-        &[1],
+        axis(&[0, 1, 2], &[400000, 400000, 400000], &[1]),
+        axis(&[], &[], &[]),
     )
 }
 
@@ -148,11 +140,12 @@ fn five_case() {
     planned(
         settings(Some(200), PageOrder::DownThenOver),
         one_area(range(4, 0)),
-        &[0, 1, 2, 3, 4],
-        &[400000, 400000, 400000, 400000, 400000],
-        &[0],
-        &[400000],
-        &[],
+        axis(
+            &[0, 1, 2, 3, 4],
+            &[400000, 400000, 400000, 400000, 400000],
+            &[],
+        ),
+        axis(&[0], &[400000], &[]),
     )
 }
 
@@ -163,11 +156,8 @@ fn two_areas() {
     planned(
         settings(None, PageOrder::DownThenOver),
         areas_of(2, rows, columns, columns),
-        &[0, 1, 2],
-        &[400000, 400000, 400000],
-        &[0, 1],
-        &[400000, 400000],
-        &[],
+        axis(&[0, 1, 2], &[400000, 400000, 400000], &[]),
+        axis(&[0, 1], &[400000, 400000], &[]),
     )
 }
 
@@ -188,11 +178,8 @@ fn three_areas() {
     planned(
         settings(None, PageOrder::DownThenOver),
         areas_of(3, last, range(0, 0), outside),
-        &[0, 1, 2],
-        &[400000, 400000, 400000],
-        &[0, 1],
-        &[400000, 400000],
-        &[],
+        axis(&[0, 1, 2], &[400000, 400000, 400000], &[]),
+        axis(&[0, 1], &[400000, 400000], &[]),
     )
 }
 

@@ -1,15 +1,16 @@
 // What is asked of lists before a call answers: document 01, section "Questions in order".
 #![tactic(auto)]
 
-ghost use Rattle.std.specs.Prelude.{◌≡◌, fold, bit_or, ℕ, ◌/◌, ◌&&◌, List};
+ghost use Rattle.std.specs.Prelude.{◌≡◌, fold, bit_or, ◌/◌, ◌&&◌};
 ghost use Rattle.planner_rules.specs.Questions.{no_or, equally_long, all_ordered, all_within, rising, rising_within, all_small};
 ghost use Rattle.planner_rules.specs.Areas.{areas_in, every_area, upright, inside_grid};
 ghost use Rattle.planner_rules.specs.Plan as call;
+ghost use Rattle.planner_rules.specs.Asked.{sheet_asked};
 ghost use Rattle.planner_rules.specs.Partition as partition;
 
 use planner_areas::{area_at, at_most_eight, cells_hold};
 use planner_rules::{
-    Areas, AxisSetup, MergeList, PrintRange, RUN_NUMBERS, Settings, SlotList, Title,
+    Areas, AxisSetup, MergeList, PrintRange, RUN_NUMBERS, Request, SheetLists, SlotList,
 };
 use units::{LARGEST_SIZE, MAX_WORKSHEET_COLUMN, MAX_WORKSHEET_ROW, Refusal};
 
@@ -155,58 +156,28 @@ pub fn partition_refusal(limit: u32, setup: AxisSetup, slots: SlotList, merges: 
 }
 
 // The first of the questions 4, 6, 7, 15, 8 and 9 whose answer is no, or 0. Cells are counted only where 4, 6 and 7 are answered with yes.
-pub fn plan_refusal(
-    settings: Settings,
-    areas: Areas,
-    row_indexes: &[u32],
-    row_sizes: &[u64],
-    column_indexes: &[u32],
-    column_sizes: &[u64],
-    merge_first_rows: &[u32],
-    merge_first_columns: &[u32],
-    merge_last_rows: &[u32],
-    merge_last_columns: &[u32],
-) -> u8
-    ensures { (rt ct : Title) (rb cb : List ℕ) →
-        result ≡ call.first_no
-        (call.sheet_of settings rt ct row_indexes.now row_sizes.now column_indexes.now
-        column_sizes.now merge_first_rows.now merge_first_columns.now
-        merge_last_rows.now merge_last_columns.now rb cb) areas }
+pub fn plan_refusal(request: &Request, lists: &SheetLists) -> u8
+    ensures { result ≡ call.first_no (sheet_asked request.now lists.now) request.now.areas }
 {
+    let SheetLists { rows, columns } = *lists;
+    let areas = request.areas;
     let asked = ask_areas(areas);
     let four = (1 <= areas.count) & (areas.count <= 8);
-    let row_slots = SlotList {
-        indexes: row_indexes,
-        sizes: row_sizes,
-    };
-    let row_merges = MergeList {
-        firsts: merge_first_rows,
-        lasts: merge_last_rows,
-    };
-    let column_slots = SlotList {
-        indexes: column_indexes,
-        sizes: column_sizes,
-    };
-    let column_merges = MergeList {
-        firsts: merge_first_columns,
-        lasts: merge_last_columns,
-    };
-    let six = formed(row_slots, row_merges)
-        & formed(column_slots, column_merges)
-        & (merge_first_rows.len() == merge_first_columns.len())
+    let six = formed(rows.slots, rows.merges)
+        & formed(columns.slots, columns.merges)
+        & (rows.merges.firsts.len() == columns.merges.firsts.len())
         & asked.upright;
-    let seven = all_within(merge_last_rows, MAX_WORKSHEET_ROW)
-        & all_within(merge_last_columns, MAX_WORKSHEET_COLUMN as u32)
+    let seven = all_within(rows.merges.lasts, MAX_WORKSHEET_ROW)
+        & all_within(columns.merges.lasts, MAX_WORKSHEET_COLUMN as u32)
         & asked.inside;
     let early = no_or(4, four, no_or(6, six, no_or(7, seven, 0)));
     if early > 0 {
         return early;
     }
-    let most = settings.cell_limit;
-    let fifteen = cells_hold(most, areas);
-    let eight = rising_within(row_indexes, MAX_WORKSHEET_ROW)
-        & rising_within(column_indexes, MAX_WORKSHEET_COLUMN as u32);
-    let nine = all_small(row_sizes) & all_small(column_sizes);
+    let fifteen = cells_hold(request.settings.cell_limit, areas);
+    let eight = rising_within(rows.slots.indexes, MAX_WORKSHEET_ROW)
+        & rising_within(columns.slots.indexes, MAX_WORKSHEET_COLUMN as u32);
+    let nine = all_small(rows.slots.sizes) & all_small(columns.slots.sizes);
     no_or(15, fifteen, no_or(8, eight, no_or(9, nine, 0)))
 }
 

@@ -10,6 +10,7 @@ pub mod Partition
 pub mod Scale
 pub mod Pages
 pub mod Plan
+pub mod Asked
 pub mod Steps
 pub mod Division
 pub mod Fitting

@@ -27,7 +27,7 @@ use Rattle.planner_rules.specs.Runs.{Run}
 use Rattle.planner_rules.specs.Lent.{flat, Room, RoomAt}
 use Rattle.planner_rules.specs.Scale.{Scale}
 use Rattle.planner_rules.specs.Pages.{pages_in}
-use Rattle.planner_rules.specs.Plan.{AxisInput, Sheet, sheet_of, rows_of, columns_of, rows_in, columns_in, Sides}
+use Rattle.planner_rules.specs.Plan.{AxisInput, Sheet, rows_of, columns_of, rows_in, columns_in, Sides}
 use Rattle.planner_rules.specs.Plan.{sides_of, questioned, page_runs, body_is_empty}
 use Rattle.planner_rules.specs.Plan.{AreaLayout, plan_in, noted, as_count, row_runs_of, column_runs_of, ready_frame}
 use Rattle.planner_rules.specs.Plan.{ready_runs, ready_shifts, ready_overflows, cut_of}
@@ -37,10 +37,6 @@ use Rattle.planner_rules.specs.Plan.{ready_runs, ready_shifts, ready_overflows, 
 -- the questions 4, 6, 7, 15, 8, 9 and 10: the content's sides, or the first no
 abbrev pub asked : Sheet → Areas → Outcome Sides
 asked s areas = questioned s areas (λ (c : Sides). given c)
-
--- a sheet, by what all areas share and the lists
-abbrev pub sheet_by : Shared → List ℕ → List ℕ → List ℕ → List ℕ → List ℕ → List ℕ → List ℕ → List ℕ → List ℕ → List ℕ → Sheet
-sheet_by x ri rs ci cs fr fc lr lc rb cb = sheet_of x.settings x.rows.asked x.columns.asked ri rs ci cs fr fc lr lc rb cb
 
 -- the sides
 abbrev pub sides_in : Shared → Sides

@@ -45,6 +45,15 @@ pub struct Areas {
     pub eighth: PrintRange,
 }
 
+// What is asked of a plan beside its lists: settings, areas and titles.
+#[derive(Clone, Copy)]
+pub struct Request {
+    pub settings: Settings,
+    pub areas: Areas,
+    pub row_title: Title,
+    pub column_title: Title,
+}
+
 // What `plan_pages` and `count_pages` answer: the plan, or a refusal with its number.
 #[derive(Clone, Copy)]
 pub enum Planning {

@@ -23,7 +23,7 @@ use Rattle.job_report.specs.declared.blocks.BlockAnswer.{BlockAnswer}
 use Rattle.job_report.specs.Blocks.{block_of, block_pages, block_outcome, BlockPut}
 use Rattle.yuzhbani_answers.specs.Numbers.{plan_numbers, told}
 use Rattle.yuzhbani_answers.specs.Answers.{answer_to, answer_of, numbers_of, HadBack, PageHanded}
-use Rattle.yuzhbani_request.specs.declared.Request.{Request}
+use Rattle.planner_rules.specs.declared.planning.Request.{Request}
 use Rattle.yuzhbani.specs.Calls.{plan_in, CountHanded, PlanHanded, pair_in, AreaHanded, BlockHanded}
 
 -- ---- no refusal has the number 0, so that 0 says that a plan was given

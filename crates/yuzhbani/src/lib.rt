@@ -22,7 +22,7 @@ use job::{count_job, plan_job, write_job_area};
 use job_report::{BlockAnswer, area_block, area_line, head_lines};
 use planner::plan_pages;
 use planner_pages::page_numbered;
-use planner_rules::Writing;
+use planner_rules::{AxisLists, MergeList, SheetLists, SlotList, Writing};
 use yuzhbani_answers::{plan_from, put_page, put_planning, told};
 use yuzhbani_request::{areas_counted, flags_hold, request_from};
 
@@ -100,18 +100,18 @@ pub extern "C" fn yuzhbani_write_area(
 // Plans the pages of lists: what is asked as sixty-one numbers, the measured slots, merges and breaks as ten lists. It answers and writes as
 // `yuzhbani_plan` does. No area or a ninth is refused with 4, and then a fit or an order that is neither 0 nor 1 with 5, before lists are asked.
 #[unsafe(no_mangle)]
-pub extern "C" fn yuzhbani_plan_lists(
+pub extern "C" fn yuzhbani_plan_lists<'a>(
     request: &[u64; 61],
-    row_indexes: &[u32],
-    row_sizes: &[u64],
-    column_indexes: &[u32],
-    column_sizes: &[u64],
-    merge_first_rows: &[u32],
-    merge_first_columns: &[u32],
-    merge_last_rows: &[u32],
-    merge_last_columns: &[u32],
-    row_breaks: &[u32],
-    column_breaks: &[u32],
+    row_indexes: &'a [u32],
+    row_sizes: &'a [u64],
+    column_indexes: &'a [u32],
+    column_sizes: &'a [u64],
+    merge_first_rows: &'a [u32],
+    merge_first_columns: &'a [u32],
+    merge_last_rows: &'a [u32],
+    merge_last_columns: &'a [u32],
+    row_breaks: &'a [u32],
+    column_breaks: &'a [u32],
     numbers: &mut [u64; 60],
     row_runs: &mut [u64],
     column_runs: &mut [u64],
@@ -147,28 +147,31 @@ pub extern "C" fn yuzhbani_plan_lists(
         return 5;
     }
     let what = request_from(request);
-    let settings = what.settings;
-    let areas = what.areas;
-    let row_title = what.row_title;
-    let column_title = what.column_title;
-    let planning = plan_pages(
-        settings,
-        areas,
-        row_title,
-        column_title,
-        row_indexes,
-        row_sizes,
-        column_indexes,
-        column_sizes,
-        merge_first_rows,
-        merge_first_columns,
-        merge_last_rows,
-        merge_last_columns,
-        row_breaks,
-        column_breaks,
-        row_runs,
-        column_runs,
-    );
+    let lists = SheetLists {
+        rows: AxisLists {
+            slots: SlotList {
+                indexes: row_indexes,
+                sizes: row_sizes,
+            },
+            merges: MergeList {
+                firsts: merge_first_rows,
+                lasts: merge_last_rows,
+            },
+            breaks: row_breaks,
+        },
+        columns: AxisLists {
+            slots: SlotList {
+                indexes: column_indexes,
+                sizes: column_sizes,
+            },
+            merges: MergeList {
+                firsts: merge_first_columns,
+                lasts: merge_last_columns,
+            },
+            breaks: column_breaks,
+        },
+    };
+    let planning = plan_pages(&what, &lists, row_runs, column_runs);
     put_planning(planning, numbers)
 }
 

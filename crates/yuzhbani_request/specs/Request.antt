@@ -11,7 +11,7 @@ use Rattle.planner_rules.specs.Pages.{index_of}
 use Rattle.planner_rules.specs.Plan.{Sheet, sheet_of}
 use Rattle.job_records.specs.declared.records.MarginBits.{MarginBits}
 use Rattle.job_settings.specs.Meaning.{inches_of}
-use Rattle.yuzhbani_request.specs.declared.Request.{Request}
+use Rattle.planner_rules.specs.declared.planning.Request.{Request}
 use Rattle.yuzhbani_answers.specs.Numbers.{is_set, order_from}
 
 -- a mark at a place, and behind it the number; one above 65,535 is 65,535

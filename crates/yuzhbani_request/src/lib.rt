@@ -8,17 +8,8 @@ use geometry::Margins;
 use job_records::MarginBits;
 use job_settings::margin_setting;
 use planner_compare::index_of;
-use planner_rules::{Areas, PrintRange, Settings, Title};
+use planner_rules::{Areas, PrintRange, Request, Settings, Title};
 use yuzhbani_answers::{order_from, u16_from};
-
-// Settings, areas and titles.
-#[derive(Clone, Copy)]
-pub struct Request {
-    pub settings: Settings,
-    pub areas: Areas,
-    pub row_title: Title,
-    pub column_title: Title,
-}
 
 fn setting_from(request: &[u64; 61], at: usize) -> Option<u16>
     requires { at ≤ 59 }

@@ -6,7 +6,8 @@ use Rattle.planner_rules.specs.Questions.{no_or, equally_long, all_ordered, all_
 use Rattle.planner_rules.specs.Titles.{limit_of}
 use Rattle.planner_rules.specs.Areas.{areas_in, one_to_eight, every_area, upright, inside_grid}
 use Rattle.planner_rules.specs.Union.{cells_hold}
-use Rattle.planner_rules.specs.Plan.{Sheet, sheet_of, formed, in_grid, rises, small, first_no}
+use Rattle.planner_rules.specs.Asked.{sheet_asked}
+use Rattle.planner_rules.specs.Plan.{Sheet, formed, in_grid, rises, small, first_no}
 use Rattle.planner_rules.proofs.QuestionLaws.{no_stays, yes_then}
 use Rattle.planner_questions.proofs.plan_refusal.Goals as goal
 
@@ -57,30 +58,30 @@ module _ (s : Sheet) (areas : Areas) where
 
 pub returns-then-early-gt0 : goal.returns-then-early-gt0
 unfolding limit_of
-returns-then-early-gt0 c rt ct rb cb =
+returns-then-early-gt0 c =
     let a = c.args in
-    let s : Sheet = sheet_of a.settings rt ct a.row_indexes.now a.row_sizes.now a.column_indexes.now a.column_sizes.now a.merge_first_rows.now
-    a.merge_first_columns.now a.merge_last_rows.now a.merge_last_columns.now rb cb in
-    let is : c.no_or-early.result ≡ early s a.areas 0 =
+    let areas = a.request.now.areas in
+    let s : Sheet = sheet_asked a.request.now a.lists.now in
+    let is : c.no_or-early.result ≡ early s areas 0 =
     c.no_or-early.ensures
     ∙ rw c.no_or-2.ensures
     (rw c.no_or.ensures
-    (early_by s a.areas c.formed.result c.formed-2.result c.ask_areas-asked.result.upright c.all_within.result c.all_within-2.result
+    (early_by s areas c.formed.result c.formed-2.result c.ask_areas-asked.result.upright c.all_within.result c.all_within-2.result
     c.ask_areas-asked.result.inside c.formed.ensures c.formed-2.ensures c.ask_areas-asked.ensures.upright_value c.all_within.ensures
     c.all_within-2.ensures c.ask_areas-asked.ensures.inside_value)) in
-    is ∙ early_no s a.areas (rw is at c.if-early-gt0.true)
+    is ∙ early_no s areas (rw is at c.if-early-gt0.true)
 
 pub returns : goal.returns
 unfolding limit_of
-returns c rt ct rb cb =
+returns c =
     let a = c.args in
-    let s : Sheet = sheet_of a.settings rt ct a.row_indexes.now a.row_sizes.now a.column_indexes.now a.column_sizes.now a.merge_first_rows.now
-    a.merge_first_columns.now a.merge_last_rows.now a.merge_last_columns.now rb cb in
-    let is : c.no_or-early.result ≡ early s a.areas 0 =
+    let areas = a.request.now.areas in
+    let s : Sheet = sheet_asked a.request.now a.lists.now in
+    let is : c.no_or-early.result ≡ early s areas 0 =
     c.no_or-early.ensures
     ∙ rw c.no_or-2.ensures
     (rw c.no_or.ensures
-    (early_by s a.areas c.formed.result c.formed-2.result c.ask_areas-asked.result.upright c.all_within.result c.all_within-2.result
+    (early_by s areas c.formed.result c.formed-2.result c.ask_areas-asked.result.upright c.all_within.result c.all_within-2.result
     c.ask_areas-asked.result.inside c.formed.ensures c.formed-2.ensures c.ask_areas-asked.ensures.upright_value c.all_within.ensures
     c.all_within-2.ensures c.ask_areas-asked.ensures.inside_value)) in
     let none : c.no_or-early.result ≡ 0 = omega arith in
@@ -94,4 +95,4 @@ returns c rt ct rb cb =
       c.rising_within.ensures,
       c.cells_hold-fifteen.ensures,
     )
-    (late_no s a.areas (sym is ∙ none))
+    (late_no s areas (sym is ∙ none))

@@ -2,38 +2,38 @@
 use Rattle.std.proofs.Common.{◌≡◌, suc, ◌-◌, sym, arith}
 use Rattle.planner_rules.specs.Steps.{sides_in}
 use Rattle.planner_rules.proofs.PlanLaws.{refuses_area, relay_area, no_permille, number_zero, number_past, number_is}
-use Rattle.planner.proofs.plan.write_numbered.Goals as goal
+use Rattle.planner.proofs.settled.SettledSheet.write_numbered.Goals as goal
 
 pub returns-then-permille-eq0 : goal.returns-then-permille-eq0
 returns-then-permille-eq0 c =
     let a = c.args in
     refuses_area _ 10 a.row_runs.now a.column_runs.now
-    (no_permille (sides_in a.shared) _ a.areas a.number a.permille a.row_runs.now a.column_runs.now c.if-permille-eq0.true)
+    (no_permille (sides_in a.self.now.shared.now) _ a.areas a.number a.permille a.row_runs.now a.column_runs.now c.if-permille-eq0.true)
 
 pub returns-then-number-eq0 : goal.returns-then-number-eq0
 returns-then-number-eq0 c =
     let a = c.args in
     refuses_area _ 14 a.row_runs.now a.column_runs.now
-    (number_zero (sides_in a.shared) _ a.areas a.number a.permille a.row_runs.now a.column_runs.now (omega (arith, c.if-permille-eq0.false))
+    (number_zero (sides_in a.self.now.shared.now) _ a.areas a.number a.permille a.row_runs.now a.column_runs.now (omega (arith, c.if-permille-eq0.false))
     c.if-number-eq0.true)
 
 pub returns-then-number-areas : goal.returns-then-number-areas
 returns-then-number-areas c =
     let a = c.args in
     refuses_area _ 14 a.row_runs.now a.column_runs.now
-    (number_past (sides_in a.shared) _ a.areas a.number a.permille a.row_runs.now a.column_runs.now (omega (arith, c.if-permille-eq0.false))
+    (number_past (sides_in a.self.now.shared.now) _ a.areas a.number a.permille a.row_runs.now a.column_runs.now (omega (arith, c.if-permille-eq0.false))
     c.requires.fine_areas.few c.if-number-areas.true)
 
-pub write_range-requires-clause-fine_area : goal.write_range-requires-clause-fine_area
-write_range-requires-clause-fine_area c =
+pub write_range-requires : goal.write_range-requires
+write_range-requires c =
     let n = c.args.number in
-    rw c.area_at-range.ensures (c.requires.fine_areas.each (n - 1) (omega (arith, c.if-number-eq0.false, c.if-number-areas.false)))
+    record { fine_area = rw c.area_at-range.ensures (c.requires.fine_areas.each (n - 1) (omega (arith, c.if-number-eq0.false, c.if-number-areas.false))) }
 
 pub returns : goal.returns
 returns c =
     let a = c.args in
     let n : a.number ≡ suc (a.number - 1) = omega (arith, c.if-number-eq0.false) in
-    let e = number_is (sides_in a.shared) _ a.areas a.number a.permille a.row_runs.now a.column_runs.now
+    let e = number_is (sides_in a.self.now.shared.now) _ a.areas a.number a.permille a.row_runs.now a.column_runs.now
     (omega (arith, c.if-permille-eq0.false)) c.requires.fine_areas.few (a.number - 1) _ n
     (omega (arith, c.if-number-eq0.false, c.if-number-areas.false)) c.area_at-range.ensures in
     relay_area _ _ _ _ _ _ _ (sym e) c.write_range.ensures

@@ -2,17 +2,17 @@
 use Rattle.std.proofs.Common.{◌≡◌, ◌-◌, ◌≤◌, take}
 use Rattle.planner_rules.specs.Areas.{eight_ranges}
 use Rattle.planner_rules.specs.Plan.{layouts_of}
-use Rattle.planner_rules.specs.Steps.{sheet_by, sides_in, counted_of, FewAll}
-use Rattle.planner.proofs.areas.count_areas.Given as goal
+use Rattle.planner_rules.specs.Asked.{sheet_by}
+use Rattle.planner_rules.specs.Steps.{sides_in, counted_of, FewAll}
+use Rattle.planner.proofs.settled.SettledSheet.count_areas.Given as goal
 
 abbrev pub invariant-loop-i : goal.invariant-loop-i
 invariant-loop-i l =
     let sheet =
-    sheet_by l.shared l.row_indexes l.row_sizes l.column_indexes l.column_sizes l.merge_first_rows l.merge_first_columns l.merge_last_rows
-    l.merge_last_columns l.row_breaks l.column_breaks in
+    sheet_by l.self.shared.now l.self.lists.now in
     record {
       within : l.i ≤ l.areas.count;
-      counted : l.all ≡ counted_of (layouts_of (sides_in l.shared) sheet (take l.i (eight_ranges l.areas)));
+      counted : l.all ≡ counted_of (layouts_of (sides_in l.self.shared.now) sheet (take l.i (eight_ranges l.areas)));
       few : FewAll l.all l.i;
     }
 

@@ -16,7 +16,7 @@ use Rattle.planner_rules.specs.Steps.{sides_in, FineAreas, Writable, put_at, row
 use Rattle.planner_rules.proofs.Lent.{flat-length, Writing, writing_more, writing_room, writing_done}
 use Rattle.planner_rules.proofs.AreaLaws.{as_long, writable, rows_put, columns_put}
 use Rattle.planner_rules.proofs.AreasLaws.{plan_is, left_is}
-use Rattle.planner.proofs.areas.write_areas.Goals as goal
+use Rattle.planner.proofs.settled.SettledSheet.write_areas.Goals as goal
 
 long : (areas : Areas) → FineAreas areas → length (areas_in areas) ≡ areas.count
 long areas fine = length-take-le areas.count (eight_ranges areas) fine.few
@@ -99,74 +99,72 @@ module _ (x : Shared) (s : Sheet) (areas : Areas) (fine : FineAreas areas) (i : 
   unfolding area_layout
   can_write row_at column_at rows columns hr hc = writable x s g (scale x s g) a came_to row_at column_at rows columns hr hc
 
-pub write_area_runs-requires-clause-settled : goal.write_area_runs-requires-clause-settled
-write_area_runs-requires-clause-settled c =
+pub write_runs-requires-clause-writable : goal.write_runs-requires-clause-writable
+write_runs-requires-clause-writable c =
     let a = c.args in
     let l = c.loop-i in
-    let q = c.requires.settled in
+    let q = c.requires.counted in
     let g = c.area_at-range in
     let p = c.plan_at-area in
-    let rows = row_room a.shared _ a.areas c.requires.fine_areas l.i c.loop-i-test.true _ g.ensures _ q.1 _ p.ensures a.row_runs.now l.row_at
-    l.row_runs q.2.row_room l.invariant.rows in
-    let columns = column_room a.shared _ a.areas c.requires.fine_areas l.i c.loop-i-test.true _ g.ensures _ q.1 _ p.ensures a.column_runs.now
-    l.column_at l.column_runs q.2.column_room l.invariant.columns in (
-      q.0,
-      can_write a.shared _ a.areas c.requires.fine_areas l.i c.loop-i-test.true _ g.ensures _ q.1 _ p.ensures l.row_at l.column_at l.row_runs
-          l.column_runs rows columns,
-    )
+    let rows = row_room a.self.now.shared.now _ a.areas c.requires.fine_areas l.i c.loop-i-test.true _ g.ensures _ q.0 _ p.ensures a.row_runs.now l.row_at
+    l.row_runs q.1.row_room l.invariant.rows in
+    let columns = column_room a.self.now.shared.now _ a.areas c.requires.fine_areas l.i c.loop-i-test.true _ g.ensures _ q.0 _ p.ensures a.column_runs.now
+    l.column_at l.column_runs q.1.column_room l.invariant.columns in
+    can_write a.self.now.shared.now _ a.areas c.requires.fine_areas l.i c.loop-i-test.true _ g.ensures _ q.0 _ p.ensures l.row_at l.column_at l.row_runs
+    l.column_runs rows columns
 
-pub write_area_runs-requires-clause-fine_area : goal.write_area_runs-requires-clause-fine_area
-write_area_runs-requires-clause-fine_area c = rw c.area_at-range.ensures (c.requires.fine_areas.each c.loop-i.i c.loop-i-test.true)
+pub write_runs-requires-clause-fine_area : goal.write_runs-requires-clause-fine_area
+write_runs-requires-clause-fine_area c = rw c.area_at-range.ensures (c.requires.fine_areas.each c.loop-i.i c.loop-i-test.true)
 
 pub overflow_mul-row_at : goal.overflow_mul-row_at
 overflow_mul-row_at c =
     let a = c.args in
     let l = c.loop-i in
-    let q = c.requires.settled in
-    let fits = row_fits a.shared _ a.areas c.requires.fine_areas l.i c.loop-i-test.true _ c.area_at-range.ensures _ q.1 _
-    c.plan_at-area.ensures a.row_runs.now l.row_at l.row_runs q.2.row_room l.invariant.rows in
+    let q = c.requires.counted in
+    let fits = row_fits a.self.now.shared.now _ a.areas c.requires.fine_areas l.i c.loop-i-test.true _ c.area_at-range.ensures _ q.0 _
+    c.plan_at-area.ensures a.row_runs.now l.row_at l.row_runs q.1.row_room l.invariant.rows in
     omega (arith, fits)
 
 pub overflow_add-row_at : goal.overflow_add-row_at
 overflow_add-row_at c =
     let a = c.args in
     let l = c.loop-i in
-    let q = c.requires.settled in
-    let fits = row_fits a.shared _ a.areas c.requires.fine_areas l.i c.loop-i-test.true _ c.area_at-range.ensures _ q.1 _
-    c.plan_at-area.ensures a.row_runs.now l.row_at l.row_runs q.2.row_room l.invariant.rows in
+    let q = c.requires.counted in
+    let fits = row_fits a.self.now.shared.now _ a.areas c.requires.fine_areas l.i c.loop-i-test.true _ c.area_at-range.ensures _ q.0 _
+    c.plan_at-area.ensures a.row_runs.now l.row_at l.row_runs q.1.row_room l.invariant.rows in
     omega (arith, fits)
 
 pub overflow_mul-column_at : goal.overflow_mul-column_at
 overflow_mul-column_at c =
     let a = c.args in
     let l = c.loop-i in
-    let q = c.requires.settled in
-    let fits = column_fits a.shared _ a.areas c.requires.fine_areas l.i c.loop-i-test.true _ c.area_at-range.ensures _ q.1 _
-    c.plan_at-area.ensures a.column_runs.now l.column_at l.column_runs q.2.column_room l.invariant.columns in
+    let q = c.requires.counted in
+    let fits = column_fits a.self.now.shared.now _ a.areas c.requires.fine_areas l.i c.loop-i-test.true _ c.area_at-range.ensures _ q.0 _
+    c.plan_at-area.ensures a.column_runs.now l.column_at l.column_runs q.1.column_room l.invariant.columns in
     omega (arith, fits)
 
 pub overflow_add-column_at : goal.overflow_add-column_at
 overflow_add-column_at c =
     let a = c.args in
     let l = c.loop-i in
-    let q = c.requires.settled in
-    let fits = column_fits a.shared _ a.areas c.requires.fine_areas l.i c.loop-i-test.true _ c.area_at-range.ensures _ q.1 _
-    c.plan_at-area.ensures a.column_runs.now l.column_at l.column_runs q.2.column_room l.invariant.columns in
+    let q = c.requires.counted in
+    let fits = column_fits a.self.now.shared.now _ a.areas c.requires.fine_areas l.i c.loop-i-test.true _ c.area_at-range.ensures _ q.0 _
+    c.plan_at-area.ensures a.column_runs.now l.column_at l.column_runs q.1.column_room l.invariant.columns in
     omega (arith, fits)
 
 pub loop-i-preserved : goal.loop-i-preserved
 loop-i-preserved c =
     let a = c.args in
     let l = c.loop-i in
-    let q = c.requires.settled in
+    let q = c.requires.counted in
     record {
       within = omega (arith, c.loop-i-test.true);
       rows =
-          rows_next a.shared _ a.areas c.requires.fine_areas l.i c.loop-i-test.true _ c.area_at-range.ensures _ q.1 _ c.plan_at-area.ensures
-          a.row_runs.now l.row_at l.row_runs q.2.row_room l.invariant.rows _ c.write_area_runs.ensures.0;
+          rows_next a.self.now.shared.now _ a.areas c.requires.fine_areas l.i c.loop-i-test.true _ c.area_at-range.ensures _ q.0 _ c.plan_at-area.ensures
+          a.row_runs.now l.row_at l.row_runs q.1.row_room l.invariant.rows _ c.write_runs.ensures.0;
       columns =
-          columns_next a.shared _ a.areas c.requires.fine_areas l.i c.loop-i-test.true _ c.area_at-range.ensures _ q.1 _ c.plan_at-area.ensures
-          a.column_runs.now l.column_at l.column_runs q.2.column_room l.invariant.columns _ c.write_area_runs.ensures.1;
+          columns_next a.self.now.shared.now _ a.areas c.requires.fine_areas l.i c.loop-i-test.true _ c.area_at-range.ensures _ q.0 _ c.plan_at-area.ensures
+          a.column_runs.now l.column_at l.column_runs q.1.column_room l.invariant.columns _ c.write_runs.ensures.1;
     }
 
 pub returns : goal.returns

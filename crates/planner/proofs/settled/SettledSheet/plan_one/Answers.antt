@@ -14,11 +14,11 @@ use Rattle.planner_rules.specs.Plan.{Sheet, AreaLayout, plan_in, rows_in, column
 use Rattle.planner_rules.specs.Plan.{row_runs_of, column_runs_of}
 use Rattle.planner_rules.specs.Steps.{sides_in, frames_of, counted_of, Added, Writable, put_at, rows_at, columns_at}
 use Rattle.planner_rules.proofs.Lent.{room_runs}
-use Rattle.planner_rules.proofs.AreaLaws.{row_startable, column_startable, row_cuttable, column_cuttable, chosen_counted}
+use Rattle.planner_rules.proofs.AreaLaws.{row_cuttable, column_cuttable, chosen_counted}
 use Rattle.planner_rules.proofs.AreaLaws.{range_is, writable, rows_put, columns_put}
 use Rattle.planner_rules.proofs.AreasLaws.{few_none, counted_next}
 use Rattle.planner_rules.proofs.PlanLaws.{refuses_plan, answers_plan, room_refused, room_given, runs_fit_lem, plan_value}
-use Rattle.planner.proofs.plan.plan_one.Goals as goal
+use Rattle.planner.proofs.settled.SettledSheet.plan_one.Goals as goal
 
 -- the runs of an area that stands alone are those of all areas
 alone : (rs : List Run) → joined (rs ∷ []) ≡ rs
@@ -57,107 +57,85 @@ module _ (x : Shared) (s : Sheet) (g : PrintRange) (k : CountedArea) (e : k ≡ 
   columns_written old new h =
       (columns_put x s g scale k.area came_to 0 old new h).list_is ∙ ap (λ (rs : List Run). written (flat rs) old) (sym (alone laid.columns))
 
-pub ready_area-ready-requires-clause-startable_rows : goal.ready_area-ready-requires-clause-startable_rows
-ready_area-ready-requires-clause-startable_rows c =
-    let a = c.args in
-    row_startable a.shared _ c.requires.settled a.range c.requires.fine_area
-
-pub ready_area-ready-requires-clause-startable_columns : goal.ready_area-ready-requires-clause-startable_columns
-ready_area-ready-requires-clause-startable_columns c =
-    let a = c.args in
-    column_startable a.shared _ c.requires.settled a.range c.requires.fine_area
-
 pub choose_scale-scale-requires-clause-cuttable_rows : goal.choose_scale-scale-requires-clause-cuttable_rows
 choose_scale-scale-requires-clause-cuttable_rows c =
     let a = c.args in
-    row_cuttable a.shared _ c.requires.settled a.range _ c.ready_area-ready.ensures
+    row_cuttable a.self.now.shared.now _ a.self.now.settled a.range _ c.ready-ready.ensures
 
 pub choose_scale-scale-requires-clause-cuttable_columns : goal.choose_scale-scale-requires-clause-cuttable_columns
 choose_scale-scale-requires-clause-cuttable_columns c =
     let a = c.args in
-    column_cuttable a.shared _ c.requires.settled a.range _ c.ready_area-ready.ensures
-
-pub frames_at-frames-requires-clause-low_rows : goal.frames_at-frames-requires-clause-low_rows
-frames_at-frames-requires-clause-low_rows c =
-    let a = c.args in
-    (row_cuttable a.shared _ c.requires.settled a.range _ c.ready_area-ready.ensures).low
-
-pub frames_at-frames-requires-clause-low_columns : goal.frames_at-frames-requires-clause-low_columns
-frames_at-frames-requires-clause-low_columns c =
-    let a = c.args in
-    (column_cuttable a.shared _ c.requires.settled a.range _ c.ready_area-ready.ensures).low
+    column_cuttable a.self.now.shared.now _ a.self.now.settled a.range _ c.ready-ready.ensures
 
 pub count_at-one-requires-clause-cuttable_rows : goal.count_at-one-requires-clause-cuttable_rows
 count_at-one-requires-clause-cuttable_rows c =
     let a = c.args in
-    row_cuttable a.shared _ c.requires.settled a.range _ c.ready_area-ready.ensures
+    row_cuttable a.self.now.shared.now _ a.self.now.settled a.range _ c.ready-ready.ensures
 
 pub count_at-one-requires-clause-cuttable_columns : goal.count_at-one-requires-clause-cuttable_columns
 count_at-one-requires-clause-cuttable_columns c =
     let a = c.args in
-    column_cuttable a.shared _ c.requires.settled a.range _ c.ready_area-ready.ensures
+    column_cuttable a.self.now.shared.now _ a.self.now.settled a.range _ c.ready-ready.ensures
 
 pub add_area-counted-requires-clause-few_all : goal.add_area-counted-requires-clause-few_all
 add_area-counted-requires-clause-few_all c =
     let a = c.args in
     let e = c.count_at-one.ensures in
-    let few = (chosen_counted a.shared _ c.requires.settled a.range _ c.ready_area-ready.ensures _ c.choose_scale-scale.ensures _ e.counted e.few_cut).1 in
+    let few = (chosen_counted a.self.now.shared.now _ a.self.now.settled a.range _ c.ready-ready.ensures _ c.choose_scale-scale.ensures _ e.counted e.few_cut).1 in
     (rw c.no_areas-none.ensures few_none, few)
 
 pub returns-then-refusal-gt0 : goal.returns-then-refusal-gt0
 returns-then-refusal-gt0 c =
     let a = c.args in
     let e = c.count_at-one.ensures in
-    let one = (chosen_counted a.shared _ c.requires.settled a.range _ c.ready_area-ready.ensures _ c.choose_scale-scale.ensures _ e.counted
+    let one = (chosen_counted a.self.now.shared.now _ a.self.now.settled a.range _ c.ready-ready.ensures _ c.choose_scale-scale.ensures _ e.counted
     e.few_cut).0 in
     let added = rw c.no_areas-none.ensures at c.add_area-counted.ensures.added in
-    let all = all_counted a.shared _ a.range _ one _ added in
+    let all = all_counted a.self.now.shared.now _ a.range _ one _ added in
     let asked : c.room_refusal-refusal.result ≡ room_no c.add_area-counted.result.rows c.add_area-counted.result.columns
-    c.add_area-counted.result.pages (room_in a.row_runs.now) (room_in a.column_runs.now) a.shared.settings.page_limit =
+    c.add_area-counted.result.pages (room_in a.row_runs.now) (room_in a.column_runs.now) a.self.now.shared.now.settings.page_limit =
     rw (c.room_in.ensures, c.room_in-2.ensures) at c.room_refusal-refusal.ensures in
     refuses_plan _ _ a.row_runs.now a.column_runs.now
-    (room_refused (sides_in a.shared) _ (a.range ∷ []) _ all (room_in a.row_runs.now) (room_in a.column_runs.now) _ asked c.if-refusal-gt0.true)
+    (room_refused (sides_in a.self.now.shared.now) _ (a.range ∷ []) _ all (room_in a.row_runs.now) (room_in a.column_runs.now) _ asked c.if-refusal-gt0.true)
 
-pub write_ready-requires-clause-settled : goal.write_ready-requires-clause-settled
-write_ready-requires-clause-settled c =
+pub write_ready-requires-clause-writable : goal.write_ready-requires-clause-writable
+write_ready-requires-clause-writable c =
     let a = c.args in
-    let same = range_is a.shared a.range a.row_indexes.now a.column_indexes.now _ c.ready_area-ready.ensures in
+    let same = range_is a.self.now.shared.now a.range a.self.now.lists.now.rows.slots.indexes.now a.self.now.lists.now.columns.slots.indexes.now _ c.ready-ready.ensures in
     let e = c.count_at-one.ensures in
-    let one = (chosen_counted a.shared _ c.requires.settled a.range _ c.ready_area-ready.ensures _ c.choose_scale-scale.ensures _ e.counted
+    let one = (chosen_counted a.self.now.shared.now _ a.self.now.settled a.range _ c.ready-ready.ensures _ c.choose_scale-scale.ensures _ e.counted
     e.few_cut).0 in
     let added = rw c.no_areas-none.ensures at c.add_area-counted.ensures.added in
-    let all = all_counted a.shared _ a.range _ one _ added in
+    let all = all_counted a.self.now.shared.now _ a.range _ one _ added in
     let asked : c.room_refusal-refusal.result ≡ room_no c.add_area-counted.result.rows c.add_area-counted.result.columns
-    c.add_area-counted.result.pages (room_in a.row_runs.now) (room_in a.column_runs.now) a.shared.settings.page_limit =
+    c.add_area-counted.result.pages (room_in a.row_runs.now) (room_in a.column_runs.now) a.self.now.shared.now.settings.page_limit =
     rw (c.room_in.ensures, c.room_in-2.ensures) at c.room_refusal-refusal.ensures in
-    let fit = runs_fit_lem (sides_in a.shared) _ (a.range ∷ []) _ all (room_in a.row_runs.now) (room_in a.column_runs.now) _ asked
-    (omega (arith, c.if-refusal-gt0.false)) in (
-      c.requires.settled,
-      can_write a.shared _ a.range _ one c.ready_area-ready.result.range same a.row_runs.now a.column_runs.now fit.0 fit.1,
-    )
+    let fit = runs_fit_lem (sides_in a.self.now.shared.now) _ (a.range ∷ []) _ all (room_in a.row_runs.now) (room_in a.column_runs.now) _ asked
+    (omega (arith, c.if-refusal-gt0.false)) in
+    can_write a.self.now.shared.now _ a.range _ one c.ready-ready.result.range same a.row_runs.now a.column_runs.now fit.0 fit.1
 
 pub write_ready-requires-clause-frames_are : goal.write_ready-requires-clause-frames_are
 write_ready-requires-clause-frames_are c =
     let same = ap (λ (k : CountedArea). k.area.permille) c.count_at-one.ensures.counted in
-    c.frames_at-frames.ensures ∙ ap (frames_of c.ready_area-ready.result) (sym same)
+    c.frames_at-frames.ensures ∙ ap (frames_of c.ready-ready.result) (sym same)
 
 pub returns : goal.returns
 unfolding layout
 returns c =
     let a = c.args in
-    let same = range_is a.shared a.range a.row_indexes.now a.column_indexes.now _ c.ready_area-ready.ensures in
+    let same = range_is a.self.now.shared.now a.range a.self.now.lists.now.rows.slots.indexes.now a.self.now.lists.now.columns.slots.indexes.now _ c.ready-ready.ensures in
     let e = c.count_at-one.ensures in
-    let one = (chosen_counted a.shared _ c.requires.settled a.range _ c.ready_area-ready.ensures _ c.choose_scale-scale.ensures _ e.counted
+    let one = (chosen_counted a.self.now.shared.now _ a.self.now.settled a.range _ c.ready-ready.ensures _ c.choose_scale-scale.ensures _ e.counted
     e.few_cut).0 in
     let added = rw c.no_areas-none.ensures at c.add_area-counted.ensures.added in
-    let all = all_counted a.shared _ a.range _ one _ added in
+    let all = all_counted a.self.now.shared.now _ a.range _ one _ added in
     let asked : c.room_refusal-refusal.result ≡ room_no c.add_area-counted.result.rows c.add_area-counted.result.columns
-    c.add_area-counted.result.pages (room_in a.row_runs.now) (room_in a.column_runs.now) a.shared.settings.page_limit =
+    c.add_area-counted.result.pages (room_in a.row_runs.now) (room_in a.column_runs.now) a.self.now.shared.now.settings.page_limit =
     rw (c.room_in.ensures, c.room_in-2.ensures) at c.room_refusal-refusal.ensures in
-    let room = room_given (sides_in a.shared) _ (a.range ∷ []) _ all (room_in a.row_runs.now) (room_in a.column_runs.now) _ asked
+    let room = room_given (sides_in a.self.now.shared.now) _ (a.range ∷ []) _ all (room_in a.row_runs.now) (room_in a.column_runs.now) _ asked
     (omega (arith, c.if-refusal-gt0.false)) in
     let put = rw same at c.write_ready.ensures in
-    answers_plan _ (layout (sides_in a.shared) _ (a.range ∷ [])) _ room
-    (c.plan_of.ensures ∙ plan_value a.shared _ c.requires.settled (a.range ∷ []) _ all) a.row_runs.now a.column_runs.now _ _
-    (rows_written a.shared _ a.range _ one a.row_runs.now _ put.0)
-    (columns_written a.shared _ a.range _ one a.column_runs.now _ put.1)
+    answers_plan _ (layout (sides_in a.self.now.shared.now) _ (a.range ∷ [])) _ room
+    (c.plan_of.ensures ∙ plan_value a.self.now.shared.now _ a.self.now.settled (a.range ∷ []) _ all) a.row_runs.now a.column_runs.now _ _
+    (rows_written a.self.now.shared.now _ a.range _ one a.row_runs.now _ put.0)
+    (columns_written a.self.now.shared.now _ a.range _ one a.column_runs.now _ put.1)
