@@ -1,19 +1,8 @@
-// A worked figure as a line, and floats that no constant can hold.
-use crate::text::word;
+// A worked figure as a line.
+use std::io;
+use std::io::Write;
 
-pub(crate) fn nan() -> f64 {
-    0.0 / 0.0
-}
-
-pub(crate) fn infinity() -> f64 {
-    1.0 / 0.0
-}
-
-pub(crate) fn say(figure: &[u8], ok: bool) {
-    word(figure);
-    if ok {
-        word(b" ok\n");
-    } else {
-        word(b" bad\n");
-    }
+pub(crate) fn say<W: Write>(out: &mut W, figure: &str, ok: bool) -> io::Result<()> {
+    let found = if ok { "ok" } else { "bad" };
+    writeln!(out, "{figure} {found}")
 }

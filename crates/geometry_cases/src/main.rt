@@ -6,13 +6,16 @@ mod figures;
 mod lengths;
 mod paper;
 mod replay;
-mod text;
 
-use text::word;
+use std::io;
+use std::io::{BufReader, BufWriter, Write};
 
-fn main() {
-    lengths::all_figures();
-    paper::all_figures();
-    word(b"list\n");
-    replay::answer_all();
+fn main(rt: HostRuntime) -> io::Result<()> {
+    let mut input = BufReader::new(rt.alloc(), rt.reader())?;
+    let mut out = BufWriter::new(rt.alloc(), io::writer(&rt))?;
+    lengths::all_figures(&mut out)?;
+    paper::all_figures(&mut out)?;
+    writeln!(out, "list")?;
+    replay::answer_all(&mut input, &mut out)?;
+    out.flush()
 }

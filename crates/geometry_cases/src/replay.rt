@@ -7,172 +7,135 @@
 //     p  paper_geometry     0 absent or 1 given, code, landscape 0 or 1
 //     m  content_geometry   width, height, left, right, top, bottom, header, footer
 //     a  content_geometry   width, height; margins absent
-ghost use Rattle.std.specs.Prelude.{◌<◌};
-
-use crate::text::{count, number, word};
-use geometry::{Content, Margins, PaperGeometry};
+use geometry::{Margins, PaperGeometry};
 use hexadecimal::{bits, digit};
 use job_records::{float, signed};
-use units::{Fixed, Length};
-
-// Standard input.
-const STDIN: i32 = 0;
+use std::io;
+use std::io::{Read, Write};
+use units::{Fixed, Refusal};
 
 // The bytes of a line with its line end.
 const LINE: usize = 138;
 
-// Whether a byte may stand at a place of a line after its letter.
-fn belongs(byte: u8, at: usize) -> bool {
-    if at == LINE - 1 {
-        byte == b'\n'
-    } else if at % 17 == 1 {
-        byte == b' '
-    } else {
-        digit(byte) < 16
+// The bits of the eight fields of a line.
+type Fields = [u64; 8];
+
+// The bits of a field with its space.
+fn field(text: &[u8]) -> Option<u64> {
+    let (space, digits) = text.split_first()?;
+    let formed = *space == b' ' && digits.iter().all(|byte| digit(*byte).is_some());
+    formed.then_some(bits(digits))
+}
+
+// The fields of a line, if it is well formed.
+fn fields(line: &[u8; LINE]) -> Option<Fields> {
+    let mut all = [0; 8];
+    for (value, text) in all.iter_mut().zip(line[1..LINE - 1].chunks_exact(17)) {
+        *value = field(text)?;
     }
+    (line[LINE - 1] == b'\n').then_some(all)
 }
 
-fn well_formed(line: &[u8; LINE]) -> bool {
-    for at in 1..LINE {
-        if !belongs(line[at], at) {
-            return false;
-        }
-    }
-    true
-}
-
-// The bits of the field with the number k.
-fn field(line: &[u8; LINE], k: usize) -> u64
-    requires { k < 8 }
-{
-    let text = &line[..];
-    let start = 2 + 17 * k;
-    let end = start + 16;
-    bits(&text[start..end])
-}
-
-fn fixed(line: &[u8; LINE], k: usize) -> Fixed
-    requires { k < 8 }
-{
-    Fixed::from_raw(signed(field(line, k)))
-}
-
-fn inches(line: &[u8; LINE], k: usize) -> f64
-    requires { k < 8 }
-{
-    float(field(line, k))
+fn fixed(bits: u64) -> Fixed {
+    Fixed::from_raw(signed(bits))
 }
 
 // A field's last 16 bits.
-fn small(line: &[u8; LINE], k: usize) -> u16
-    requires { k < 8 }
-{
-    (field(line, k) % 65536) as u16
+fn small(bits: u64) -> u16 {
+    (bits % 65536) as u16
 }
 
-fn length(answer: Length) {
+fn write_length<W: Write>(out: &mut W, answer: Result<Fixed, Refusal>) -> io::Result<()> {
     match answer {
-        Length::Value(value) => number(value),
-        Length::CoordinateOverflow => word(b"no 10"),
+        Ok(length) => writeln!(out, "{}", length.raw()),
+        Err(refusal) => writeln!(out, "no {}", refusal.number()),
     }
 }
 
-fn paper(line: &[u8; LINE]) {
-    let mut code = None;
-    if field(line, 0) > 0 {
-        code = Some(small(line, 1));
-    }
-    let answer = geometry::paper_geometry(code, field(line, 2) > 0);
+fn write_paper<W: Write>(out: &mut W, fields: &Fields) -> io::Result<()> {
+    let code = if fields[0] > 0 {
+        Some(small(fields[1]))
+    } else {
+        None
+    };
+    let answer = geometry::paper_geometry(code, fields[2] > 0);
     let paper = answer.geometry;
-    count(paper.paper_code as u64);
-    word(b" ");
-    number(paper.width);
-    word(b" ");
-    number(paper.height);
-    word(b" ");
-    count(answer.unknown_paper);
+    write!(out, "{} {} ", paper.paper_code, paper.width.raw())?;
+    writeln!(out, "{} {}", paper.height.raw(), answer.unknown_paper)
 }
 
-fn margins(line: &[u8; LINE]) -> Margins {
+fn margins(fields: &Fields) -> Margins {
     Margins {
-        left: inches(line, 2),
-        right: inches(line, 3),
-        top: inches(line, 4),
-        bottom: inches(line, 5),
-        header: inches(line, 6),
-        footer: inches(line, 7),
+        left: float(fields[2]),
+        right: float(fields[3]),
+        top: float(fields[4]),
+        bottom: float(fields[5]),
+        header: float(fields[6]),
+        footer: float(fields[7]),
     }
 }
 
-fn content(line: &[u8; LINE], margins: Option<Margins>) {
+fn write_content<W: Write>(out: &mut W, fields: &Fields, margins: Option<Margins>) -> io::Result<()> {
     let paper = PaperGeometry {
         paper_code: 0,
-        width: fixed(line, 0),
-        height: fixed(line, 1),
+        width: fixed(fields[0]),
+        height: fixed(fields[1]),
     };
-    let answer = geometry::content_geometry(paper, margins);
-    let Content::Value(placed) = answer else {
-        word(b"no 10");
-        return;
+    let placed = match geometry::content_geometry(paper, margins) {
+        Ok(placed) => placed,
+        Err(refusal) => return writeln!(out, "no {}", refusal.number()),
     };
     let rect = placed.content;
-    number(rect.x);
-    word(b" ");
-    number(rect.y);
-    word(b" ");
-    number(rect.width);
-    word(b" ");
-    number(rect.height);
-    word(b" ");
-    number(placed.header_y);
-    word(b" ");
-    number(placed.footer_y);
-    word(b" ");
-    count(placed.invalid_margins);
-}
-
-fn capacity(line: &[u8; LINE]) -> Length {
-    units::unscaled_capacity(
-        fixed(line, 0),
-        small(line, 1),
-        fixed(line, 2),
-        fixed(line, 3),
+    write!(
+        out,
+        "{} {} {} {} ",
+        rect.x.raw(),
+        rect.y.raw(),
+        rect.width.raw(),
+        rect.height.raw()
+    )?;
+    writeln!(
+        out,
+        "{} {} {}",
+        placed.header_y.raw(),
+        placed.footer_y.raw(),
+        placed.invalid_margins
     )
 }
 
-fn answer(line: &[u8; LINE]) {
-    let letter = line[0];
-    match letter {
-        b'i' => length(units::inches_to_fixed(inches(line, 0))),
-        b'c' => length(capacity(line)),
-        b's' => length(units::scale_fixed(fixed(line, 0), small(line, 1))),
-        b'p' => paper(line),
-        b'm' => content(line, Some(margins(line))),
-        b'a' => content(line, None),
-        _ => word(b"bad line"),
-    }
+fn capacity(fields: &Fields) -> Result<Fixed, Refusal> {
+    units::unscaled_capacity(
+        fixed(fields[0]),
+        small(fields[1]),
+        fixed(fields[2]),
+        fixed(fields[3]),
+    )
 }
 
-// Reads a line, answers it, and says whether there was one.
-fn answer_next() -> bool {
-    let mut line = [0u8; LINE];
-    if io::read_full(STDIN, &mut line) < LINE {
-        return false;
+// Answers a line of a letter and its fields.
+fn answer<W: Write>(out: &mut W, letter: u8, fields: &Fields) -> io::Result<()> {
+    match letter {
+        b'i' => write_length(out, units::inches_to_fixed(float(fields[0]))),
+        b'c' => write_length(out, capacity(fields)),
+        b's' => write_length(out, units::scale_fixed(fixed(fields[0]), small(fields[1]))),
+        b'p' => write_paper(out, fields),
+        b'm' => write_content(out, fields, Some(margins(fields))),
+        b'a' => write_content(out, fields, None),
+        _ => writeln!(out, "bad line"),
     }
-    if well_formed(&line) {
-        answer(&line);
-    } else {
-        word(b"bad line");
-    }
-    word(b"\n");
-    true
 }
 
 // Nothing says that the input ends, so the loop counts its turns, up to a number that no run reaches.
-pub(crate) fn answer_all() {
+pub(crate) fn answer_all<R: Read, W: Write>(input: &mut R, out: &mut W) -> io::Result<()> {
+    let mut line = [0u8; LINE];
     for _ in 0..u64::MAX {
-        if !answer_next() {
-            return;
+        if input.read_exact(&mut line).is_err() {
+            break;
+        }
+        match fields(&line) {
+            Some(fields) => answer(out, line[0], &fields)?,
+            None => writeln!(out, "bad line")?,
         }
     }
+    Ok(())
 }
