@@ -75,7 +75,11 @@ fn margins(fields: &Fields) -> Margins {
     }
 }
 
-fn write_content<W: Write>(out: &mut W, fields: &Fields, margins: Option<Margins>) -> io::Result<()> {
+fn write_content<W: Write>(
+    out: &mut W,
+    fields: &Fields,
+    margins: Option<Margins>,
+) -> io::Result<()> {
     let paper = PaperGeometry {
         paper_code: 0,
         width: fixed(fields[0]),
