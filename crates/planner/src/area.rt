@@ -5,12 +5,14 @@ ghost use Rattle.planner_rules.specs.Plan as call;
 ghost use Rattle.planner_rules.specs.Steps as step;
 
 use crate::cut::{count_cut, write_cut};
+use crate::fitted::FittedAxis;
 use crate::places::place_of;
 use crate::scale::{fit_scale, frame_at};
+use crate::slots::Measured;
 use planner_compare::{longer, wide};
 use planner_rules::{
-    AreaNotes, AreaPlan, AxisRange, ChosenScale, CountedArea, FinalCut, Fit, Frames, PageSide,
-    PrintRange, Ready, ReadyArea, ReadyTitle, Settings, Shared, Stretch,
+    AreaNotes, AreaPlan, AxisLists, AxisRange, ChosenScale, CountedArea, FinalCut, Fit, Frames, MergeList, PageSide,
+    PrintRange, Ready, ReadyArea, ReadyTitle, Settings, Shared, SlotList, Stretch,
 };
 use planner_setup::{column_range, fixed_scale, looked_at, row_range};
 use planner_titles::body_start;
@@ -92,17 +94,17 @@ pub(crate) fn frames_at(ready: ReadyArea, permille: u16) -> Frames
 
 // The scale of an area: by fitting, or by percent.
 #[inline(always)]
-pub(crate) fn choose_scale(
+pub(crate) fn choose_scale<'a>(
     settings: Settings,
     ready: ReadyArea,
-    row_indexes: &[u32],
-    row_sizes: &[u64],
-    column_indexes: &[u32],
-    column_sizes: &[u64],
-    merge_first_rows: &[u32],
-    merge_first_columns: &[u32],
-    merge_last_rows: &[u32],
-    merge_last_columns: &[u32],
+    row_indexes: &'a [u32],
+    row_sizes: &'a [u64],
+    column_indexes: &'a [u32],
+    column_sizes: &'a [u64],
+    merge_first_rows: &'a [u32],
+    merge_first_columns: &'a [u32],
+    merge_last_rows: &'a [u32],
+    merge_last_columns: &'a [u32],
 ) -> ChosenScale
     requires cuttable_rows { call.Cuttable ready.rows row_indexes.now row_sizes.now }
     requires cuttable_columns { call.Cuttable ready.columns column_indexes.now column_sizes.now }
@@ -123,18 +125,29 @@ pub(crate) fn choose_scale(
         let row_to = rows.to;
         let column_from = columns.from;
         let column_to = columns.to;
-        return fit_scale(
-            row_fit,
-            column_fit,
-            merge_first_rows,
-            merge_last_rows,
-            &row_indexes[row_from..row_to],
-            &row_sizes[row_from..row_to],
-            merge_first_columns,
-            merge_last_columns,
-            &column_indexes[column_from..column_to],
-            &column_sizes[column_from..column_to],
-        );
+        let row_axis = FittedAxis {
+            fit: row_fit,
+            merges: MergeList {
+                firsts: merge_first_rows,
+                lasts: merge_last_rows,
+            },
+            slots: Measured {
+                indexes: &row_indexes[row_from..row_to],
+                sizes: &row_sizes[row_from..row_to],
+            },
+        };
+        let column_axis = FittedAxis {
+            fit: column_fit,
+            merges: MergeList {
+                firsts: merge_first_columns,
+                lasts: merge_last_columns,
+            },
+            slots: Measured {
+                indexes: &column_indexes[column_from..column_to],
+                sizes: &column_sizes[column_from..column_to],
+            },
+        };
+        return fit_scale(row_axis, column_axis);
     }
     let percent = settings.percent;
     fixed_scale(percent)
@@ -167,21 +180,21 @@ fn area_from(scale: ChosenScale, rows: FinalCut, columns: FinalCut) -> CountedAr
 
 // Counts the final cuts of an area at a scale. With fit on, no break is looked at.
 #[inline(always)]
-pub(crate) fn count_at(
+pub(crate) fn count_at<'a>(
     fit: bool,
     ready: ReadyArea,
     frames: Frames,
     scale: ChosenScale,
-    row_indexes: &[u32],
-    row_sizes: &[u64],
-    column_indexes: &[u32],
-    column_sizes: &[u64],
-    merge_first_rows: &[u32],
-    merge_first_columns: &[u32],
-    merge_last_rows: &[u32],
-    merge_last_columns: &[u32],
-    row_breaks: &[u32],
-    column_breaks: &[u32],
+    row_indexes: &'a [u32],
+    row_sizes: &'a [u64],
+    column_indexes: &'a [u32],
+    column_sizes: &'a [u64],
+    merge_first_rows: &'a [u32],
+    merge_first_columns: &'a [u32],
+    merge_last_rows: &'a [u32],
+    merge_last_columns: &'a [u32],
+    row_breaks: &'a [u32],
+    column_breaks: &'a [u32],
 ) -> CountedArea
     requires cuttable_rows { call.Cuttable ready.rows row_indexes.now row_sizes.now }
     requires cuttable_columns { call.Cuttable ready.columns column_indexes.now column_sizes.now }
@@ -202,21 +215,33 @@ pub(crate) fn count_at(
         rows,
         frames.rows,
         permille,
-        merge_first_rows,
-        merge_last_rows,
-        &row_breaks[..row_kept],
-        row_indexes,
-        row_sizes,
+        AxisLists {
+            slots: SlotList {
+                indexes: row_indexes,
+                sizes: row_sizes,
+            },
+            merges: MergeList {
+                firsts: merge_first_rows,
+                lasts: merge_last_rows,
+            },
+            breaks: &row_breaks[..row_kept],
+        },
     );
     let column_cut = count_cut(
         columns,
         frames.columns,
         permille,
-        merge_first_columns,
-        merge_last_columns,
-        &column_breaks[..column_kept],
-        column_indexes,
-        column_sizes,
+        AxisLists {
+            slots: SlotList {
+                indexes: column_indexes,
+                sizes: column_sizes,
+            },
+            merges: MergeList {
+                firsts: merge_first_columns,
+                lasts: merge_last_columns,
+            },
+            breaks: &column_breaks[..column_kept],
+        },
     );
     area_from(scale, row_cut, column_cut)
 }
@@ -282,23 +307,23 @@ pub(crate) fn count_area(
 
 // Writes the runs of an area that is ready, from a place in each list on.
 #[inline(always)]
-pub(crate) fn write_ready(
+pub(crate) fn write_ready<'a>(
     shared: Shared,
     ready: ReadyArea,
     frames: Frames,
     area: AreaPlan,
     row_at: usize,
     column_at: usize,
-    row_indexes: &[u32],
-    row_sizes: &[u64],
-    column_indexes: &[u32],
-    column_sizes: &[u64],
-    merge_first_rows: &[u32],
-    merge_first_columns: &[u32],
-    merge_last_rows: &[u32],
-    merge_last_columns: &[u32],
-    row_breaks: &[u32],
-    column_breaks: &[u32],
+    row_indexes: &'a [u32],
+    row_sizes: &'a [u64],
+    column_indexes: &'a [u32],
+    column_sizes: &'a [u64],
+    merge_first_rows: &'a [u32],
+    merge_first_columns: &'a [u32],
+    merge_last_rows: &'a [u32],
+    merge_last_columns: &'a [u32],
+    row_breaks: &'a [u32],
+    column_breaks: &'a [u32],
     row_runs: &mut [u64],
     column_runs: &mut [u64],
 )
@@ -324,11 +349,17 @@ pub(crate) fn write_ready(
         frames.rows,
         area.rows_empty,
         range.first_row,
-        merge_first_rows,
-        merge_last_rows,
-        &row_breaks[..row_kept],
-        row_indexes,
-        row_sizes,
+        AxisLists {
+            slots: SlotList {
+                indexes: row_indexes,
+                sizes: row_sizes,
+            },
+            merges: MergeList {
+                firsts: merge_first_rows,
+                lasts: merge_last_rows,
+            },
+            breaks: &row_breaks[..row_kept],
+        },
         &mut row_runs[row_at..],
     );
     write_cut(
@@ -336,11 +367,17 @@ pub(crate) fn write_ready(
         frames.columns,
         area.columns_empty,
         range.first_column,
-        merge_first_columns,
-        merge_last_columns,
-        &column_breaks[..column_kept],
-        column_indexes,
-        column_sizes,
+        AxisLists {
+            slots: SlotList {
+                indexes: column_indexes,
+                sizes: column_sizes,
+            },
+            merges: MergeList {
+                firsts: merge_first_columns,
+                lasts: merge_last_columns,
+            },
+            breaks: &column_breaks[..column_kept],
+        },
         &mut column_runs[column_at..],
     );
 }

@@ -5,11 +5,14 @@ mod area;
 mod areas;
 mod cut;
 mod filling;
+mod fitted;
+mod page;
 mod partition;
 mod places;
 mod plan;
 mod runs;
 mod scale;
+mod slots;
 mod title;
 
 pub use partition::partition_axis_with_breaks;

@@ -13,25 +13,25 @@ use crate::title::ready_title;
 use planner_areas::area_at;
 use planner_questions::{plan_refusal, room_in, room_refusal};
 use planner_rules::{
-    Areas, Axis, ChosenScale, CountedAreas, Notes, Plan, Planning, Prepared, PrintRange, RunCounts,
-    Settings, Shared, SidesFound, Title, Writing,
+    Areas, Axis, AxisLists, ChosenScale, CountedAreas, MergeList, Notes, Plan, Planning, Prepared,
+    PrintRange, RunCounts, Settings, Shared, SidesFound, SlotList, Title, Writing,
 };
 use planner_setup::content_sides;
 
 // Asks the questions 4 to 10, and makes the titles ready, once for all areas.
-fn prepare(
+fn prepare<'a>(
     settings: Settings,
     areas: Areas,
     row_title: Title,
     column_title: Title,
-    row_indexes: &[u32],
-    row_sizes: &[u64],
-    column_indexes: &[u32],
-    column_sizes: &[u64],
-    merge_first_rows: &[u32],
-    merge_first_columns: &[u32],
-    merge_last_rows: &[u32],
-    merge_last_columns: &[u32],
+    row_indexes: &'a [u32],
+    row_sizes: &'a [u64],
+    column_indexes: &'a [u32],
+    column_sizes: &'a [u64],
+    merge_first_rows: &'a [u32],
+    merge_first_columns: &'a [u32],
+    merge_last_rows: &'a [u32],
+    merge_last_columns: &'a [u32],
 ) -> Prepared
     ensures { (rb cb : List ℕ) →
         step.IsPrepared result
@@ -60,18 +60,32 @@ fn prepare(
     let rows = ready_title(
         Axis::Rows.limit(),
         row_title,
-        row_indexes,
-        row_sizes,
-        merge_first_rows,
-        merge_last_rows,
+        AxisLists {
+            slots: SlotList {
+                indexes: row_indexes,
+                sizes: row_sizes,
+            },
+            merges: MergeList {
+                firsts: merge_first_rows,
+                lasts: merge_last_rows,
+            },
+            breaks: &[],
+        },
     );
     let columns = ready_title(
         Axis::Columns.limit(),
         column_title,
-        column_indexes,
-        column_sizes,
-        merge_first_columns,
-        merge_last_columns,
+        AxisLists {
+            slots: SlotList {
+                indexes: column_indexes,
+                sizes: column_sizes,
+            },
+            merges: MergeList {
+                firsts: merge_first_columns,
+                lasts: merge_last_columns,
+            },
+            breaks: &[],
+        },
     );
     Prepared::Value(Shared {
         settings,

@@ -18,10 +18,12 @@ fn slots_below(indexes: &[u32], limit: u64) -> usize
     ensures value { result ≡ below limit indexes.now }
     ensures upper_bound { result ≤ length indexes.now }
 {
-    indexes
-        .iter()
-        .take_while(|index| u64::from(**index) < limit)
-        .count()
+    for (n, index) in indexes.iter().enumerate() {
+        if u64::from(*index) >= limit {
+            return n;
+        }
+    }
+    indexes.len()
 }
 
 // How many slots there are up to the last one at or below an index.

@@ -10,7 +10,7 @@ unfolding fits_side
 returns-in-Value c =
     let X : SFits w64 c.raw.result = search rules in
     let Y : SFits w64 c.raw-in-Value.result = search rules in
-    let e : given c.in-Value.scaled.0 ≡ scale_fixed (pos c.args.size) c.args.permille = rw c.length_of.ensures at c.in-Value.ensures in
+    let e : given c.in-Value.scaled.0 ≡ scale_fixed (pos c.args.size) c.args.page.permille = rw c.length_of.ensures at c.in-Value.ensures in
     rw (← e, to_z-of_z X, to_z-of_z Y, c.raw.ensures, c.raw-in-Value.ensures)
 
 pub returns-in-CoordinateOverflow : goal.returns-in-CoordinateOverflow
