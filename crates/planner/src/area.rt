@@ -6,13 +6,14 @@ ghost use Rattle.planner_rules.specs.Plan as call;
 ghost use Rattle.planner_rules.specs.Steps as step;
 
 use crate::cut::{count_cut, write_cut};
+use crate::fitted::FittedAxis;
 use crate::memory::in_memory;
 use crate::places::place_of;
 use crate::scale::{fit_scale, frame_at};
 use crate::settled::SettledSheet;
-use planner_compare::{longer, wide};
+use crate::slots::Measured;
 use planner_rules::{
-    AreaNotes, AreaPlan, Axis, AxisRange, ChosenScale, CountedArea, FinalCut, Fit, Frames,
+    AreaNotes, AreaPlan, Axis, AxisLists, AxisRange, ChosenScale, CountedArea, FinalCut, Fit, Frames,
     PageSide, PrintRange, Ready, ReadyArea, ReadyTitle, Shared, SheetLists, Stretch,
 };
 use planner_setup::{axis_range, fixed_scale, looked_at};
@@ -28,7 +29,7 @@ fn ready_axis(axis: AxisRange, side: Fixed, title: ReadyTitle, indexes: &[u32]) 
     let widened = title.title;
     let start = body_start(widened, axis.first);
     let from = place_of(indexes, start);
-    let end = place_of(indexes, wide(axis.last) + 1);
+    let end = place_of(indexes, u64::from(axis.last) + 1);
     Ready {
         fit: Fit {
             page: PageSide {
@@ -44,7 +45,7 @@ fn ready_axis(axis: AxisRange, side: Fixed, title: ReadyTitle, indexes: &[u32]) 
             target: axis.target,
         },
         from,
-        to: longer(from, end),
+        to: from.max(end),
     }
 }
 
@@ -138,18 +139,23 @@ impl SettledSheet<'_> {
             rows: row_lists,
             columns: column_lists,
         } = *self.lists;
-        fit_scale(
-            rows.fit,
-            columns.fit,
-            row_lists.merges.firsts,
-            row_lists.merges.lasts,
-            &row_lists.slots.indexes[rows.from..rows.to],
-            &row_lists.slots.sizes[rows.from..rows.to],
-            column_lists.merges.firsts,
-            column_lists.merges.lasts,
-            &column_lists.slots.indexes[columns.from..columns.to],
-            &column_lists.slots.sizes[columns.from..columns.to],
-        )
+        let row_axis = FittedAxis {
+            fit: rows.fit,
+            merges: row_lists.merges,
+            slots: Measured {
+                indexes: &row_lists.slots.indexes[rows.from..rows.to],
+                sizes: &row_lists.slots.sizes[rows.from..rows.to],
+            },
+        };
+        let column_axis = FittedAxis {
+            fit: columns.fit,
+            merges: column_lists.merges,
+            slots: Measured {
+                indexes: &column_lists.slots.indexes[columns.from..columns.to],
+                sizes: &column_lists.slots.sizes[columns.from..columns.to],
+            },
+        };
+        fit_scale(row_axis, column_axis)
     }
 
     // Counts the final cuts of an area at a scale. With fit on, no break is looked at.
@@ -183,21 +189,19 @@ impl SettledSheet<'_> {
             ready.rows,
             frames.rows,
             scale.permille,
-            rows.merges.firsts,
-            rows.merges.lasts,
-            &row_breaks[..row_kept],
-            rows.slots.indexes,
-            rows.slots.sizes,
+            AxisLists {
+                breaks: &row_breaks[..row_kept],
+                ..rows
+            },
         );
         let column_cut = count_cut(
             ready.columns,
             frames.columns,
             scale.permille,
-            columns.merges.firsts,
-            columns.merges.lasts,
-            &column_breaks[..column_kept],
-            columns.slots.indexes,
-            columns.slots.sizes,
+            AxisLists {
+                breaks: &column_breaks[..column_kept],
+                ..columns
+            },
         );
         area_from(scale, row_cut, column_cut)
     }
@@ -247,11 +251,10 @@ impl SettledSheet<'_> {
             frames.rows,
             area.rows_empty,
             ready.range.first_row,
-            rows.merges.firsts,
-            rows.merges.lasts,
-            &rows.breaks[..row_kept],
-            rows.slots.indexes,
-            rows.slots.sizes,
+            AxisLists {
+                breaks: &rows.breaks[..row_kept],
+                ..rows
+            },
             &mut row_runs[row_at..],
         );
         write_cut(
@@ -259,11 +262,10 @@ impl SettledSheet<'_> {
             frames.columns,
             area.columns_empty,
             ready.range.first_column,
-            columns.merges.firsts,
-            columns.merges.lasts,
-            &columns.breaks[..column_kept],
-            columns.slots.indexes,
-            columns.slots.sizes,
+            AxisLists {
+                breaks: &columns.breaks[..column_kept],
+                ..columns
+            },
             &mut column_runs[column_at..],
         );
     }

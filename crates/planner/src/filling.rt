@@ -3,6 +3,8 @@ ghost use Rattle.std.specs.Prelude.{◌≡◌, ◌+◌, ◌*◌, ◌≤◌, ◌<
 ghost use Rattle.planner_rules.specs.Slots.{Small, sum};
 ghost use Rattle.planner_rules.specs.Runs.{more, natural};
 
+use crate::slots::Measured;
+
 // The slots that a run has so far, and their sum.
 #[derive(Clone, Copy)]
 pub(crate) struct Filling {
@@ -11,15 +13,12 @@ pub(crate) struct Filling {
 }
 
 // The sum of a stretch.
-pub(crate) fn total(sizes: &[u64]) -> u64
-    requires { Small sizes.now }
-    ensures { result ≡ sum sizes.now }
+pub(crate) fn total(slots: Measured) -> u64
+    ensures { result ≡ sum slots.entry.sizes.now }
 {
-    let mut i = sizes.len();
     let mut t = 0;
-    while i > 0 {
-        i -= 1;
-        t += sizes[i];
+    for size in slots.sizes {
+        t += *size;
     }
     t
 }
@@ -37,13 +36,14 @@ fn sum_of_eight(s: &[u64]) -> u64
 }
 
 // Fills a run by eight slots at a time, while the sum stays within the capacity: its first slot, and those that eight more take with them.
-fn fill_by_eight(sizes: &[u64], capacity: u64) -> Filling
-    requires small { Small sizes.now }
-    requires sizes_nonzero { 0 < length sizes.now }
-    ensures sizes_value { result.slots + more capacity result.sum (drop result.slots sizes.now) ≡ natural capacity sizes.now }
-    ensures sum_value { result.sum ≡ sum (take result.slots sizes.now) }
-    ensures le_slots { (1 ≤ result.slots) × (result.slots ≤ length sizes.now) × (result.sum ≤ 1073741824 * result.slots) }
+fn fill_by_eight(slots: Measured, capacity: u64) -> Filling
+    requires some { 0 < length slots.sizes.now }
+    ensures sizes_value { let ss = slots.entry.sizes.now in
+        result.slots + more capacity result.sum (drop result.slots ss) ≡ natural capacity ss }
+    ensures sum_value { result.sum ≡ sum (take result.slots slots.entry.sizes.now) }
+    ensures le_slots { (1 ≤ result.slots) × (result.slots ≤ length slots.entry.sizes.now) × (result.sum ≤ 1073741824 * result.slots) }
 {
+    let sizes = slots.sizes;
     let mut sum = sizes[0];
     let mut n = 1;
     while sizes.len() - n >= 8 {
@@ -58,23 +58,24 @@ fn fill_by_eight(sizes: &[u64], capacity: u64) -> Filling
 }
 
 // What a run takes by filling alone: the first slot, and the next while the sum stays within the capacity.
-pub(crate) fn natural_fill(sizes: &[u64], capacity: u64) -> Filling
-    requires small { Small sizes.now }
-    requires sizes_nonzero { 0 < length sizes.now }
-    ensures slots_value { result.slots ≡ natural capacity sizes.now }
-    ensures sum_value { result.sum ≡ sum (take result.slots sizes.now) }
-    ensures le_slots { (1 ≤ result.slots) × (result.slots ≤ length sizes.now) }
+pub(crate) fn natural_fill(slots: Measured, capacity: u64) -> Filling
+    requires some { 0 < length slots.sizes.now }
+    ensures slots_value { result.slots ≡ natural capacity slots.entry.sizes.now }
+    ensures sum_value { result.sum ≡ sum (take result.slots slots.entry.sizes.now) }
+    ensures le_slots { (1 ≤ result.slots) × (result.slots ≤ length slots.entry.sizes.now) }
 {
-    let filling = fill_by_eight(sizes, capacity);
+    let sizes = slots.sizes;
+    let filling = fill_by_eight(slots, capacity);
     let mut sum = filling.sum;
-    let mut n = filling.slots;
-    while n < sizes.len() {
+    for n in filling.slots..sizes.len() {
         let next = sum + sizes[n];
         if next > capacity {
             return Filling { slots: n, sum };
         }
         sum = next;
-        n += 1;
     }
-    Filling { slots: n, sum }
+    Filling {
+        slots: sizes.len(),
+        sum,
+    }
 }

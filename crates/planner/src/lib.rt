@@ -5,13 +5,16 @@ mod area;
 mod areas;
 mod cut;
 mod filling;
+mod fitted;
 mod memory;
+mod page;
 mod partition;
 mod places;
 mod plan;
 mod runs;
 mod scale;
 mod settled;
+mod slots;
 mod title;
 
 pub use partition::partition_axis_with_breaks;

@@ -3,8 +3,7 @@ ghost use Rattle.std.specs.Prelude.{◌≡◌, ◌≤◌, length};
 ghost use Rattle.planner_rules.specs.Slots.{Rising, below};
 ghost use Rattle.planner_rules.specs.Runs.{moved};
 
-use planner_compare::wide;
-use planner_rules::{Cut, Held};
+use planner_rules::{Cut, Span};
 
 // How many slots have an index below the limit.
 pub(crate) fn place_of(indexes: &[u32], limit: u64) -> usize
@@ -18,12 +17,12 @@ pub(crate) fn place_of(indexes: &[u32], limit: u64) -> usize
         let half = size / 2;
         let middle = low + half;
         size -= half;
-        if wide(indexes[middle]) < limit {
+        if u64::from(indexes[middle]) < limit {
             low = middle;
         }
     }
     if size > 0 {
-        if wide(indexes[low]) < limit {
+        if u64::from(indexes[low]) < limit {
             return low + 1;
         }
     }
@@ -31,24 +30,24 @@ pub(crate) fn place_of(indexes: &[u32], limit: u64) -> usize
 }
 
 // The cut of a break at the place p, whose boundary `held` holds.
-pub(crate) fn moved_cut(held: Held, prev: usize, p: usize, indexes: &[u32]) -> Cut
+pub(crate) fn moved_cut(held: Option<Span>, prev: usize, p: usize, indexes: &[u32]) -> Cut
     requires { Rising indexes.now }
     ensures { result ≡ moved held prev p indexes.now }
 {
-    let Held::By(first, last) = held else {
+    let Some(span) = held else {
         return Cut {
             place: p,
             shifted: 0,
         };
     };
-    let start = place_of(indexes, wide(first));
+    let start = place_of(indexes, u64::from(span.first));
     if start > prev {
         return Cut {
             place: start,
             shifted: 1,
         };
     }
-    let end = place_of(indexes, wide(last) + 1);
+    let end = place_of(indexes, u64::from(span.last) + 1);
     Cut {
         place: end,
         shifted: 1,

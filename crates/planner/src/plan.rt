@@ -16,7 +16,7 @@ use crate::title::ready_title;
 use planner_areas::area_at;
 use planner_questions::{plan_refusal, room_in, room_refusal};
 use planner_rules::{
-    Areas, Axis, ChosenScale, CountedAreas, Notes, Plan, Planning, Prepared, PrintRange, Request,
+    Areas, Axis, AxisLists, ChosenScale, CountedAreas, MergeList, Notes, Plan, Planning, Prepared, PrintRange, Request,
     RunCounts, Shared, SheetLists, Writing,
 };
 use planner_setup::content_sides;
@@ -33,23 +33,29 @@ fn prepare(request: &Request, lists: &SheetLists) -> Prepared
         return Prepared::Refused(10);
     };
     let SheetLists { rows, columns } = *lists;
-    let row_merges = in_memory(rows.merges.firsts);
-    let column_merges = in_memory(columns.merges.firsts);
+    let row_merges = MergeList {
+        firsts: in_memory(rows.merges.firsts),
+        ..rows.merges
+    };
+    let column_merges = MergeList {
+        firsts: in_memory(columns.merges.firsts),
+        ..columns.merges
+    };
     let row_title = ready_title(
         Axis::Rows.limit(),
         request.row_title,
-        rows.slots.indexes,
-        rows.slots.sizes,
-        row_merges,
-        rows.merges.lasts,
+        AxisLists {
+            merges: row_merges,
+            ..rows
+        },
     );
     let column_title = ready_title(
         Axis::Columns.limit(),
         request.column_title,
-        columns.slots.indexes,
-        columns.slots.sizes,
-        column_merges,
-        columns.merges.lasts,
+        AxisLists {
+            merges: column_merges,
+            ..columns
+        },
     );
     Prepared::Value(Shared {
         settings: request.settings,

@@ -1,18 +1,19 @@
 // Where the slots of an axis are cut into runs: document 01, section "Runs".
 ghost use Rattle.std.specs.Prelude.{◌≡◌, false, [], ◌∷◌, ◌++◌, ◌+◌, ◌≤◌, ◌<◌, length, take, drop};
-ghost use Rattle.planner_rules.specs.Slots.{Small, Rising, Slots, sum, below, written};
-ghost use Rattle.planner_rules.specs.Runs.{filled, resumed, resumption, taken, merged, ends, run_end, runs, expansions, first_marked};
+ghost use Rattle.planner_rules.specs.Slots.{Rising, sum, below, written};
+ghost use Rattle.planner_rules.specs.Runs.{holding, filled, resumed, resumption, taken, merged, ends, run_end, runs, expansions, first_marked};
 ghost use Rattle.planner_rules.specs.Runs.{placed, next_cut, stretch, axis_runs, axis_tally};
 ghost use Rattle.planner_rules.specs.Lent.{Room, Written, RoomAt, WrittenAt, flat};
-ghost use Rattle.planner_rules.specs.Scale.{space_of, Low};
+ghost use Rattle.planner_rules.specs.Scale.{space_of};
 ghost use Rattle.planner_rules.specs.Pages.{or_empty, overflowing};
 
 use crate::filling::{Filling, natural_fill, total};
+use crate::page::ScaledPage;
 use crate::places::{moved_cut, place_of};
 use crate::scale::{excess, run_fits};
-use planner_compare::wide;
+use crate::slots::Measured;
 use planner_cuts::{capacity_for, holding_merge, mark_of, merge_step, title_holds};
-use planner_rules::{Cut, Frame, PageSide, RUN_NUMBERS, RunEnd, Tally, Title};
+use planner_rules::{Cut, Frame, MergeList, RUN_NUMBERS, RunEnd, Span, Tally, Title};
 
 // Where a run ends: how many slots it has, 1 where a merge took it further, and its size.
 #[derive(Clone, Copy)]
@@ -37,155 +38,75 @@ pub(crate) struct AxisCount {
     pub overflows: u64,
 }
 
+// What the runs of an axis are cut by: its frame and its merges.
+#[derive(Clone, Copy)]
+pub(crate) struct Cutter<'a> {
+    pub frame: Frame,
+    pub merges: MergeList<'a>,
+}
+
 // How many slots are taken on from a boundary that the title holds.
-fn resumed_fill(indexes: &[u32], sizes: &[u64], capacity: u64, last: u32) -> usize
-    requires slots { Slots indexes.now sizes.now }
-    requires sizes_nonzero { 0 < length sizes.now }
-    ensures value { result ≡ resumed capacity last indexes.now sizes.now }
-    ensures upper_bound { result ≤ length sizes.now }
+fn resumed_fill(slots: Measured, capacity: u64, last: u32) -> usize
+    requires { 0 < length slots.sizes.now }
+    ensures value { result ≡ resumed capacity last slots.entry.indexes.now slots.entry.sizes.now }
+    ensures upper_bound { result ≤ length slots.entry.sizes.now }
 {
-    let mut sum = sizes[0];
-    let mut n = 1;
-    while n < sizes.len() {
-        let size = sizes[n];
+    let mut sum = slots.sizes[0];
+    for n in 1..slots.sizes.len() {
+        let size = slots.sizes[n];
         let next = sum + size;
         if next <= capacity {
             sum = next;
-            n += 1;
-        } else {
-            if indexes[n] > last {
-                return n;
-            }
-            sum = size;
-            n += 1;
+            continue;
         }
+        if slots.indexes[n] > last {
+            return n;
+        }
+        sum = size;
     }
-    n
+    slots.sizes.len()
 }
 
 // How many slots a run has after the title's resumption, where filling gave n and slots remain.
-fn title_end(title: Title, capacity: u64, indexes: &[u32], sizes: &[u64], n: usize) -> usize
-    requires slots { Slots indexes.now sizes.now }
-    requires n_in_bounds { n < length sizes.now }
-    ensures value { result ≡ resumption title capacity n indexes.now sizes.now }
-    ensures lower_bound { (n ≤ result) × (result ≤ length sizes.now) }
+fn title_end(title: Title, capacity: u64, slots: Measured, n: usize) -> usize
+    requires { n < length slots.sizes.now }
+    ensures value { result ≡ resumption title capacity n slots.entry.indexes.now slots.entry.sizes.now }
+    ensures lower_bound { (n ≤ result) × (result ≤ length slots.entry.sizes.now) }
 {
     let Title::Pair(first, last) = title else {
         return n;
     };
-    let b = indexes[n];
+    let b = slots.indexes[n];
     if first < b {
         if b <= last {
-            return n + resumed_fill(&indexes[n..], &sizes[n..], capacity, last);
+            return n + resumed_fill(slots.after(n), capacity, last);
         }
     }
     n
 }
 
 // How many slots a run has after the title's resumption, where filling gave n.
-fn taken_slots(k: Frame, indexes: &[u32], sizes: &[u64], n: usize) -> usize
-    requires slots { Slots indexes.now sizes.now }
-    requires n_value { (n ≡ filled k indexes.now sizes.now) × (n ≤ length sizes.now) }
-    ensures value { result ≡ taken k indexes.now sizes.now }
-    ensures lower_bound { (n ≤ result) × (result ≤ length sizes.now) }
+fn taken_slots(k: Frame, slots: Measured, n: usize) -> usize
+    requires { (n ≡ filled k slots.indexes.now slots.sizes.now) × (n ≤ length slots.sizes.now) }
+    ensures value { result ≡ taken k slots.entry.indexes.now slots.entry.sizes.now }
+    ensures lower_bound { (n ≤ result) × (result ≤ length slots.entry.sizes.now) }
 {
-    if n >= indexes.len() {
+    if n >= slots.indexes.len() {
         return n;
     }
     let title = k.title;
-    let titled = k.titled;
-    title_end(title, titled, indexes, sizes, n)
-}
-
-// The end of a run that filling and the title gave n slots.
-#[tactic(auto, unfolding(planner_rules::specs::Runs::merged))]
-fn merged_end(indexes: &[u32], n: usize, firsts: &[u32], lasts: &[u32], lo: u32, hi: u32) -> RunEnd
-    ensures { result ≡ merged lo hi firsts.now lasts.now n indexes.now }
-{
-    if n >= indexes.len() {
-        return RunEnd { slots: n, grown: 0 };
-    }
-    let held = holding_merge(firsts, lasts, lo, hi, indexes[n]);
-    merge_step(indexes, n, held)
+    title_end(title, k.titled, slots, n)
 }
 
 // The size of the first n slots, which are often as many as filling took.
-fn size_of(sizes: &[u64], n: usize, filling: Filling) -> u64
-    requires small { Small sizes.now }
-    requires n_in_bounds { (n ≤ length sizes.now) × (filling.sum ≡ sum (take filling.slots sizes.now)) }
-    ensures { result ≡ sum (take n sizes.now) }
+fn size_of(slots: Measured, n: usize, filling: Filling) -> u64
+    requires { (n ≤ length slots.sizes.now) × (filling.sum ≡ sum (take filling.slots slots.sizes.now)) }
+    ensures { result ≡ sum (take n slots.entry.sizes.now) }
 {
     if n == filling.slots {
         return filling.sum;
     }
-    total(&sizes[..n])
-}
-
-// Where a run that starts at the head of the slots ends, and its size.
-pub(crate) fn run_end(
-    k: Frame,
-    firsts: &[u32],
-    lasts: &[u32],
-    indexes: &[u32],
-    sizes: &[u64],
-) -> Reach
-    requires slots { Slots indexes.now sizes.now }
-    requires sizes_nonzero { 0 < length sizes.now }
-    ensures grown_value { (ends result.slots result.grown ≡ run_end k firsts.now lasts.now indexes.now sizes.now)
-        × (result.size ≡ sum (take result.slots sizes.now)) }
-    ensures le_slots { (1 ≤ result.slots) × (result.slots ≤ length sizes.now) × (result.grown ≤ 1) }
-{
-    let capacity = capacity_for(k, indexes[0]);
-    let filling = natural_fill(sizes, capacity);
-    let n = taken_slots(k, indexes, sizes, filling.slots);
-    let lo = k.lo;
-    let hi = k.hi;
-    let end = merged_end(indexes, n, firsts, lasts, lo, hi);
-    let slots = end.slots;
-    Reach {
-        slots,
-        grown: end.grown,
-        size: size_of(sizes, slots, filling),
-    }
-}
-
-// Counts the runs of a stretch, and how many of them exceed their page at a permille.
-#[inline(always)]
-fn count_runs(
-    page: PageSide,
-    permille: u16,
-    k: Frame,
-    mfirsts: &[u32],
-    mlasts: &[u32],
-    indexes: &[u32],
-    sizes: &[u64],
-) -> Counted
-    requires low { Low page }
-    requires slots { Slots indexes.now sizes.now }
-    ensures counts { let rs = runs k mfirsts.now mlasts.now indexes.now sizes.now in
-        (result.runs ≡ length rs) × (result.grown ≡ expansions rs) × (result.overflows ≡ overflowing (space_of page) k.title permille false rs) }
-    ensures bounds { let n = length sizes.now in (result.runs ≤ n) × (result.grown ≤ n) × (result.overflows ≤ n) }
-{
-    let title = k.title;
-    let mut is = indexes;
-    let mut ss = sizes;
-    let mut count = 0;
-    let mut grown = 0;
-    let mut overflows = 0;
-    while ss.len() > 0 {
-        let end = run_end(k, mfirsts, mlasts, is, ss);
-        let n = end.slots;
-        overflows += excess(run_fits(page, title, permille, is[0], end.size));
-        is = &is[n..];
-        ss = &ss[n..];
-        count += 1;
-        grown += end.grown;
-    }
-    Counted {
-        runs: count,
-        grown,
-        overflows,
-    }
+    total(slots.part(0, n))
 }
 
 // Writes the numbers of a run to a lent list, from `at` on, and returns the place after them.
@@ -195,8 +116,8 @@ fn put_run(list: &mut [u64], at: usize, first: u32, last: u32, size: u64, mark: 
     ensures value { result ≡ at + 4 }
     ensures list_after { list.new ≡ take at list.old ++ written (first ∷ last ∷ size ∷ mark ∷ []) (drop at list.old) }
 {
-    list[at] = wide(first);
-    list[at + 1] = wide(last);
+    list[at] = u64::from(first);
+    list[at + 1] = u64::from(last);
     list[at + 2] = size;
     list[at + 3] = mark;
     at + RUN_NUMBERS
@@ -208,76 +129,6 @@ pub(crate) fn write_empty(first: u32, list: &mut [u64])
     ensures { list.new ≡ written (flat (or_empty first [])) list.old }
 {
     put_run(list, 0, first, first, 0, 0);
-}
-
-// Writes the runs of a stretch to the front of a lent list, the first with the mark, and returns how many numbers they have.
-#[inline(always)]
-fn write_runs(
-    k: Frame,
-    mfirsts: &[u32],
-    mlasts: &[u32],
-    indexes: &[u32],
-    sizes: &[u64],
-    mark: u64,
-    list: &mut [u64],
-) -> usize
-    requires slots { Slots indexes.now sizes.now }
-    requires room { Room (first_marked mark (runs k mfirsts.now mlasts.now indexes.now sizes.now)) list.old }
-    ensures { Written (first_marked mark (runs k mfirsts.now mlasts.now indexes.now sizes.now))
-        result list.old list.new }
-{
-    let mut is = indexes;
-    let mut ss = sizes;
-    let mut manual = mark;
-    let mut at = 0;
-    while ss.len() > 0 {
-        let end = run_end(k, mfirsts, mlasts, is, ss);
-        let n = end.slots;
-        at = put_run(list, at, is[0], is[n - 1], end.size, manual);
-        manual = 0;
-        is = &is[n..];
-        ss = &ss[n..];
-    }
-    at
-}
-
-// The cut of a break at the place p; the last kept one where the break is skipped.
-#[inline(always)]
-fn placed_cut(
-    k: Frame,
-    mfirsts: &[u32],
-    mlasts: &[u32],
-    indexes: &[u32],
-    prev: usize,
-    p: usize,
-) -> Cut
-    requires { Rising indexes.now }
-    ensures { result ≡ placed k mfirsts.now mlasts.now indexes.now prev p }
-{
-    if p == 0 {
-        return Cut {
-            place: prev,
-            shifted: 0,
-        };
-    }
-    if p >= indexes.len() {
-        return Cut {
-            place: prev,
-            shifted: 0,
-        };
-    }
-    let b = indexes[p];
-    let title = k.title;
-    if title_holds(title, b) {
-        return Cut {
-            place: prev,
-            shifted: 0,
-        };
-    }
-    let lo = k.lo;
-    let hi = k.hi;
-    let held = holding_merge(mfirsts, mlasts, lo, hi, b);
-    moved_cut(held, prev, p, indexes)
 }
 
 // How many slots have an index below the break b, which often stands right past the last kept cut.
@@ -294,167 +145,235 @@ fn break_place(indexes: &[u32], prev: usize, b: u32) -> usize
             }
         }
     }
-    place_of(indexes, wide(b))
+    place_of(indexes, u64::from(b))
 }
 
-// The last kept cut after the break b. Where no merge can move it, a break that is not past the last kept cut is not searched for.
-#[inline(always)]
-fn next_cut(k: Frame, mfirsts: &[u32], mlasts: &[u32], indexes: &[u32], prev: usize, b: u32) -> Cut
-    requires rising { Rising indexes.now }
-    requires prev_in_bounds { prev ≤ length indexes.now }
-    ensures value { result ≡ next_cut k mfirsts.now mlasts.now indexes.now prev b }
-    ensures prev_le_place { (prev ≤ result.place) × (result.place ≤ length indexes.now) × (result.shifted ≤ 1) }
-{
-    if mfirsts.len() == 0 {
-        if prev < indexes.len() {
-            if b <= indexes[prev] {
-                return Cut {
-                    place: prev,
-                    shifted: 0,
-                };
+impl Cutter<'_> {
+    // The merge that is used at a boundary.
+    fn holder(self, b: u32) -> Option<Span>
+        ensures { let k = self.entry.frame in
+            result ≡ holding k.lo k.hi b self.entry.merges.firsts.now self.entry.merges.lasts.now }
+    {
+        let clip = Span {
+            first: self.frame.lo,
+            last: self.frame.hi,
+        };
+        holding_merge(self.merges, clip, b)
+    }
+
+    // The end of a run that filling and the title gave n slots.
+    #[tactic(auto, unfolding(planner_rules::specs::Runs::merged))]
+    fn merged_end(self, indexes: &[u32], n: usize) -> RunEnd
+        ensures { let k = self.entry.frame in
+            result ≡ merged k.lo k.hi self.entry.merges.firsts.now self.entry.merges.lasts.now n indexes.now }
+    {
+        if n >= indexes.len() {
+            return RunEnd { slots: n, grown: 0 };
+        }
+        merge_step(indexes, n, self.holder(indexes[n]))
+    }
+
+    // Where a run that starts at the head of the slots ends, and its size.
+    pub(crate) fn run_end(self, slots: Measured) -> Reach
+        requires { 0 < length slots.sizes.now }
+        ensures grown_value { let merges = self.entry.merges in
+            let is = slots.entry.indexes.now in
+            let ss = slots.entry.sizes.now in
+            (ends result.slots result.grown ≡ run_end self.entry.frame merges.firsts.now merges.lasts.now is ss)
+            × (result.size ≡ sum (take result.slots ss)) }
+        ensures le_slots { (1 ≤ result.slots) × (result.slots ≤ length slots.entry.sizes.now) × (result.grown ≤ 1) }
+    {
+        let k = self.frame;
+        let capacity = capacity_for(k, slots.indexes[0]);
+        let filling = natural_fill(slots, capacity);
+        let n = taken_slots(k, slots, filling.slots);
+        let end = self.merged_end(slots.indexes, n);
+        Reach {
+            slots: end.slots,
+            grown: end.grown,
+            size: size_of(slots, end.slots, filling),
+        }
+    }
+
+    // Counts the runs of a stretch, and how many of them exceed their page.
+    #[inline(always)]
+    fn count_runs(self, page: ScaledPage, slots: Measured) -> Counted
+        ensures counts { let merges = self.entry.merges in
+            let k = self.entry.frame in
+            let rs = runs k merges.firsts.now merges.lasts.now slots.entry.indexes.now slots.entry.sizes.now in
+            (result.runs ≡ length rs) × (result.grown ≡ expansions rs)
+            × (result.overflows ≡ overflowing (space_of page.side) k.title page.permille false rs) }
+        ensures bounds { let n = length slots.entry.sizes.now in
+            (result.runs ≤ n) × (result.grown ≤ n) × (result.overflows ≤ n) }
+    {
+        let title = self.frame.title;
+        let mut rest = slots;
+        let mut runs = 0;
+        let mut grown = 0;
+        let mut overflows = 0;
+        while rest.sizes.len() > 0 {
+            let end = self.run_end(rest);
+            runs += 1;
+            grown += end.grown;
+            overflows += excess(run_fits(page, title, rest.indexes[0], end.size));
+            rest = rest.after(end.slots);
+        }
+        Counted {
+            runs,
+            grown,
+            overflows,
+        }
+    }
+
+    // Writes the runs of a stretch to the front of a lent list, the first with the mark, and returns how many numbers they have.
+    #[inline(always)]
+    fn write_runs(self, slots: Measured, mark: u64, list: &mut [u64]) -> usize
+        requires room { let merges = self.merges in
+            let rs = runs self.frame merges.firsts.now merges.lasts.now slots.indexes.now slots.sizes.now in
+            Room (first_marked mark rs) list.old }
+        ensures { let merges = self.entry.merges in
+            let rs = runs self.entry.frame merges.firsts.now merges.lasts.now slots.entry.indexes.now slots.entry.sizes.now in
+            Written (first_marked mark rs) result list.old list.new }
+    {
+        let mut rest = slots;
+        let mut manual = mark;
+        let mut at = 0;
+        while rest.sizes.len() > 0 {
+            let end = self.run_end(rest);
+            let n = end.slots;
+            at = put_run(list, at, rest.indexes[0], rest.indexes[n - 1], end.size, manual);
+            manual = 0;
+            rest = rest.after(n);
+        }
+        at
+    }
+
+    // The cut of a break at the place p; the last kept one where the break is skipped.
+    #[inline(always)]
+    fn placed_cut(self, indexes: &[u32], prev: usize, p: usize) -> Cut
+        requires { Rising indexes.now }
+        ensures { let merges = self.entry.merges in
+            result ≡ placed self.entry.frame merges.firsts.now merges.lasts.now indexes.now prev p }
+    {
+        let skipped = Cut {
+            place: prev,
+            shifted: 0,
+        };
+        if p == 0 {
+            return skipped;
+        }
+        if p >= indexes.len() {
+            return skipped;
+        }
+        let b = indexes[p];
+        let title = self.frame.title;
+        if title_holds(title, b) {
+            return skipped;
+        }
+        moved_cut(self.holder(b), prev, p, indexes)
+    }
+
+    // The last kept cut after the break b. Where no merge can move it, a break that is not past the last kept cut is not searched for.
+    #[inline(always)]
+    fn next_cut(self, indexes: &[u32], prev: usize, b: u32) -> Cut
+        requires rising { Rising indexes.now }
+        requires prev_in_bounds { prev ≤ length indexes.now }
+        ensures value { let merges = self.entry.merges in
+            result ≡ next_cut self.entry.frame merges.firsts.now merges.lasts.now indexes.now prev b }
+        ensures prev_le_place { (prev ≤ result.place) × (result.place ≤ length indexes.now) × (result.shifted ≤ 1) }
+    {
+        if self.merges.firsts.len() == 0 {
+            if prev < indexes.len() {
+                if b <= indexes[prev] {
+                    return Cut {
+                        place: prev,
+                        shifted: 0,
+                    };
+                }
             }
         }
-    }
-    let p = break_place(indexes, prev, b);
-    let c = placed_cut(k, mfirsts, mlasts, indexes, prev, p);
-    let place = c.place;
-    let shifted = c.shifted;
-    if place > prev {
-        if place < indexes.len() {
-            return Cut { place, shifted };
+        let p = break_place(indexes, prev, b);
+        let Cut { place, shifted } = self.placed_cut(indexes, prev, p);
+        if place > prev {
+            if place < indexes.len() {
+                return Cut { place, shifted };
+            }
+        }
+        Cut {
+            place: prev,
+            shifted,
         }
     }
-    Cut {
-        place: prev,
-        shifted,
-    }
-}
 
-// Counts the runs of an axis, and how many of them exceed their page at a permille.
-pub(crate) fn count_axis(
-    page: PageSide,
-    permille: u16,
-    k: Frame,
-    mfirsts: &[u32],
-    mlasts: &[u32],
-    breaks: &[u32],
-    indexes: &[u32],
-    sizes: &[u64],
-) -> AxisCount
-    requires low { Low page }
-    requires slots { Slots indexes.now sizes.now }
-    ensures counts { let firsts = mfirsts.now in
-        let lasts = mlasts.now in
-        let is = indexes.now in
-        let ss = sizes.now in
-        let bs = breaks.now in
-        (result.tally ≡ axis_tally k firsts lasts is ss bs)
-        × (result.overflows ≡ overflowing (space_of page) k.title permille false (axis_runs k firsts lasts is ss 0 bs)) }
-    ensures bounds { let n = length sizes.now in
-        (result.tally.runs ≤ n) × (result.tally.expansions ≤ n) × (result.tally.shifts ≤ length breaks.now) × (result.overflows ≤ n) }
-{
-    let end = sizes.len();
-    let mut prev = 0;
-    let mut count = 0;
-    let mut grown = 0;
-    let mut overflows = 0;
-    let mut shifts = 0;
-    let mut j = 0;
-    while j < breaks.len() {
-        let cut = next_cut(k, mfirsts, mlasts, indexes, prev, breaks[j]);
-        let next = cut.place;
-        let t = count_runs(
-            page,
-            permille,
-            k,
-            mfirsts,
-            mlasts,
-            &indexes[prev..next],
-            &sizes[prev..next],
-        );
-        count += t.runs;
-        grown += t.grown;
-        overflows += t.overflows;
-        shifts += cut.shifted;
-        prev = next;
-        j += 1;
+    // Counts the runs of an axis, and how many of them exceed their page.
+    pub(crate) fn count_axis(self, page: ScaledPage, slots: Measured, breaks: &[u32]) -> AxisCount
+        ensures counts { let k = self.entry.frame in
+            let firsts = self.entry.merges.firsts.now in
+            let lasts = self.entry.merges.lasts.now in
+            let is = slots.entry.indexes.now in
+            let ss = slots.entry.sizes.now in
+            let bs = breaks.now in
+            (result.tally ≡ axis_tally k firsts lasts is ss bs)
+            × (result.overflows ≡ overflowing (space_of page.side) k.title page.permille false (axis_runs k firsts lasts is ss 0 bs)) }
+        ensures bounds { let n = length slots.entry.sizes.now in
+            (result.tally.runs ≤ n) × (result.tally.expansions ≤ n) × (result.tally.shifts ≤ length breaks.now) × (result.overflows ≤ n) }
+    {
+        let mut prev = 0;
+        let mut count = 0;
+        let mut grown = 0;
+        let mut overflows = 0;
+        let mut shifts = 0;
+        for b in breaks {
+            let cut = self.next_cut(slots.indexes, prev, *b);
+            let next = cut.place;
+            let t = self.count_runs(page, slots.part(prev, next));
+            count += t.runs;
+            grown += t.grown;
+            overflows += t.overflows;
+            shifts += cut.shifted;
+            prev = next;
+        }
+        let t = self.count_runs(page, slots.part(prev, slots.sizes.len()));
+        AxisCount {
+            tally: Tally {
+                runs: count + t.runs,
+                expansions: grown + t.grown,
+                shifts,
+            },
+            overflows: overflows + t.overflows,
+        }
     }
-    let t = count_runs(
-        page,
-        permille,
-        k,
-        mfirsts,
-        mlasts,
-        &indexes[prev..end],
-        &sizes[prev..end],
-    );
-    AxisCount {
-        tally: Tally {
-            runs: count + t.runs,
-            expansions: grown + t.grown,
-            shifts,
-        },
-        overflows: overflows + t.overflows,
-    }
-}
 
-// Writes the runs of the slots from the cut a to the cut e to a lent list, from `at` on, and returns how many numbers they have.
-#[inline(always)]
-fn write_stretch(
-    k: Frame,
-    mfirsts: &[u32],
-    mlasts: &[u32],
-    indexes: &[u32],
-    sizes: &[u64],
-    a: usize,
-    e: usize,
-    at: usize,
-    list: &mut [u64],
-) -> usize
-    requires slots { Slots indexes.now sizes.now }
-    requires a_le_e { (a ≤ e) × (e ≤ length sizes.now) }
-    requires room_at { RoomAt (stretch k mfirsts.now mlasts.now indexes.now sizes.now a e) at list.old }
-    ensures { WrittenAt (stretch k mfirsts.now mlasts.now indexes.now sizes.now a e) at result
-        list.old list.new }
-{
-    write_runs(
-        k,
-        mfirsts,
-        mlasts,
-        &indexes[a..e],
-        &sizes[a..e],
-        mark_of(a),
-        &mut list[at..],
-    )
-}
-
-// Writes the runs of an axis to the front of a lent list and returns how many numbers they have.
-pub(crate) fn write_axis(
-    k: Frame,
-    mfirsts: &[u32],
-    mlasts: &[u32],
-    breaks: &[u32],
-    indexes: &[u32],
-    sizes: &[u64],
-    list: &mut [u64],
-) -> usize
-    requires slots { Slots indexes.now sizes.now }
-    requires room { Room (axis_runs k mfirsts.now mlasts.now indexes.now sizes.now 0 breaks.now) list.old }
-    ensures { Written
-        (axis_runs k mfirsts.now mlasts.now indexes.now sizes.now 0
-        breaks.now)
-        result list.old list.new }
-{
-    let end = sizes.len();
-    let mut prev = 0;
-    let mut at = 0;
-    let mut j = 0;
-    while j < breaks.len() {
-        let kept = next_cut(k, mfirsts, mlasts, indexes, prev, breaks[j]);
-        let next = kept.place;
-        at += write_stretch(k, mfirsts, mlasts, indexes, sizes, prev, next, at, list);
-        prev = next;
-        j += 1;
+    // Writes the runs of the slots from the cut a to the cut e to a lent list, from `at` on, and returns how many numbers they have.
+    #[inline(always)]
+    fn write_stretch(self, slots: Measured, a: usize, e: usize, at: usize, list: &mut [u64]) -> usize
+        requires a_le_e { (a ≤ e) × (e ≤ length slots.sizes.now) }
+        requires room_at { let merges = self.merges in
+            RoomAt (stretch self.frame merges.firsts.now merges.lasts.now slots.indexes.now slots.sizes.now a e) at list.old }
+        ensures { let merges = self.entry.merges in
+            let is = slots.entry.indexes.now in
+            let ss = slots.entry.sizes.now in
+            WrittenAt (stretch self.entry.frame merges.firsts.now merges.lasts.now is ss a e) at result list.old list.new }
+    {
+        self.write_runs(slots.part(a, e), mark_of(a), &mut list[at..])
     }
-    at + write_stretch(k, mfirsts, mlasts, indexes, sizes, prev, end, at, list)
+
+    // Writes the runs of an axis to the front of a lent list and returns how many numbers they have.
+    pub(crate) fn write_axis(self, slots: Measured, breaks: &[u32], list: &mut [u64]) -> usize
+        requires room { let merges = self.merges in
+            Room (axis_runs self.frame merges.firsts.now merges.lasts.now slots.indexes.now slots.sizes.now 0 breaks.now) list.old }
+        ensures { let merges = self.entry.merges in
+            let is = slots.entry.indexes.now in
+            let ss = slots.entry.sizes.now in
+            Written (axis_runs self.entry.frame merges.firsts.now merges.lasts.now is ss 0 breaks.now) result list.old list.new }
+    {
+        let mut prev = 0;
+        let mut at = 0;
+        for b in breaks {
+            let next = self.next_cut(slots.indexes, prev, *b).place;
+            at += self.write_stretch(slots, prev, next, at, list);
+            prev = next;
+        }
+        at + self.write_stretch(slots, prev, slots.sizes.len(), at, list)
+    }
 }

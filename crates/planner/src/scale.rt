@@ -6,8 +6,11 @@ ghost use Rattle.planner_rules.specs.Scale.{capacity_of, fits_side, all_fit, mee
 ghost use Rattle.planner_rules.specs.Plan.{ready_frame};
 ghost use Rattle.planner_rules.specs.Scale as section;
 
-use crate::runs::run_end;
-use planner_rules::{ChosenScale, Fit, Frame, PageSide, Title};
+use crate::fitted::FittedAxis;
+use crate::page::ScaledPage;
+use crate::runs::Cutter;
+use crate::slots::Measured;
+use planner_rules::{ChosenScale, Fit, Frame, Title};
 use planner_setup::{meets_target, middle_of};
 use units::Fixed;
 
@@ -23,17 +26,16 @@ fn length_of(n: u64) -> Fixed
 }
 
 // The capacity at a permille beside so many units of titles.
-fn capacity_at(page: PageSide, permille: u16, titles: u64) -> u64
-    requires low { Low page }
-    requires titles_bound { titles ≤ 2 ^ 50 }
-    ensures { result ≡ capacity_of (space_of page) permille titles }
+fn capacity_at(page: ScaledPage, titles: u64) -> u64
+    requires { titles ≤ 2 ^ 50 }
+    ensures { result ≡ capacity_of (space_of page.side) page.permille titles }
 {
     let side = page.side;
     let answer = units::unscaled_capacity(
-        side,
-        permille,
+        side.side,
+        page.permille,
         length_of(titles),
-        length_of(page.headings),
+        length_of(side.headings),
     );
     match answer {
         Ok(capacity) => capacity.magnitude(),
@@ -42,49 +44,47 @@ fn capacity_at(page: PageSide, permille: u16, titles: u64) -> u64
 }
 
 // Whether a size, scaled and rounded, is at most the side.
-fn fits_side(page: PageSide, permille: u16, size: u64) -> bool
+fn fits_side(page: ScaledPage, size: u64) -> bool
     requires { size ≤ 2 ^ 53 }
-    ensures { result ≡ fits_side (space_of page) permille size }
+    ensures { result ≡ fits_side (space_of page.side) page.permille size }
 {
-    let answer = units::scale_fixed(length_of(size), permille);
+    let answer = units::scale_fixed(length_of(size), page.permille);
     match answer {
-        Ok(scaled) => scaled.raw() <= page.side.raw(),
+        Ok(scaled) => scaled.raw() <= page.side.side.raw(),
         Err(_) => false,
     }
 }
 
 // What a run takes of a page: its size and the headings, and the titles where it lies past the title.
-fn printed(page: PageSide, title: Title, first: u32, size: u64) -> u64
-    requires low { Low page }
-    requires size_bound { size ≤ 2 ^ 50 }
-    ensures value { result ≡ section.printed (space_of page) title false first size }
+fn printed(page: ScaledPage, title: Title, first: u32, size: u64) -> u64
+    requires { size ≤ 2 ^ 50 }
+    ensures value { result ≡ section.printed (space_of page.side) title false first size }
     ensures upper_bound { result ≤ 2 ^ 53 }
 {
+    let side = page.side;
     let Title::Pair(_, last) = title else {
-        return size + page.headings;
+        return size + side.headings;
     };
     if first > last {
-        return size + page.titles + page.headings;
+        return size + side.titles + side.headings;
     }
-    size + page.headings
+    size + side.headings
 }
 
 // Whether a run that has slots is at most the side.
-pub(crate) fn run_fits(page: PageSide, title: Title, permille: u16, first: u32, size: u64) -> bool
-    requires low { Low page }
-    requires size_bound { size ≤ 2 ^ 50 }
-    ensures { result ≡ fits_side (space_of page) permille (section.printed (space_of page) title false first size) }
+pub(crate) fn run_fits(page: ScaledPage, title: Title, first: u32, size: u64) -> bool
+    requires { size ≤ 2 ^ 50 }
+    ensures { let space = space_of page.side in
+        result ≡ fits_side space page.permille (section.printed space title false first size) }
 {
-    let whole = printed(page, title, first, size);
-    fits_side(page, permille, whole)
+    fits_side(page, printed(page, title, first, size))
 }
 
 // Whether the run of an axis without slots is: titles plus headings.
-pub(crate) fn empty_fits(page: PageSide, permille: u16) -> bool
-    requires { Low page }
-    ensures { result ≡ fits_side (space_of page) permille (page.titles + page.headings) }
+pub(crate) fn empty_fits(page: ScaledPage) -> bool
+    ensures { result ≡ fits_side (space_of page.side) page.permille (page.side.titles + page.side.headings) }
 {
-    fits_side(page, permille, page.titles + page.headings)
+    fits_side(page, page.side.titles + page.side.headings)
 }
 
 // How many runs one that fits, or does not, adds to those that overflow.
@@ -100,14 +100,15 @@ pub(crate) fn frame_at(fit: Fit, permille: u16) -> Frame
     requires { Low fit.page }
     ensures { result ≡ ready_frame fit permille }
 {
-    let page = fit.page;
+    let side = fit.page;
+    let page = ScaledPage { side, permille };
     let stretch = fit.stretch;
     let title = stretch.title;
-    let untitled = capacity_at(page, permille, 0);
-    let titled = if page.titles == 0 {
+    let untitled = capacity_at(page, 0);
+    let titled = if side.titles == 0 {
         untitled
     } else {
-        capacity_at(page, permille, page.titles)
+        capacity_at(page, side.titles)
     };
     Frame {
         untitled,
@@ -119,116 +120,71 @@ pub(crate) fn frame_at(fit: Fit, permille: u16) -> Frame
 }
 
 // Whether the runs of slots fit the page and meet the target: no more are cut once the answer is known.
-fn runs_pass(
-    page: PageSide,
-    frame: Frame,
-    target: u16,
-    permille: u16,
-    mfirsts: &[u32],
-    mlasts: &[u32],
-    indexes: &[u32],
-    sizes: &[u64],
-) -> bool
-    requires low { Low page }
-    requires slots { Slots indexes.now sizes.now }
-    ensures { let rs = runs frame mfirsts.now mlasts.now indexes.now sizes.now in
-        result ≡ all_fit (space_of page) (titled frame.title) permille rs && meets target (length rs) }
+fn runs_pass(page: ScaledPage, cutter: Cutter, target: u16, slots: Measured) -> bool
+    ensures { let k = cutter.entry.frame in
+        let merges = cutter.entry.merges in
+        let rs = runs k merges.firsts.now merges.lasts.now slots.entry.indexes.now slots.entry.sizes.now in
+        result ≡ all_fit (space_of page.side) (titled k.title) page.permille rs && meets target (length rs) }
 {
-    let title = frame.title;
-    let mut is = indexes;
-    let mut ss = sizes;
+    let title = cutter.frame.title;
+    let mut rest = slots;
     let mut count = 0;
-    while ss.len() > 0 {
+    while rest.sizes.len() > 0 {
         count += 1;
         if !meets_target(target, count) {
             return false;
         }
-        let end = run_end(frame, mfirsts, mlasts, is, ss);
-        let n = end.slots;
-        if !run_fits(page, title, permille, is[0], end.size) {
+        let end = cutter.run_end(rest);
+        if !run_fits(page, title, rest.indexes[0], end.size) {
             return false;
         }
-        is = &is[n..];
-        ss = &ss[n..];
+        rest = rest.after(end.slots);
     }
     true
 }
 
 // Whether an axis passes at a permille: its runs, cut without breaks, fit the page and meet the target.
-fn fit_passes(
-    fit: Fit,
-    permille: u16,
-    mfirsts: &[u32],
-    mlasts: &[u32],
-    indexes: &[u32],
-    sizes: &[u64],
-) -> bool
-    requires { Fitted fit indexes.now sizes.now }
-    ensures { result ≡ fit_passes fit mfirsts.now mlasts.now indexes.now sizes.now permille }
+fn fit_passes(axis: FittedAxis, permille: u16) -> bool
+    ensures { let slots = axis.entry.slots in
+        let merges = axis.entry.merges in
+        result ≡ fit_passes axis.entry.fit merges.firsts.now merges.lasts.now slots.indexes.now slots.sizes.now permille }
 {
-    let page = fit.page;
-    if sizes.len() == 0 {
-        return empty_fits(page, permille);
+    let fit = axis.fit;
+    let page = ScaledPage {
+        side: fit.page,
+        permille,
+    };
+    if axis.slots.sizes.len() == 0 {
+        return empty_fits(page);
     }
-    let frame = frame_at(fit, permille);
-    runs_pass(
-        page, frame, fit.target, permille, mfirsts, mlasts, indexes, sizes,
-    )
+    let cutter = Cutter {
+        frame: frame_at(fit, permille),
+        merges: axis.merges,
+    };
+    runs_pass(page, cutter, fit.target, axis.slots)
 }
 
 // Whether both axes pass at a permille: rows, then columns.
-fn both_pass(
-    rows: Fit,
-    columns: Fit,
-    permille: u16,
-    rfirsts: &[u32],
-    rlasts: &[u32],
-    rindexes: &[u32],
-    rsizes: &[u64],
-    cfirsts: &[u32],
-    clasts: &[u32],
-    cindexes: &[u32],
-    csizes: &[u64],
-) -> bool
-    requires fitted_rows { Fitted rows rindexes.now rsizes.now }
-    requires fitted_columns { Fitted columns cindexes.now csizes.now }
-    ensures { result ≡ fit_passes rows rfirsts.now rlasts.now rindexes.now rsizes.now permille &&
-        fit_passes columns cfirsts.now clasts.now cindexes.now csizes.now permille }
+fn both_pass(rows: FittedAxis, columns: FittedAxis, permille: u16) -> bool
+    ensures { result ≡ fit_passes rows.entry.fit rows.entry.merges.firsts.now rows.entry.merges.lasts.now rows.entry.slots.indexes.now rows.entry.slots.sizes.now permille
+        && fit_passes columns.entry.fit columns.entry.merges.firsts.now columns.entry.merges.lasts.now columns.entry.slots.indexes.now columns.entry.slots.sizes.now permille }
 {
-    if !fit_passes(rows, permille, rfirsts, rlasts, rindexes, rsizes) {
+    if !fit_passes(rows, permille) {
         return false;
     }
-    fit_passes(columns, permille, cfirsts, clasts, cindexes, csizes)
+    fit_passes(columns, permille)
 }
 
 // The halving from 100 to 1,000.
-fn halved_permille(
-    rows: Fit,
-    columns: Fit,
-    rfirsts: &[u32],
-    rlasts: &[u32],
-    rindexes: &[u32],
-    rsizes: &[u64],
-    cfirsts: &[u32],
-    clasts: &[u32],
-    cindexes: &[u32],
-    csizes: &[u64],
-) -> u16
-    requires fitted_rows { Fitted rows rindexes.now rsizes.now }
-    requires fitted_columns { Fitted columns cindexes.now csizes.now }
-    ensures { result ≡ halve
-        (λ p. fit_passes rows rfirsts.now rlasts.now rindexes.now rsizes.now p &&
-        fit_passes columns cfirsts.now clasts.now cindexes.now csizes.now p)
-        10 100 1000 }
+fn halved_permille(rows: FittedAxis, columns: FittedAxis) -> u16
+    ensures { result ≡ halve (λ p. fit_passes rows.entry.fit rows.entry.merges.firsts.now rows.entry.merges.lasts.now rows.entry.slots.indexes.now rows.entry.slots.sizes.now p
+        && fit_passes columns.entry.fit columns.entry.merges.firsts.now columns.entry.merges.lasts.now columns.entry.slots.indexes.now columns.entry.slots.sizes.now p) 10 100 1000 }
 {
     let mut low: u16 = 100;
     let mut high: u16 = 1000;
     while low < high {
         let middle = middle_of(low, high);
-        if both_pass(
-            rows, columns, middle, rfirsts, rlasts, rindexes, rsizes, cfirsts, clasts, cindexes,
-            csizes,
-        ) {
+        if both_pass(rows, columns, middle) {
             low = middle;
         } else {
             high = middle - 1;
@@ -238,27 +194,11 @@ fn halved_permille(
 }
 
 // The scale at which both axes fit: 100 with a note where they do not fit there, and else by halving.
-pub(crate) fn fit_scale(
-    rows: Fit,
-    columns: Fit,
-    rfirsts: &[u32],
-    rlasts: &[u32],
-    rindexes: &[u32],
-    rsizes: &[u64],
-    cfirsts: &[u32],
-    clasts: &[u32],
-    cindexes: &[u32],
-    csizes: &[u64],
-) -> ChosenScale
-    requires fitted_rows { Fitted rows rindexes.now rsizes.now }
-    requires fitted_columns { Fitted columns cindexes.now csizes.now }
-    ensures { scale_of result ≡ fit_scale
-        (λ p. fit_passes rows rfirsts.now rlasts.now rindexes.now rsizes.now p &&
-        fit_passes columns cfirsts.now clasts.now cindexes.now csizes.now p) }
+pub(crate) fn fit_scale(rows: FittedAxis, columns: FittedAxis) -> ChosenScale
+    ensures { scale_of result ≡ fit_scale (λ p. fit_passes rows.entry.fit rows.entry.merges.firsts.now rows.entry.merges.lasts.now rows.entry.slots.indexes.now rows.entry.slots.sizes.now p
+        && fit_passes columns.entry.fit columns.entry.merges.firsts.now columns.entry.merges.lasts.now columns.entry.slots.indexes.now columns.entry.slots.sizes.now p) }
 {
-    if !both_pass(
-        rows, columns, 100, rfirsts, rlasts, rindexes, rsizes, cfirsts, clasts, cindexes, csizes,
-    ) {
+    if !both_pass(rows, columns, 100) {
         return ChosenScale {
             permille: 100,
             clamp: 0,
@@ -266,9 +206,7 @@ pub(crate) fn fit_scale(
         };
     }
     ChosenScale {
-        permille: halved_permille(
-            rows, columns, rfirsts, rlasts, rindexes, rsizes, cfirsts, clasts, cindexes, csizes,
-        ),
+        permille: halved_permille(rows, columns),
         clamp: 0,
         unreachable: 0,
     }

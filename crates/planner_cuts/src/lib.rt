@@ -11,22 +11,19 @@ ghost use Rattle.planner_rules.specs.Plan.{cut_from};
 ghost use Rattle.planner_rules.specs.Runs.{capacity_at, merge_step};
 
 pub use merges::holding_merge;
-use planner_compare::wide;
-use planner_rules::{FinalCut, Frame, Held, RunEnd, Tally, Title};
+use planner_rules::{FinalCut, Frame, RunEnd, Span, Tally, Title};
 
 // How many slots at the front have an index below the limit.
 fn slots_below(indexes: &[u32], limit: u64) -> usize
     ensures value { result ≡ below limit indexes.now }
     ensures upper_bound { result ≤ length indexes.now }
 {
-    let mut n = 0;
-    while n < indexes.len() {
-        if wide(indexes[n]) >= limit {
+    for (n, index) in indexes.iter().enumerate() {
+        if u64::from(*index) >= limit {
             return n;
         }
-        n += 1;
     }
-    n
+    indexes.len()
 }
 
 // How many slots there are up to the last one at or below an index.
@@ -34,12 +31,10 @@ fn slots_through(indexes: &[u32], last: u32) -> usize
     ensures value { result ≡ through last indexes.now }
     ensures upper_bound { result ≤ length indexes.now }
 {
-    let mut i = indexes.len();
-    while i > 0 {
-        if indexes[i - 1] <= last {
-            return i;
+    for i in (0..indexes.len()).rev() {
+        if indexes[i] <= last {
+            return i + 1;
         }
-        i -= 1;
     }
     0
 }
@@ -61,20 +56,20 @@ pub fn capacity_for(k: Frame, index: u32) -> u64
 
 // The merge step, where a run has n slots and `held` holds the boundary after them.
 #[tactic(auto, unfolding(planner_rules::specs::Runs::merge_step))]
-pub fn merge_step(indexes: &[u32], n: usize, held: Held) -> RunEnd
+pub fn merge_step(indexes: &[u32], n: usize, held: Option<Span>) -> RunEnd
     ensures { result ≡ merge_step held n indexes.now }
 {
-    let Held::By(first, last) = held else {
+    let Some(span) = held else {
         return RunEnd { slots: n, grown: 0 };
     };
-    let start = slots_below(indexes, wide(first));
+    let start = slots_below(indexes, u64::from(span.first));
     if start > 0 {
         return RunEnd {
             slots: start,
             grown: 0,
         };
     }
-    let end = slots_through(indexes, last);
+    let end = slots_through(indexes, span.last);
     if end > n {
         return RunEnd {
             slots: end,

@@ -1,91 +1,77 @@
 // The merge that is used at a boundary: document 01, section "Runs".
-ghost use Rattle.std.specs.Prelude.{◌≡◌, ◌-◌};
+ghost use Rattle.std.specs.Prelude.{◌≡◌};
 ghost use Rattle.planner_rules.specs.Titles.{holds, no_merge};
 ghost use Rattle.planner_rules.specs.Runs.{earlier, nearer, holding, holding_onto};
 
-use planner_compare::{greater, lesser, shorter};
-use planner_rules::Held;
+use planner_rules::{MergeList, Span};
 
 // So many merges are asked at once whether one of them holds a boundary.
 const PART: usize = 32;
 
 // The earlier of two pairs, by first, then last.
 #[tactic(auto, unfolding(planner_rules::specs::Runs::earlier))]
-fn earlier_of(first: u32, last: u32, held: Held) -> Held
-    ensures { result ≡ earlier first last held }
+fn earlier_of(span: Span, held: Option<Span>) -> Option<Span>
+    ensures { result ≡ earlier span.first span.last held }
 {
-    let Held::By(f, l) = held else {
-        return Held::By(first, last);
+    let Some(found) = held else {
+        return Some(span);
     };
-    if first < f {
-        return Held::By(first, last);
-    }
-    if f < first {
-        return Held::By(f, l);
-    }
-    Held::By(first, lesser(last, l))
+    Some(span.min(found))
 }
 
 // What holds b, of a pair and of what was found before.
 #[tactic(auto, unfolding(planner_rules::specs::Runs::nearer))]
-fn nearer_of(first: u32, last: u32, b: u32, held: Held) -> Held
-    ensures { result ≡ nearer first last b held }
+fn nearer_of(span: Span, b: u32, held: Option<Span>) -> Option<Span>
+    ensures { result ≡ nearer span.first span.last b held }
 {
-    if first < b {
-        if b <= last {
-            return earlier_of(first, last, held);
+    if span.first < b {
+        if b <= span.last {
+            return earlier_of(span, held);
         }
     }
     held
 }
 
 // Whether no merge holds b: all are asked, so that there is no branch on what one of them answers.
-fn none_holds(firsts: &[u32], lasts: &[u32], b: u32) -> bool
-    ensures { result ≡ no_merge (λ f l. holds f l b) firsts.now lasts.now }
+fn none_holds(merges: MergeList, b: u32) -> bool
+    ensures { result ≡ no_merge (λ f l. holds f l b) merges.entry.firsts.now merges.entry.lasts.now }
 {
-    let mut i = shorter(firsts.len(), lasts.len());
     let mut none = true;
-    while i > 0 {
-        i -= 1;
-        none = !((firsts[i] < b) & (b <= lasts[i])) & none;
+    for (first, last) in merges.firsts.iter().zip(merges.lasts) {
+        none = !((*first < b) & (b <= *last)) & none;
     }
     none
 }
 
 // The earliest of some merges that hold b, clipped to the stretch, and of what was found before.
-fn earliest_of(firsts: &[u32], lasts: &[u32], lo: u32, hi: u32, b: u32, found: Held) -> Held
-    ensures { result ≡ holding_onto lo hi b firsts.now lasts.now found }
+fn earliest_of(merges: MergeList, clip: Span, b: u32, found: Option<Span>) -> Option<Span>
+    ensures { result ≡ holding_onto clip.first clip.last b merges.entry.firsts.now merges.entry.lasts.now found }
 {
-    let mut i = shorter(firsts.len(), lasts.len());
+    let firsts = merges.firsts;
+    let lasts = merges.lasts;
     let mut held = found;
-    while i > 0 {
-        i -= 1;
-        held = nearer_of(greater(firsts[i], lo), lesser(lasts[i], hi), b, held);
+    for i in (0..firsts.len().min(lasts.len())).rev() {
+        let clipped = Span {
+            first: firsts[i].max(clip.first),
+            last: lasts[i].min(clip.last),
+        };
+        held = nearer_of(clipped, b, held);
     }
     held
 }
 
-// Where the part of the merges starts that ends at a place.
-fn part_before(i: usize) -> usize
-    ensures { result ≡ i - 32 }
+// The earliest merge that holds b, clipped to a stretch.
+pub fn holding_merge(merges: MergeList, clip: Span, b: u32) -> Option<Span>
+    ensures { result ≡ holding clip.first clip.last b merges.entry.firsts.now merges.entry.lasts.now }
 {
-    if i > PART { i - PART } else { 0 }
-}
-
-// The earliest merge that holds b, clipped to the stretch.
-pub fn holding_merge(firsts: &[u32], lasts: &[u32], lo: u32, hi: u32, b: u32) -> Held
-    ensures { result ≡ holding lo hi b firsts.now lasts.now }
-{
-    let mut i = shorter(firsts.len(), lasts.len());
-    let mut held = Held::Free;
-    while i > 0 {
-        let from = part_before(i);
-        let f = &firsts[from..i];
-        let l = &lasts[from..i];
-        if !none_holds(f, l, b) {
-            held = earliest_of(f, l, lo, hi, b, held);
+    let count = merges.firsts.len().min(merges.lasts.len());
+    let last_parts = merges.lasts[..count].rchunks(PART);
+    let mut held = None;
+    for (firsts, lasts) in merges.firsts[..count].rchunks(PART).zip(last_parts) {
+        let part = MergeList { firsts, lasts };
+        if !none_holds(part, b) {
+            held = earliest_of(part, clip, b, held);
         }
-        i = from;
     }
     held
 }

@@ -9,7 +9,8 @@ use native.Mathlib.Omega.{arith}
 use lib.ListN.{length, get_or, take, drop, length-take, length-drop, drop_of_length-le, get_or-eq_default}
 use lib.Seq.{take-add, drop-cons, drop-drop, drop-length, take_all, get_or-drop, get_or-take, length-take-le}
 use borrow.Author.Tests.{le-leb, lt-leb, lt-ltb, le-ltb}
-use mathlib.Core.Bool.{Bool, true, false, cond, not, ◌&&◌}
+use mathlib.Core.Bool.{Bool, true, false, cond, not, ◌&&◌, and-true}
+use mathlib.Core.Logic.{◌⊎◌, inl, inr}
 use lib.Dec.{leb, ltb, lit<}
 use Rattle.planner_rules.specs.Slots.{Small, Rising, Slots, sum, mid}
 use Rattle.planner_rules.specs.Titles.{no_merge}
@@ -168,14 +169,26 @@ module _ (p : ℕ → ℕ → Bool) where
   none_left [] = refl
   none_left (f ∷ fs) = refl
 
-  pub no_merge_end : (i : ℕ) (fs ls : List ℕ) → min (length fs) (length ls) ≤ i → no_merge p (drop i fs) (drop i ls) ≡ true
-  unfolding no_merge
-  no_merge_end i fs ls h = run_out (λ (xs ys : List ℕ). no_merge p xs ys ≡ true) fs ls i h (λ ys. refl) none_left
+  swap : (a b c : Bool) → a && (b && c) ≡ (b && a) && c
+  swap true true c = refl
+  swap true false c = refl
+  swap false true c = refl
+  swap false false c = refl
 
-  pub no_merge_back : (i : ℕ) (fs ls : List ℕ) → 0 < i → i ≤ length fs → i ≤ length ls
-      → no_merge p (drop (i - 1) fs) (drop (i - 1) ls) ≡ (not (p (get_or fs (i - 1) 0) (get_or ls (i - 1) 0)) && no_merge p (drop i fs) (drop i ls))
+  -- one merge more is asked, whatever was found before it
+  pub none_asked : (fs ls : List ℕ) (f l : ℕ) (gs ms : List ℕ) (so_far all : Bool) → fs ≡ f ∷ gs → ls ≡ l ∷ ms
+      → all ≡ (so_far && no_merge p fs ls) → all ≡ ((not (p f l) && so_far) && no_merge p gs ms)
   unfolding no_merge
-  no_merge_back i fs ls h k m = rw (drop_back fs i 0, drop_back ls i 0)
+  none_asked fs ls f l gs ms so_far all g m e = e ∙ rw (g, m) (swap so_far (not (p f l)) (no_merge p gs ms))
+
+  -- and past the last none is left
+  pub none_ended : (fs ls : List ℕ) (so_far all : Bool) → (fs ≡ []) ⊎ (ls ≡ []) → all ≡ (so_far && no_merge p fs ls) → so_far ≡ all
+  unfolding no_merge
+  none_ended fs ls so_far all h e =
+      elim h [
+        | inl g ↦ sym (and-true so_far) ∙ sym (rw g at e)
+        | inr g ↦ sym (and-true so_far) ∙ sym (rw (g, none_left fs) at e)
+      ]
 
 pub sum_back : (l : List ℕ) (i : ℕ) → 0 < i → i ≤ length l → sum (drop (i - 1) l) ≡ get_or l (i - 1) 0 + sum (drop i l)
 unfolding sum

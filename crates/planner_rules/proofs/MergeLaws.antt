@@ -1,15 +1,14 @@
 -- Laws of the merge that is used at a boundary (`specs/Runs.antt`), for the loops of `cuts::merges`. Assumes nothing.
-use mathlib.Core.Path.{◌≡◌, refl, ap, ◌∙◌}
+use mathlib.Core.Path.{◌≡◌, refl, sym, ap, ◌∙◌}
 use mathlib.Core.Bool.{true, not, and-false}
-use mathlib.Core.List.{List, [], ◌∷◌}
+use mathlib.Core.List.{List, [], ◌∷◌, ◌++◌}
 use Prim.Native.Nat.{ℕ, zero, suc, ◌+◌, ◌-◌, ◌≤◌, ◌<◌, min, max}
 use native.Mathlib.Omega.{arith}
-use lib.ListN.{length, get_or, take, drop, length-drop}
-use lib.Seq.{drop-drop}
+use lib.ListN.{length, get_or, take, drop}
+use Rattle.std.proofs.Common.{length-append, append_assoc}
 use borrow.Author.Tests.{lt-ltb, le-ltb, le-leb, lt-leb}
 use Rattle.std.specs.Prelude.{Option, Some, None}
 use Rattle.planner_rules.specs.declared.titles.Span.{Span}
-use Rattle.planner_rules.specs.Slots.{mid}
 use Rattle.planner_rules.specs.Titles.{holds, no_merge}
 use Rattle.planner_rules.specs.Runs.{nearer, holding, holding_onto}
 use Rattle.planner_rules.proofs.Laws.{drop_back, run_out, split}
@@ -65,28 +64,38 @@ module _ (lo hi b : ℕ) (held : Option Span) where
 -- ---- a part of the merges
 
 module _ (lo hi b : ℕ) where
-  none_left : (fs : List ℕ) → None ≡ holding lo hi b fs []
+  -- merges past the end of the shorter list are none
+  pub holding_even : (n : ℕ) (fs ls : List ℕ) → n ≡ min (length fs) (length ls) → holding lo hi b (take n fs) (take n ls) ≡ holding lo hi b fs ls
   unfolding holding
-  none_left [] = refl
-  none_left (f ∷ fs) = refl
+  holding_even zero [] ls e = refl
+  holding_even zero (f ∷ fs) [] e = refl
+  holding_even zero (f ∷ fs) (l ∷ ls) e = absurd (omega arith)
+  holding_even (suc n) [] ls e = refl
+  holding_even (suc n) (f ∷ fs) [] e = refl
+  holding_even (suc n) (f ∷ fs) (l ∷ ls) e = ap (nearer (max f lo) (min l hi) b) (holding_even n fs ls (omega arith))
 
-  pub holding_end : (i : ℕ) (fs ls : List ℕ) → min (length fs) (length ls) ≤ i → None ≡ holding lo hi b (drop i fs) (drop i ls)
-  unfolding holding
-  holding_end i fs ls h = run_out (λ (xs ys : List ℕ). None ≡ holding lo hi b xs ys) fs ls i h (λ ys. refl) none_left
-
-  -- the first m of them, and the others
-  holding_split : (m : ℕ) (fs ls : List ℕ) → m ≤ length fs → m ≤ length ls
-      → holding_onto lo hi b (take m fs) (take m ls) (holding lo hi b (drop m fs) (drop m ls)) ≡ holding lo hi b fs ls
+  -- some of them, and those behind them
+  pub holding_append : (gs ms fs ls : List ℕ) → length gs ≡ length ms
+      → holding_onto lo hi b gs ms (holding lo hi b fs ls) ≡ holding lo hi b (gs ++ fs) (ms ++ ls)
   unfolding holding_onto holding
-  holding_split zero fs ls h k = refl
-  holding_split (suc m) [] ls h k = absurd (omega arith)
-  holding_split (suc m) (f ∷ fs) [] h k = absurd (omega arith)
-  holding_split (suc m) (f ∷ fs) (l ∷ ls) h k = ap (nearer (max f lo) (min l hi) b) (holding_split m fs ls (omega arith) (omega arith))
+  holding_append [] [] fs ls e = refl
+  holding_append [] (m ∷ ms) fs ls e = absurd (omega arith)
+  holding_append (g ∷ gs) [] fs ls e = absurd (omega arith)
+  holding_append (g ∷ gs) (m ∷ ms) fs ls e = ap (nearer (max g lo) (min m hi) b) (holding_append gs ms fs ls (omega arith))
 
-  -- those from one place to another, and those from there on
-  pub holding_part : (a e : ℕ) (fs ls : List ℕ) → a ≤ e → e ≤ length fs → e ≤ length ls
-      → holding_onto lo hi b (mid a e fs) (mid a e ls) (holding lo hi b (drop e fs) (drop e ls)) ≡ holding lo hi b (drop a fs) (drop a ls)
-  holding_part a e fs ls h k q =
-      let on : a + (e - a) ≡ e = omega arith in
-      rw (drop-drop (e - a) a fs, drop-drop (e - a) a ls, on)
-      at (holding_split (e - a) (drop a fs) (drop a ls) (omega (arith, length-drop a fs)) (omega (arith, length-drop a ls)))
+-- a part that comes off the back goes before those that came
+pub one_part : (all before rest part behind : List ℕ) → all ≡ before ++ behind → before ≡ rest ++ part → all ≡ rest ++ (part ++ behind)
+one_part all before rest part behind e h = e ∙ rw h (append_assoc rest part behind)
+
+-- two lists of parts, equally long
+pub parts_even : (n m : ℕ) (fs ls gs ms p q : List ℕ) → n ≡ 32 → m ≡ 32 → length fs ≡ length ls → fs ≡ gs ++ p → length p ≡ min n (length fs)
+    → ls ≡ ms ++ q → length q ≡ min m (length ls) → (length p ≡ length q) × (length gs ≡ length ms)
+parts_even n m fs ls gs ms p q i j k e h f w =
+    let x = ap length e ∙ length-append gs p in
+    let y = ap length f ∙ length-append ms q in
+    (omega arith, omega arith)
+
+-- where all came
+pub none_before : (rest behind all : List ℕ) → length rest ≡ 0 → all ≡ rest ++ behind → behind ≡ all
+none_before [] behind all h e = sym e
+none_before (x ∷ rest) behind all h e = absurd (omega arith)

@@ -2,7 +2,7 @@
 -- rely on. Assumes nothing.
 use mathlib.Core.Path.{◌≡◌, refl, sym, ap, ap₂, ◌∙◌, subst}
 use mathlib.Core.Bool.{Bool, true, false, cond, not, ◌&&◌, true≢false}
-use mathlib.Core.List.{List, [], ◌∷◌}
+use mathlib.Core.List.{List, [], ◌∷◌, ◌++◌}
 use mathlib.Core.Logic.{◌⊎◌, inl, inr, ⊎_elim}
 use Prim.Native.Nat.{ℕ, zero, suc, ◌+◌, ◌-◌, ◌*◌, ◌^◌, ◌≤◌, ◌<◌, min, max}
 use native.Mathlib.Nat.{lt_of_not-le}
@@ -10,8 +10,8 @@ use native.Mathlib.Decide.{dec_le}
 use native.Mathlib.Numerals.{add-one}
 use native.Mathlib.Omega.{arith}
 use lib.Dec.{leb, eqb}
-use lib.ListN.{length, get_or, take, drop, length-drop}
-use lib.Seq.{drop-cons, drop-drop}
+use lib.ListN.{length, get_or}
+use Rattle.std.proofs.Common.{length-append}
 use borrow.Author.Tests.{le-leb, lt-leb, leb-true, eq-eqb, eqb-true}
 use Rattle.planner_rules.specs.declared.titles.Title.{Title}
 use Rattle.planner_rules.specs.declared.titles.Title.TheVariants.{Absent, Pair}
@@ -21,7 +21,7 @@ use Rattle.planner_rules.specs.Slots.{Small, Slots, sum, below, mid}
 use Rattle.planner_rules.specs.Titles.{body_start, title_total, no_merge, widen_to, widens, pass, same_span, still, expanded_to, passes, expand, normalized}
 use Rattle.planner_rules.specs.Titles.{widened_from, widened}
 use Rattle.planner_rules.specs.Questions.{all_within}
-use Rattle.planner_rules.proofs.Laws.{either, run_out, slots_mid}
+use Rattle.planner_rules.proofs.Laws.{either, slots_mid}
 use Rattle.planner_rules.proofs.EndLaws.{below-le}
 use Rattle.planner_rules.proofs.QuestionLaws.{both}
 
@@ -30,36 +30,40 @@ span f l = record { first = f; last = l }
 
 -- ---- one pass
 
-pub pass_step : (n : ℕ) (fs ls : List ℕ) (s : Span) → n < length fs → n < length ls
-    → pass (drop n fs) (drop n ls) s ≡ pass (drop (n + 1) fs) (drop (n + 1) ls) (widen_to s (get_or fs n 0) (get_or ls n 0))
-unfolding pass
-pass_step n fs ls s h k = rw (add-one, drop-cons fs n 0, drop-cons ls n 0)
-
 none_left : (fs : List ℕ) (s : Span) → pass fs [] s ≡ s
 unfolding pass
 none_left [] s = refl
 none_left (f ∷ fs) s = refl
 
-pub pass_end : (n : ℕ) (fs ls : List ℕ) (s : Span) → min (length fs) (length ls) ≤ n → pass (drop n fs) (drop n ls) s ≡ s
+-- where no merge is left, in a list of them or in a list of parts of them
+pub pass_over : (fs ls : List ℕ) (s : Span) → (fs ≡ []) ⊎ (ls ≡ []) → pass fs ls s ≡ s
 unfolding pass
-pass_end n fs ls s h = run_out (λ (xs ys : List ℕ). pass xs ys s ≡ s) fs ls n h (λ ys. refl) (λ xs. none_left xs s)
+pass_over fs ls s h = elim h [ | inl e ↦ rw e | inr e ↦ rw (e, none_left fs s) ]
 
--- the first m merges, and then the others
-pass_split : (m : ℕ) (fs ls : List ℕ) (s : Span) → m ≤ length fs → m ≤ length ls
-    → pass (drop m fs) (drop m ls) (pass (take m fs) (take m ls) s) ≡ pass fs ls s
+pub pass_ended : (fs ls : List ℕ) (s : Span) → (length fs ≡ 0) ⊎ (length ls ≡ 0) → pass fs ls s ≡ s
 unfolding pass
-pass_split zero fs ls s h k = refl
-pass_split (suc m) [] ls s h k = absurd (omega arith)
-pass_split (suc m) (f ∷ fs) [] s h k = absurd (omega arith)
-pass_split (suc m) (f ∷ fs) (l ∷ ls) s h k = pass_split m fs ls (widen_to s f l) (omega arith) (omega arith)
+pass_ended [] ls s h = refl
+pass_ended (f ∷ fs) [] s h = refl
+pass_ended (f ∷ fs) (l ∷ ls) s h = absurd (⊎_elim (λ (e : length (f ∷ fs) ≡ 0). omega arith) (λ (e : length (l ∷ ls) ≡ 0). omega arith) h)
 
--- the merges from one place to another, and those from there on
-pub pass_part : (i e : ℕ) (fs ls : List ℕ) (s : Span) → i ≤ e → e ≤ length fs → e ≤ length ls
-    → pass (drop e fs) (drop e ls) (pass (mid i e fs) (mid i e ls) s) ≡ pass (drop i fs) (drop i ls) s
-pass_part i e fs ls s h k q =
-    let on : i + (e - i) ≡ e = omega arith in
-    rw (drop-drop (e - i) i fs, drop-drop (e - i) i ls, on)
-    at (pass_split (e - i) (drop i fs) (drop i ls) s (omega (arith, length-drop i fs)) (omega (arith, length-drop i ls)))
+-- some merges and then the others, where a list that has fewer of the first has none of the others
+pass_append : (a b fs ls : List ℕ) (s : Span) → (length a < length b → length fs ≡ 0) → (length b < length a → length ls ≡ 0)
+    → pass fs ls (pass a b s) ≡ pass (a ++ fs) (b ++ ls) s
+unfolding pass
+pass_append [] [] fs ls s h k = refl
+pass_append [] (l ∷ b) [] ls s h k = refl
+pass_append [] (l ∷ b) (f ∷ fs) ls s h k = absurd (omega (arith, h (omega arith)))
+pass_append (f ∷ a) [] fs [] s h k = none_left fs s
+pass_append (f ∷ a) [] fs (l ∷ ls) s h k = absurd (omega (arith, k (omega arith)))
+pass_append (f ∷ a) (l ∷ b) fs ls s h k = pass_append a b fs ls (widen_to s f l) (λ p. h (omega arith)) (λ p. k (omega arith))
+
+-- of two lists a part of up to 32 merges each, and what is left of them
+pub pass_part : (n m : ℕ) (a b fs ls gs ms : List ℕ) (s : Span) → n ≡ 32 → m ≡ 32 → gs ≡ a ++ fs → length a ≡ min n (length gs) → ms ≡ b ++ ls
+    → length b ≡ min m (length ms) → pass fs ls (pass a b s) ≡ pass gs ms s
+pass_part n m a b fs ls gs ms s i j e h f k =
+    let p = ap length e ∙ length-append a fs in
+    let q = ap length f ∙ length-append b ls in
+    rw (e, f) (pass_append a b fs ls s (λ r. omega (arith, i, j, r, p, q, h, k)) (λ r. omega (arith, i, j, r, p, q, h, k)))
 
 -- ---- widening
 

@@ -37,8 +37,8 @@ pub struct Normalized {
     pub ignored: u64,
 }
 
-// A pair of a first and a last index: a title while merges widen it, or a merge that holds a boundary.
-#[derive(Clone, Copy, PartialEq, Eq)]
+// A pair of a first and a last index: a title while merges widen it, or a merge that holds a boundary. In order by first, then last.
+#[derive(Clone, Copy, PartialEq, Eq, PartialOrd, Ord)]
 pub struct Span {
     pub first: u32,
     pub last: u32,

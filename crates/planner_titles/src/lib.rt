@@ -2,12 +2,12 @@
 #![tactic(auto)]
 
 ghost use Rattle.std.specs.Prelude.{◌≡◌};
-ghost use Rattle.planner_rules.specs.Titles.{body_start, limit_of, normalized, no_merge, widens, widen_to, pass, same_span, expand, widened, widen_title};
-ghost use Rattle.planner_rules.specs.Titles.{widening_outcome};
+ghost use Rattle.planner_rules.specs.Titles.{body_start, limit_of, normalized, no_merge, widens, widen_to, pass, expand, widened, widen_title};
+ghost use Rattle.units.specs.Refusals.{outcome};
 
-use planner_compare::{greater, lesser, shorter, wide};
 use planner_questions::{all_within, pairs_ordered};
-use planner_rules::{Axis, Expanded, Normalized, Span, Title, Widened, Widening};
+use planner_rules::{Axis, Expanded, MergeList, Normalized, Span, Title, Widened};
+use units::Refusal;
 
 // So many merges are asked at once whether one of them widens a title.
 const PART: usize = 32;
@@ -45,77 +45,54 @@ fn widen_to(span: Span, first: u32, last: u32) -> Span
     if first <= span.last {
         if last >= span.first {
             return Span {
-                first: lesser(span.first, first),
-                last: greater(span.last, last),
+                first: span.first.min(first),
+                last: span.last.max(last),
             };
         }
     }
     span
 }
 
-#[tactic(auto, unfolding(planner_rules::specs::Titles::same_span))]
-fn same_span(a: Span, b: Span) -> bool
-    ensures { result ≡ same_span a b }
-{
-    if a.first == b.first {
-        if a.last == b.last {
-            return true;
-        }
-    }
-    false
-}
-
 // Whether no merge of these widens the span: all are asked, so that there is no branch on what one of them answers.
-fn none_widens(span: Span, firsts: &[u32], lasts: &[u32]) -> bool
-    ensures { result ≡ no_merge (widens span) firsts.now lasts.now }
+fn none_widens(span: Span, merges: MergeList) -> bool
+    ensures { result ≡ no_merge (widens span) merges.entry.firsts.now merges.entry.lasts.now }
 {
-    let first = span.first;
-    let last = span.last;
-    let end = shorter(firsts.len(), lasts.len());
+    let Span { first, last } = span;
     let mut none = true;
-    let mut i = 0;
-    while i < end {
-        let f = firsts[i];
-        let l = lasts[i];
-        none = !((f <= last) & ((first <= l) & !((first <= f) & (l <= last)))) & none;
-        i += 1;
+    for (f, l) in merges.firsts.iter().zip(merges.lasts) {
+        let inside = (first <= *f) & (*l <= last);
+        none = !((*f <= last) & ((first <= *l) & !inside)) & none;
     }
     none
 }
 
 // What a part of the merges makes of the span.
-fn widen_by_part(span: Span, firsts: &[u32], lasts: &[u32]) -> Span
-    ensures { result ≡ pass firsts.now lasts.now span }
+fn widen_by_part(span: Span, merges: MergeList) -> Span
+    ensures { result ≡ pass merges.entry.firsts.now merges.entry.lasts.now span }
 {
-    if none_widens(span, firsts, lasts) {
+    if none_widens(span, merges) {
         return span;
     }
-    let end = shorter(firsts.len(), lasts.len());
     let mut wide = span;
-    let mut i = 0;
-    while i < end {
-        wide = widen_to(wide, firsts[i], lasts[i]);
-        i += 1;
+    for (first, last) in merges.firsts.iter().zip(merges.lasts) {
+        wide = widen_to(wide, *first, *last);
     }
     wide
 }
 
 // Passes over all merges widen the pair, until one changes nothing. A pass takes the merges part by part.
-fn expand_repeat_for_merges(first: u32, last: u32, firsts: &[u32], lasts: &[u32]) -> Expanded
-    ensures { result ≡ expand firsts.now lasts.now first last }
+fn expand_repeat_for_merges(asked: Span, merges: MergeList) -> Expanded
+    ensures { result ≡ expand merges.entry.firsts.now merges.entry.lasts.now asked.first asked.last }
 {
-    let end = shorter(firsts.len(), lasts.len());
-    let mut span = Span { first, last };
+    let mut span = asked;
     let mut expanded = 0;
     let title = loop {
         let previous = span;
-        let mut i = 0;
-        while i < end {
-            let to = shorter(i + PART, end);
-            span = widen_by_part(span, &firsts[i..to], &lasts[i..to]);
-            i = to;
+        let parts = merges.firsts.chunks(PART).zip(merges.lasts.chunks(PART));
+        for (firsts, lasts) in parts {
+            span = widen_by_part(span, MergeList { firsts, lasts });
         }
-        if same_span(previous, span) {
+        if previous == span {
             break Title::Pair(span.first, span.last);
         }
         expanded += 1;
@@ -125,12 +102,13 @@ fn expand_repeat_for_merges(first: u32, last: u32, firsts: &[u32], lasts: &[u32]
 
 // The title that the pages repeat: ignored where it does not hold, then widened.
 #[tactic(auto, unfolding(planner_rules::specs::Titles::widened, planner_rules::specs::Titles::widened_from))]
-pub fn widened_title(limit: u32, title: Title, firsts: &[u32], lasts: &[u32]) -> Widened
-    ensures { result ≡ widened limit title firsts.now lasts.now }
+pub fn widened_title(limit: u32, title: Title, merges: MergeList) -> Widened
+    ensures { result ≡ widened limit title merges.entry.firsts.now merges.entry.lasts.now }
 {
-    let normal = normalize_repeat(title, limit);
-    let ignored = normal.ignored;
-    let kept = normal.title;
+    let Normalized {
+        title: kept,
+        ignored,
+    } = normalize_repeat(title, limit);
     let Title::Pair(first, last) = kept else {
         return Widened {
             title: Title::Absent,
@@ -138,9 +116,7 @@ pub fn widened_title(limit: u32, title: Title, firsts: &[u32], lasts: &[u32]) ->
             expanded: 0,
         };
     };
-    let wide = expand_repeat_for_merges(first, last, firsts, lasts);
-    let title = wide.title;
-    let expanded = wide.expanded;
+    let Expanded { title, expanded } = expand_repeat_for_merges(Span { first, last }, merges);
     Widened {
         title,
         ignored,
@@ -150,20 +126,20 @@ pub fn widened_title(limit: u32, title: Title, firsts: &[u32], lasts: &[u32]) ->
 
 // The title of an axis, normalized and widened by its merges.
 #[tactic(auto, unfolding(planner_rules::specs::Titles::widen_title))]
-pub fn widen_title(axis: Axis, title: Title, firsts: &[u32], lasts: &[u32]) -> Widening
-    ensures { widening_outcome result ≡ widen_title (limit_of axis) title firsts.now lasts.now }
+pub fn widen_title(axis: Axis, title: Title, merges: MergeList) -> Result<Widened, Refusal>
+    ensures { outcome result ≡ widen_title (limit_of axis) title merges.entry.firsts.now merges.entry.lasts.now }
 {
-    if firsts.len() != lasts.len() {
-        return Widening::Refused(6);
+    if merges.firsts.len() != merges.lasts.len() {
+        return Err(Refusal::MalformedLists);
     }
-    if !pairs_ordered(firsts, lasts) {
-        return Widening::Refused(6);
+    if !pairs_ordered(merges) {
+        return Err(Refusal::MalformedLists);
     }
     let limit = axis.limit();
-    if !all_within(lasts, limit) {
-        return Widening::Refused(7);
+    if !all_within(merges.lasts, limit) {
+        return Err(Refusal::OutsideGrid);
     }
-    Widening::Value(widened_title(limit, title, firsts, lasts))
+    Ok(widened_title(limit, title, merges))
 }
 
 // Where the body of a range starts, which may be past the largest index.
@@ -172,12 +148,12 @@ pub fn body_start(title: Title, first: u32) -> u64
     ensures { result ≡ body_start title first }
 {
     let Title::Pair(from, to) = title else {
-        return wide(first);
+        return u64::from(first);
     };
     if from <= first {
         if first <= to {
-            return wide(to) + 1;
+            return u64::from(to) + 1;
         }
     }
-    wide(first)
+    u64::from(first)
 }

@@ -1,10 +1,7 @@
 -- The loop comes from the end: none of the slots that it passed is at or below.
-use Rattle.std.proofs.Common.{◌≡◌, ◌≤◌, length, drop}
+use Rattle.std.proofs.Common.{◌≡◌, drop}
 use Rattle.planner_rules.specs.Slots.{through}
 use Rattle.planner_cuts.proofs.slots_through.Given as goal
 
 abbrev pub invariant-loop-i : goal.invariant-loop-i
-invariant-loop-i l = (l.i ≤ length l.indexes) × (through l.last (drop l.i l.indexes) ≡ 0)
-
-abbrev pub decreases-loop-i : goal.decreases-loop-i
-decreases-loop-i l = l.i
+invariant-loop-i l = through l.last (drop l.i l.indexes) ≡ 0

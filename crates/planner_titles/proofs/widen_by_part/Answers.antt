@@ -1,21 +1,19 @@
 -- Where none widens the span stays; else each turn is a step of the pass, whose end leaves the span.
-use Rattle.std.proofs.Common.{sym, ◌∙◌, arith}
-use Rattle.planner_rules.proofs.TitleLaws.{pass_step, pass_end, pass_none}
+use Rattle.std.proofs.Common.{sym, ◌∙◌}
+use Rattle.std.proofs.lemmas.Slice.Zip.{either_empty_from_Zip}
+use Rattle.planner_rules.specs.Titles.{pass}
+use Rattle.planner_rules.proofs.TitleLaws.{pass_over, pass_none}
 use Rattle.planner_titles.proofs.widen_by_part.Goals as goal
 
 pub returns-then-none_widens : goal.returns-then-none_widens
 returns-then-none_widens c =
-    sym (pass_none c.args.span c.args.firsts.now c.args.lasts.now (sym c.none_widens.ensures ∙ c.if-none_widens.true))
+    sym (pass_none c.args.span c.args.merges.firsts.now c.args.merges.lasts.now (sym c.none_widens.ensures ∙ c.if-none_widens.true))
 
-pub loop-i-preserved : goal.loop-i-preserved
-loop-i-preserved c =
-    let a = c.args in
-    let l = c.loop-i in
-    let step = pass_step l.i a.firsts.now a.lasts.now l.wide (omega arith) (omega arith) in
-    (omega arith, omega arith, rw c.widen_to-wide.ensures (sym step ∙ l.invariant.2))
+pub loop-first-preserved : goal.loop-first-preserved
+unfolding pass
+loop-first-preserved c =
+    let next = c.in-Some.ensures.steps in
+    rw c.widen_to-wide.ensures (rw (next.0, next.1) at c.loop-first.invariant)
 
 pub returns : goal.returns
-returns c =
-    let a = c.args in
-    let l = c.loop-i in
-    sym (pass_end l.i a.firsts.now a.lasts.now l.wide (omega (arith, c.loop-i-test.false, c.shorter-end.ensures))) ∙ l.invariant.2
+returns c = sym (pass_over _ _ _ (either_empty_from_Zip _ c.next.new.self _ c.in-None.is c.next.ensures.steps)) ∙ c.loop-first.invariant

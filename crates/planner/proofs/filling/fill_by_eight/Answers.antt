@@ -7,17 +7,17 @@ use Rattle.planner.proofs.filling.fill_by_eight.Goals as goal
 pub loop-n-init : goal.loop-n-init
 unfolding sum
 loop-n-init c =
-    let xs = c.args.sizes.now in (
+    let xs = c.args.slots.sizes.now in (
       omega arith,
       omega arith,
-      omega (arith, c.requires.small.each 0),
-      natural_start _ _ c.requires.sizes_nonzero,
-      omega (arith, sum_one 0 xs c.requires.sizes_nonzero),
+      omega (arith, c.args.slots.are.small.each 0),
+      natural_start _ _ c.requires.some,
+      omega (arith, sum_one 0 xs c.requires.some),
     )
 
 pub loop-n-preserved : goal.loop-n-preserved
 loop-n-preserved c =
-    let xs = c.args.sizes.now in
+    let xs = c.args.slots.sizes.now in
     let e = c.sum_of_eight.ensures in
     let l = c.loop-n in (
       omega arith,

@@ -6,15 +6,15 @@ use Rattle.planner.proofs.filling.natural_fill.Goals as goal
 pub returns-then-next-capacity-clause-slots_value : goal.returns-then-next-capacity-clause-slots_value
 returns-then-next-capacity-clause-slots_value c =
     let l = c.loop-n in
-    omega (arith, more_no c.args.capacity l.sum l.n c.args.sizes.now (omega arith) (omega arith))
+    omega (arith, more_no c.args.capacity l.sum l.n c.args.slots.sizes.now (omega arith) (omega arith))
 
 pub loop-n-preserved : goal.loop-n-preserved
 loop-n-preserved c =
     let l = c.loop-n in
-    let xs = c.args.sizes.now in (
+    let xs = c.args.slots.sizes.now in (
       omega arith,
       omega arith,
-      omega (arith, c.requires.small.each l.n),
+      omega (arith, c.args.slots.are.small.each l.n),
       omega (arith, more_yes c.args.capacity l.sum l.n xs (omega arith) (omega arith)),
       omega (arith, l.invariant.4, sum_one l.n xs (omega arith)),
     )
@@ -22,4 +22,4 @@ loop-n-preserved c =
 pub returns-clause-slots_value : goal.returns-clause-slots_value
 returns-clause-slots_value c =
     let l = c.loop-n in
-    omega (arith, more_end c.args.capacity l.sum l.n c.args.sizes.now (omega arith))
+    omega (arith, more_end c.args.capacity l.sum l.n c.args.slots.sizes.now (omega arith))

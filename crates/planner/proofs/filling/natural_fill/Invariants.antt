@@ -6,8 +6,5 @@ use Rattle.planner.proofs.filling.natural_fill.Given as goal
 
 abbrev pub invariant-loop-n : goal.invariant-loop-n
 invariant-loop-n l =
-    (1 ≤ l.n) × (l.n ≤ length l.sizes) × (l.sum ≤ 1073741824 * l.n)
-    × (l.n + more l.capacity l.sum (drop l.n l.sizes) ≡ natural l.capacity l.sizes) × (l.sum ≡ sum (take l.n l.sizes))
-
-abbrev pub decreases-loop-n : goal.decreases-loop-n
-decreases-loop-n l = length l.sizes - l.n
+    (1 ≤ l.n) × (l.n ≤ length l.slots.sizes.now) × (l.sum ≤ 1073741824 * l.n)
+    × (l.n + more l.capacity l.sum (drop l.n l.slots.sizes.now) ≡ natural l.capacity l.slots.sizes.now) × (l.sum ≡ sum (take l.n l.slots.sizes.now))

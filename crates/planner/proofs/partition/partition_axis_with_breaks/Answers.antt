@@ -1,5 +1,9 @@
 -- A no refuses, and else the body is cut.
-use Rattle.std.proofs.Common.{ℕ, ◌≤◌, ap, ◌∙◌, arith}
+use Rattle.std.proofs.Common.{ℕ, ◌≤◌, ◌<◌, ap, ◌∙◌, arith}
+use Rattle.std.proofs.lemmas.Result.{err_from_is_err_and}
+use Rattle.units.specs.declared.refusal.Refusal.{Refusal}
+use Rattle.units.specs.declared.refusal.Refusal.TheVariants as no
+use Rattle.units.specs.Refusals.{number_of}
 use Rattle.planner_rules.specs.declared.titles.Axis.{Axis}
 use Rattle.planner_rules.specs.declared.titles.Axis.TheVariants.{Rows, Columns}
 use Rattle.planner_rules.specs.Titles.{limit_of}
@@ -12,26 +16,54 @@ unfolding limit_of
 grid Rows = omega arith
 grid Columns = omega arith
 
-pub returns-then-refusal-gt0 : goal.returns-then-refusal-gt0
-returns-then-refusal-gt0 c =
-    let a = c.args in
-    let first_asked = c.partition_refusal-refusal.ensures
-    ∙ ap (λ (n : ℕ). first_no n a.setup a.indexes.now a.sizes.now a.merge_firsts.now a.merge_lasts.now) c.limit-limit.ensures in
-    refuses _ (body_runs a.setup a.indexes.now a.sizes.now a.merge_firsts.now a.merge_lasts.now a.breaks.now)
-    c.partition_refusal-refusal.result a.list.now (is_refused _ _ _ _ _ _ _ _ _ first_asked c.if-refusal-gt0.true)
+-- no refusal has the number 0
+positive : (r : Refusal) → 0 < number_of r
+positive no.TooManyBytes = omega arith
+positive no.BrokenRecord = omega arith
+positive no.EndNotLast = omega arith
+positive no.MisplacedRecord = omega arith
+positive no.BadFlag = omega arith
+positive no.MalformedLists = omega arith
+positive no.OutsideGrid = omega arith
+positive no.IndexesNotRising = omega arith
+positive no.SizeOutOfRange = omega arith
+positive no.CoordinateOverflow = omega arith
+positive no.ListTooShort = omega arith
+positive no.TooManyPages = omega arith
+positive no.PageListTooShort = omega arith
+positive no.NoSuchNumber = omega arith
+positive no.TooManyCells = omega arith
 
-pub partition_body-requires : goal.partition_body-requires
-partition_body-requires c =
+pub returns-in_err-partition_refusal : goal.returns-in_err-partition_refusal
+returns-in_err-partition_refusal c =
     let a = c.args in
-    let first_asked = c.partition_refusal-refusal.ensures
-    ∙ ap (λ (n : ℕ). first_no n a.setup a.indexes.now a.sizes.now a.merge_firsts.now a.merge_lasts.now) c.limit-limit.ensures in
-    (is_asked (limit_of a.axis) a.setup a.indexes.now a.sizes.now a.merge_firsts.now a.merge_lasts.now a.breaks.now a.list.now _ first_asked
-    c.if-refusal-gt0.false (grid a.axis)).slots
+    let is = a.lists.slots.indexes.now in
+    let ss = a.lists.slots.sizes.now in
+    let fs = a.lists.merges.firsts.now in
+    let ls = a.lists.merges.lasts.now in
+    let r = c.in_err-partition_refusal.field-0.0 in
+    let asked = c.in_err-partition_refusal.ensures ∙ ap (λ (n : ℕ). first_no n a.setup is ss fs ls) c.limit.ensures in
+    let p = err_from_is_err_and c.from_residual.result c.from_residual.ensures.1 in
+    rw (p.1, p.2)
+    (refuses _ (body_runs a.setup is ss fs ls a.lists.breaks.now) r a.list.now (is_refused _ _ _ _ _ _ _ _ _ asked (positive r)))
+
+pub invariant_of-slots : goal.invariant_of-slots
+invariant_of-slots c =
+    let a = c.args in
+    let is = a.lists.slots.indexes.now in
+    let ss = a.lists.slots.sizes.now in
+    let fs = a.lists.merges.firsts.now in
+    let ls = a.lists.merges.lasts.now in
+    let asked = c.in_ok-partition_refusal.ensures ∙ ap (λ (n : ℕ). first_no n a.setup is ss fs ls) c.limit.ensures in
+    record { are = (is_asked (limit_of a.axis) a.setup is ss fs ls a.lists.breaks.now a.list.now _ asked (omega arith) (grid a.axis)).slots }
 
 pub returns : goal.returns
 returns c =
     let a = c.args in
-    let first_asked = c.partition_refusal-refusal.ensures
-    ∙ ap (λ (n : ℕ). first_no n a.setup a.indexes.now a.sizes.now a.merge_firsts.now a.merge_lasts.now) c.limit-limit.ensures in
-    rw (is_asked (limit_of a.axis) a.setup a.indexes.now a.sizes.now a.merge_firsts.now a.merge_lasts.now a.breaks.now a.list.now _ first_asked
-    c.if-refusal-gt0.false (grid a.axis)).goes_on c.partition_body.ensures
+    let is = a.lists.slots.indexes.now in
+    let ss = a.lists.slots.sizes.now in
+    let fs = a.lists.merges.firsts.now in
+    let ls = a.lists.merges.lasts.now in
+    let asked = c.in_ok-partition_refusal.ensures ∙ ap (λ (n : ℕ). first_no n a.setup is ss fs ls) c.limit.ensures in
+    rw (is_asked (limit_of a.axis) a.setup is ss fs ls a.lists.breaks.now a.list.now _ asked (omega arith) (grid a.axis)).goes_on
+    c.partition_body.ensures

@@ -7,8 +7,8 @@ use Rattle.planner.proofs.places.place_of.Goals as goal
 pub loop-size-init : goal.loop-size-init
 loop-size-init c = (omega arith, omega (arith, below-le c.args.limit c.args.indexes.now), omega arith)
 
-pub loop-size-preserved-then-wide-limit : goal.loop-size-preserved-then-wide-limit
-loop-size-preserved-then-wide-limit c =
+pub loop-size-preserved-then-from-limit : goal.loop-size-preserved-then-from-limit
+loop-size-preserved-then-from-limit c =
     let l = c.loop-size in
     let past = below_past_it c.args.limit c.args.indexes.now c.requires (l.low + l.size / 2) (omega arith) (omega arith) in
     (omega (arith, past), omega arith, omega arith)
@@ -19,10 +19,10 @@ loop-size-preserved c =
     let up_to = below_up_to c.args.limit c.args.indexes.now (l.low + l.size / 2) (omega arith) (omega arith) in
     (omega arith, omega (arith, up_to), omega arith)
 
-pub returns-then-wide-limit-2-clause-value : goal.returns-then-wide-limit-2-clause-value
-returns-then-wide-limit-2-clause-value c =
+pub returns-then-from-limit-2-clause-value : goal.returns-then-from-limit-2-clause-value
+returns-then-from-limit-2-clause-value c =
     omega (arith, below_past_it c.args.limit c.args.indexes.now c.requires c.loop-size.low (omega arith) (omega arith))
 
-pub returns-else-wide-limit-2-clause-value : goal.returns-else-wide-limit-2-clause-value
-returns-else-wide-limit-2-clause-value c =
+pub returns-else-from-limit-2-clause-value : goal.returns-else-from-limit-2-clause-value
+returns-else-from-limit-2-clause-value c =
     omega (arith, below_up_to c.args.limit c.args.indexes.now c.loop-size.low (omega arith) (omega arith))

@@ -5,4 +5,4 @@ use Rattle.planner.proofs.runs.put_run.Goals as goal
 pub returns-clause-list_after : goal.returns-clause-list_after
 returns-clause-list_after c =
     let a = c.args in
-    rw (c.wide.ensures, c.wide-2.ensures) (four_stored a.list.now a.at a.first a.last a.size a.mark c.requires)
+    rw (c.from.ensures, c.from-2.ensures) (four_stored a.list.now a.at a.first a.last a.size a.mark c.requires)

@@ -8,23 +8,23 @@ use Rattle.planner_rules.proofs.Laws.{none, some}
 use Rattle.planner_rules.proofs.ScaleLaws.{no_runs, some_runs}
 use Rattle.planner.proofs.scale.fit_passes.Goals as goal
 
-pub returns-then-sizes-eq0 : goal.returns-then-sizes-eq0
+pub returns-then-axis-eq0 : goal.returns-then-axis-eq0
 unfolding runs_at runs
-returns-then-sizes-eq0 c =
+returns-then-axis-eq0 c =
     let a = c.args in
-    let body = body_for a.fit.stretch a.mfirsts.now a.mlasts.now a.indexes.now a.sizes.now in
-    c.empty_fits.ensures ∙ no_runs (space_of a.fit.page) body a.fit.target a.permille
-    (none (run (ready_frame a.fit a.permille) a.mfirsts.now a.mlasts.now) a.indexes.now a.sizes.now (omega (arith, c.if-sizes-eq0.true)))
+    let body = body_for a.axis.fit.stretch a.axis.merges.firsts.now a.axis.merges.lasts.now a.axis.slots.indexes.now a.axis.slots.sizes.now in
+    c.empty_fits.ensures ∙ no_runs (space_of a.axis.fit.page) body a.axis.fit.target a.permille
+    (none (run (ready_frame a.axis.fit a.permille) a.axis.merges.firsts.now a.axis.merges.lasts.now) a.axis.slots.indexes.now a.axis.slots.sizes.now (omega (arith, c.if-axis-eq0.true)))
 
 pub returns : goal.returns
 unfolding runs_at runs
 returns c =
     let a = c.args in
-    let body = body_for a.fit.stretch a.mfirsts.now a.mlasts.now a.indexes.now a.sizes.now in
+    let body = body_for a.axis.fit.stretch a.axis.merges.firsts.now a.axis.merges.lasts.now a.axis.slots.indexes.now a.axis.slots.sizes.now in
     let passes : Frame → Bool = λ f.
-    let rs = runs f a.mfirsts.now a.mlasts.now a.indexes.now a.sizes.now in
-    all_fit (space_of a.fit.page) (titled f.title) a.permille rs && meets a.fit.target (length rs) in
-    c.runs_pass.ensures ∙ ap passes c.frame_at-frame.ensures
-    ∙ some_runs (space_of a.fit.page) body a.fit.target a.permille
-    (some (run (ready_frame a.fit a.permille) a.mfirsts.now a.mlasts.now) a.indexes.now a.sizes.now (omega (arith, c.if-sizes-eq0.false))
-    c.requires.slots.even)
+    let rs = runs f a.axis.merges.firsts.now a.axis.merges.lasts.now a.axis.slots.indexes.now a.axis.slots.sizes.now in
+    all_fit (space_of a.axis.fit.page) (titled f.title) a.permille rs && meets a.axis.fit.target (length rs) in
+    c.runs_pass.ensures ∙ ap passes c.frame_at.ensures
+    ∙ some_runs (space_of a.axis.fit.page) body a.axis.fit.target a.permille
+    (some (run (ready_frame a.axis.fit a.permille) a.axis.merges.firsts.now a.axis.merges.lasts.now) a.axis.slots.indexes.now a.axis.slots.sizes.now (omega (arith, c.if-axis-eq0.false))
+    a.axis.slots.are.even)

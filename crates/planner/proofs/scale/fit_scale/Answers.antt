@@ -8,14 +8,14 @@ pub returns-then-not-both_pass : goal.returns-then-not-both_pass
 returns-then-not-both_pass c =
     let a = c.args in
     let passes : ℕ → Bool = λ p.
-    fit_passes a.rows a.rfirsts.now a.rlasts.now a.rindexes.now a.rsizes.now p
-    && fit_passes a.columns a.cfirsts.now a.clasts.now a.cindexes.now a.csizes.now p in
+    fit_passes a.rows.fit a.rows.merges.firsts.now a.rows.merges.lasts.now a.rows.slots.indexes.now a.rows.slots.sizes.now p
+    && fit_passes a.columns.fit a.columns.merges.firsts.now a.columns.merges.lasts.now a.columns.slots.indexes.now a.columns.slots.sizes.now p in
     fit_none passes (sym c.if-not-both_pass.ensures)
 
 pub returns : goal.returns
 returns c =
     let a = c.args in
     let passes : ℕ → Bool = λ p.
-    fit_passes a.rows a.rfirsts.now a.rlasts.now a.rindexes.now a.rsizes.now p
-    && fit_passes a.columns a.cfirsts.now a.clasts.now a.cindexes.now a.csizes.now p in
+    fit_passes a.rows.fit a.rows.merges.firsts.now a.rows.merges.lasts.now a.rows.slots.indexes.now a.rows.slots.sizes.now p
+    && fit_passes a.columns.fit a.columns.merges.firsts.now a.columns.merges.lasts.now a.columns.slots.indexes.now a.columns.slots.sizes.now p in
     fit_found passes _ (sym c.if-not-both_pass.ensures) c.halved_permille.ensures

@@ -10,7 +10,7 @@ unfolding fits_side
 returns-in-Ok c =
     let X : SFits w64 c.raw.result = search rules in
     let Y : SFits w64 c.raw-in-Ok.result = search rules in
-    let e : given c.in-Ok.scaled.0 ≡ scale_fixed (pos c.args.size) c.args.permille = rw c.length_of.ensures at c.in-Ok.ensures in
+    let e : given c.in-Ok.scaled.0 ≡ scale_fixed (pos c.args.size) c.args.page.permille = rw c.length_of.ensures at c.in-Ok.ensures in
     rw (← e, to_z-of_z X, to_z-of_z Y, c.raw.ensures, c.raw-in-Ok.ensures)
 
 pub returns-in-Err : goal.returns-in-Err

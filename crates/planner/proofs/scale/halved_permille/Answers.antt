@@ -14,8 +14,8 @@ loop-low-preserved-then-both_pass c =
     let a = c.args in
     let l = c.loop-low in
     let passes : ℕ → Bool = λ p.
-    fit_passes a.rows a.rfirsts.now a.rlasts.now a.rindexes.now a.rsizes.now p
-    && fit_passes a.columns a.cfirsts.now a.clasts.now a.cindexes.now a.csizes.now p in
+    fit_passes a.rows.fit a.rows.merges.firsts.now a.rows.merges.lasts.now a.rows.slots.indexes.now a.rows.slots.sizes.now p
+    && fit_passes a.columns.fit a.columns.merges.firsts.now a.columns.merges.lasts.now a.columns.slots.indexes.now a.columns.slots.sizes.now p in
     record {
       from = omega (arith, c.middle_of-middle.ensures, l.invariant.from);
       to = l.invariant.to;
@@ -39,8 +39,8 @@ loop-low-preserved c =
     let a = c.args in
     let l = c.loop-low in
     let passes : ℕ → Bool = λ p.
-    fit_passes a.rows a.rfirsts.now a.rlasts.now a.rindexes.now a.rsizes.now p
-    && fit_passes a.columns a.cfirsts.now a.clasts.now a.cindexes.now a.csizes.now p in
+    fit_passes a.rows.fit a.rows.merges.firsts.now a.rows.merges.lasts.now a.rows.slots.indexes.now a.rows.slots.sizes.now p
+    && fit_passes a.columns.fit a.columns.merges.firsts.now a.columns.merges.lasts.now a.columns.slots.indexes.now a.columns.slots.sizes.now p in
     record {
       from = l.invariant.from;
       to = omega (arith, c.middle_of-middle.ensures, c.loop-low-test.true, l.invariant.to);
@@ -55,6 +55,6 @@ returns c =
     let a = c.args in
     let l = c.loop-low in
     let passes : ℕ → Bool = λ p.
-    fit_passes a.rows a.rfirsts.now a.rlasts.now a.rindexes.now a.rsizes.now p
-    && fit_passes a.columns a.cfirsts.now a.clasts.now a.cindexes.now a.csizes.now p in
+    fit_passes a.rows.fit a.rows.merges.firsts.now a.rows.merges.lasts.now a.rows.slots.indexes.now a.rows.slots.sizes.now p
+    && fit_passes a.columns.fit a.columns.merges.firsts.now a.columns.merges.lasts.now a.columns.slots.indexes.now a.columns.slots.sizes.now p in
     halving_stop passes (halve passes 10 100 1000) l.low l.high c.loop-low-test.false l.invariant.halving

@@ -7,7 +7,8 @@ use Rattle.planner.proofs.scale.halved_permille.Given as goal
 abbrev pub invariant-loop-low : goal.invariant-loop-low
 invariant-loop-low l =
     let passes : ℕ → Bool = λ p.
-    fit_passes l.rows l.rfirsts l.rlasts l.rindexes l.rsizes p && fit_passes l.columns l.cfirsts l.clasts l.cindexes l.csizes p in
+    fit_passes l.rows.fit l.rows.merges.firsts.now l.rows.merges.lasts.now l.rows.slots.indexes.now l.rows.slots.sizes.now p
+    && fit_passes l.columns.fit l.columns.merges.firsts.now l.columns.merges.lasts.now l.columns.slots.indexes.now l.columns.slots.sizes.now p in
     record {
       from : 100 ≤ l.low;
       to : l.high ≤ 1000;

@@ -4,12 +4,12 @@ use Rattle.planner_rules.proofs.ScaleLaws.{printed_absent, printed_past, printed
 use Rattle.planner.proofs.scale.printed.Goals as goal
 
 pub returns-in_default-clause-value : goal.returns-in_default-clause-value
-returns-in_default-clause-value c = printed_absent (space_of c.args.page) c.args.title c.args.first c.args.size c.in_default.is
+returns-in_default-clause-value c = printed_absent (space_of c.args.page.side) c.args.title c.args.first c.args.size c.in_default.is
 
 pub returns-then-first-last-clause-value : goal.returns-then-first-last-clause-value
 returns-then-first-last-clause-value c =
-    printed_past (space_of c.args.page) c.args.title c.args.first c.args.size _ _ c.in-Pair.is c.if-first-last.true
+    printed_past (space_of c.args.page.side) c.args.title c.args.first c.args.size _ _ c.in-Pair.is c.if-first-last.true
 
 pub returns-clause-value : goal.returns-clause-value
 returns-clause-value c =
-    printed_before (space_of c.args.page) c.args.title c.args.first c.args.size _ _ c.in-Pair.is c.if-first-last.false
+    printed_before (space_of c.args.page.side) c.args.title c.args.first c.args.size _ _ c.in-Pair.is c.if-first-last.false

@@ -34,54 +34,57 @@ pub returns-then-not-meets_target : goal.returns-then-not-meets_target
 unfolding runs
 returns-then-not-meets_target c =
     let a = c.args in
-    let l = c.loop-ss in
-    too_many (space_of a.page) (titled a.frame.title) a.target a.permille l.count (runs a.frame a.mfirsts.now a.mlasts.now l.is.now l.ss.now)
-    (some (run a.frame a.mfirsts.now a.mlasts.now) l.is.now l.ss.now c.loop-ss-test.true l.invariant.slots.even)
+    let l = c.loop-rest in
+    too_many (space_of a.page.side) (titled a.cutter.frame.title) a.target a.page.permille l.count (runs a.cutter.frame a.cutter.merges.firsts.now a.cutter.merges.lasts.now l.rest.indexes.now l.rest.sizes.now)
+    (some (run a.cutter.frame a.cutter.merges.firsts.now a.cutter.merges.lasts.now) l.rest.indexes.now l.rest.sizes.now c.loop-rest-test.true l.rest.are.even)
     (sym c.if-not-meets_target.ensures) ∙ l.invariant.left
 
-pub run_fits-requires-clause-size_bound : goal.run_fits-requires-clause-size_bound
-run_fits-requires-clause-size_bound c =
+pub run_fits-requires : goal.run_fits-requires
+run_fits-requires c =
     let r = c.run_end-end in
-    let ss = c.loop-ss.ss.now in
+    let ss = c.loop-rest.rest.sizes.now in
     omega (
       arith,
       r.ensures.grown_value.1,
-      small-sum (take r.result.slots ss) (small-take r.result.slots ss r.ensures.le_slots.1 c.loop-ss.invariant.slots.small),
+      small-sum (take r.result.slots ss) (small-take r.result.slots ss r.ensures.le_slots.1 c.loop-rest.rest.are.small),
     )
 
 pub returns-then-not-run_fits : goal.returns-then-not-run_fits
 returns-then-not-run_fits c =
     let a = c.args in
-    let l = c.loop-ss in
+    let l = c.loop-rest in
     let r = c.run_end-end in
-    let out = out a.frame a.mfirsts.now a.mlasts.now l.is.now l.ss.now l.invariant.slots c.loop-ss-test.true r.result.slots r.result.grown
-    r.ensures.grown_value.0 r.ensures.le_slots.0 (space_of a.page) a.frame.title a.target a.permille l.count r.result.size r.ensures.grown_value.1
+    let out = out a.cutter.frame a.cutter.merges.firsts.now a.cutter.merges.lasts.now l.rest.indexes.now l.rest.sizes.now l.rest.are c.loop-rest-test.true r.result.slots r.result.grown
+    r.ensures.grown_value.0 r.ensures.le_slots.0 (space_of a.page.side) a.cutter.frame.title a.target a.page.permille l.count r.result.size r.ensures.grown_value.1
     c.if-not-run_fits.ensures in
     out ∙ l.invariant.left
 
-pub loop-ss-preserved : goal.loop-ss-preserved
-loop-ss-preserved c =
+pub loop-rest-preserved : goal.loop-rest-preserved
+loop-rest-preserved c =
     let a = c.args in
-    let l = c.loop-ss in
+    let l = c.loop-rest in
     let r = c.run_end-end in
     let n = r.result.slots in
-    let next = within a.frame a.mfirsts.now a.mlasts.now l.is.now l.ss.now l.invariant.slots c.loop-ss-test.true n r.result.grown
-    r.ensures.grown_value.0 r.ensures.le_slots.0 (space_of a.page) a.frame.title a.target a.permille l.count r.result.size r.ensures.grown_value.1
+    let next = within a.cutter.frame a.cutter.merges.firsts.now a.cutter.merges.lasts.now l.rest.indexes.now l.rest.sizes.now l.rest.are c.loop-rest-test.true n r.result.grown
+    r.ensures.grown_value.0 r.ensures.le_slots.0 (space_of a.page.side) a.cutter.frame.title a.target a.page.permille l.count r.result.size r.ensures.grown_value.1
     c.if-not-run_fits.ensures in
+    let rest = c.after-rest.ensures in
+    let rest_is : runs a.cutter.frame a.cutter.merges.firsts.now a.cutter.merges.lasts.now c.after-rest.result.indexes.now c.after-rest.result.sizes.now
+    ≡ runs a.cutter.frame a.cutter.merges.firsts.now a.cutter.merges.lasts.now (part n l.rest.indexes.now) (part n l.rest.sizes.now) =
+    λ i. runs a.cutter.frame a.cutter.merges.firsts.now a.cutter.merges.lasts.now (rest.indexes_are i) (rest.sizes_are i) in
     record {
-      slots = slots_part n l.is.now l.ss.now l.invariant.slots;
-      left = next ∙ l.invariant.left;
+      left = ap (pass_from (space_of a.page.side) (titled a.cutter.frame.title) a.target a.page.permille (l.count + 1)) rest_is ∙ next ∙ l.invariant.left;
       met = sym c.if-not-meets_target.ensures;
-      few = omega (arith, length_part n l.ss.now, r.ensures.le_slots, l.invariant.few);
+      few = omega (arith, ap length rest.sizes_are, length_part n l.rest.sizes.now, r.ensures.le_slots, l.invariant.few);
     }
 
 pub returns : goal.returns
 unfolding runs
 returns c =
     let a = c.args in
-    let l = c.loop-ss in
-    let s = space_of a.page in
-    all_in s (titled a.frame.title) a.target a.permille l.count l.invariant.met
-    ∙ ap (pass_from s (titled a.frame.title) a.target a.permille l.count)
-    (sym (none (run a.frame a.mfirsts.now a.mlasts.now) l.is.now l.ss.now c.loop-ss-test.false))
+    let l = c.loop-rest in
+    let s = space_of a.page.side in
+    all_in s (titled a.cutter.frame.title) a.target a.page.permille l.count l.invariant.met
+    ∙ ap (pass_from s (titled a.cutter.frame.title) a.target a.page.permille l.count)
+    (sym (none (run a.cutter.frame a.cutter.merges.firsts.now a.cutter.merges.lasts.now) l.rest.indexes.now l.rest.sizes.now c.loop-rest-test.false))
     ∙ l.invariant.left

@@ -1,21 +1,19 @@
 -- The runs so far fit and meet the target, and the answer for those of the slots that are left is the whole answer.
 use Rattle.std.proofs.Common.{◌≡◌, ◌&&◌, true, ◌+◌, ◌≤◌, length}
-use Rattle.planner_rules.specs.Slots.{Slots}
 use Rattle.planner_rules.specs.Runs.{runs}
 use Rattle.planner_rules.specs.Scale.{all_fit, meets, space_of, titled}
 use Rattle.planner_rules.proofs.ScaleLaws.{pass_from}
 use Rattle.planner.proofs.scale.runs_pass.Given as goal
 
-abbrev pub invariant-loop-ss : goal.invariant-loop-ss
-invariant-loop-ss l =
-    let all = runs l.frame l.mfirsts l.mlasts l.indexes l.sizes in
+abbrev pub invariant-loop-rest : goal.invariant-loop-rest
+invariant-loop-rest l =
+    let all = runs l.cutter.frame l.cutter.merges.firsts.now l.cutter.merges.lasts.now l.slots.indexes.now l.slots.sizes.now in
     record {
-      slots : Slots l.is l.ss;
-      left : pass_from (space_of l.page) (titled l.frame.title) l.target l.permille l.count (runs l.frame l.mfirsts l.mlasts l.is l.ss)
-          ≡ all_fit (space_of l.page) (titled l.frame.title) l.permille all && meets l.target (length all);
+      left : pass_from (space_of l.page.side) (titled l.cutter.frame.title) l.target l.page.permille l.count (runs l.cutter.frame l.cutter.merges.firsts.now l.cutter.merges.lasts.now l.rest.indexes.now l.rest.sizes.now)
+          ≡ all_fit (space_of l.page.side) (titled l.cutter.frame.title) l.page.permille all && meets l.target (length all);
       met : meets l.target l.count ≡ true;
-      few : l.count + length l.ss ≤ length l.sizes;
+      few : l.count + length l.rest.sizes.now ≤ length l.slots.sizes.now;
     }
 
-abbrev pub decreases-loop-ss : goal.decreases-loop-ss
-decreases-loop-ss l = length l.ss
+abbrev pub decreases-loop-rest : goal.decreases-loop-rest
+decreases-loop-rest l = length l.rest.sizes.now

@@ -1,11 +1,14 @@
--- The loop goes down by parts, and its invariant is the definition at the merges passed.
-use Rattle.std.proofs.Common.{◌≡◌, ◌≤◌, length, drop}
+-- The parts come from the back: what is held is the definition at the merges that came.
+use Rattle.std.proofs.Common.{◌≡◌, List, ℕ, ◌++◌, length, take}
+use Rattle.std.specs.Iterator.Adapters.{zip_first, zip_second}
+use Rattle.std.specs.Slice.Iter.{rchunks_rest, rchunks_size}
 use Rattle.planner_rules.specs.Runs.{holding}
 use Rattle.planner_cuts.proofs.merges.holding_merge.Given as goal
 
-abbrev pub invariant-loop-i : goal.invariant-loop-i
-invariant-loop-i l =
-    (l.i ≤ length l.firsts) × (l.i ≤ length l.lasts) × (l.held ≡ holding l.lo l.hi l.b (drop l.i l.firsts) (drop l.i l.lasts))
-
-abbrev pub decreases-loop-i : goal.decreases-loop-i
-decreases-loop-i l = l.i
+abbrev pub invariant-loop-firsts : goal.invariant-loop-firsts
+invariant-loop-firsts l =
+    let fs = zip_first l.firsts-iterator in
+    let ls = zip_second l.firsts-iterator in
+    (rchunks_size fs ≡ 32) × (rchunks_size ls ≡ 32) × (length (rchunks_rest fs) ≡ length (rchunks_rest ls))
+    × ((gs : List ℕ) × (ms : List ℕ) × (take l.count l.merges.firsts.now ≡ rchunks_rest fs ++ gs)
+    × (take l.count l.merges.lasts.now ≡ rchunks_rest ls ++ ms) × (l.held ≡ holding l.clip.first l.clip.last l.b gs ms))

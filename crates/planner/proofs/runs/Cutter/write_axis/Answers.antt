@@ -5,7 +5,7 @@ use Rattle.planner_rules.specs.declared.runs.Cut.{Cut}
 use Rattle.planner_rules.specs.Runs.{Run, next_cut, stretch, axis_runs}
 use Rattle.planner_rules.proofs.Lent.{Writing, writing_more, writing_room, writing_done}
 use Rattle.planner_rules.proofs.AxisLaws.{axis_more, axis_end}
-use Rattle.planner.proofs.runs.write_axis.Goals as goal
+use Rattle.planner.proofs.runs.Cutter.write_axis.Goals as goal
 
 module _ (k : Frame) (fs ls is ss : List ℕ) (prev j : ℕ) (bs : List ℕ) (whole : List Run) (old : List ℕ) (at : ℕ) (list : List ℕ)
     (w : Writing whole old at (axis_runs k fs ls is ss prev (drop j bs)) list) where
@@ -20,35 +20,34 @@ module _ (k : Frame) (fs ls is ss : List ℕ) (prev j : ℕ) (bs : List ℕ) (wh
 
 pub write_stretch-at-requires-clause-room_at : goal.write_stretch-at-requires-clause-room_at
 write_stretch-at-requires-clause-room_at c =
-    let l = c.loop-j in
+    let l = c.loop-b in
     let a = c.args in
-    let w = turning a.k a.mfirsts.now a.mlasts.now a.indexes.now a.sizes.now l.prev l.j a.breaks.now _ _ _ _ l.invariant.2
-    c.next_cut-kept.result c.loop-j-test.true c.next_cut-kept.ensures.value in
+    let w = turning a.self.frame a.self.merges.firsts.now a.self.merges.lasts.now a.slots.indexes.now a.slots.sizes.now l.prev l.b-index a.breaks.now _ _ _ _ l.invariant.1
+    c.next_cut-next.result (omega arith) c.next_cut-next.ensures.value in
     writing_room _ _ l.at _ _ _ c.requires.room w
 
-pub loop-j-preserved : goal.loop-j-preserved
-loop-j-preserved c =
-    let l = c.loop-j in
+pub loop-b-preserved : goal.loop-b-preserved
+loop-b-preserved c =
+    let l = c.loop-b in
     let a = c.args in
-    let w = turning a.k a.mfirsts.now a.mlasts.now a.indexes.now a.sizes.now l.prev l.j a.breaks.now _ _ _ _ l.invariant.2
-    c.next_cut-kept.result c.loop-j-test.true c.next_cut-kept.ensures.value in (
-      omega arith,
-      omega (arith, c.next_cut-kept.ensures.prev_le_place.1, c.requires.slots.even),
+    let w = turning a.self.frame a.self.merges.firsts.now a.self.merges.lasts.now a.slots.indexes.now a.slots.sizes.now l.prev l.b-index a.breaks.now _ _ _ _ l.invariant.1
+    c.next_cut-next.result (omega arith) c.next_cut-next.ensures.value in (
+      omega (arith, c.next_cut-next.ensures.prev_le_place.1, c.args.slots.are.even),
       writing_more _ _ l.at _ _ l.list c.write_stretch-at.result _ (writing_room _ _ l.at _ _ _ c.requires.room w) c.write_stretch-at.ensures w,
     )
 
 pub write_stretch-requires-clause-room_at : goal.write_stretch-requires-clause-room_at
 write_stretch-requires-clause-room_at c =
-    let l = c.loop-j in
+    let l = c.loop-b in
     let a = c.args in
-    let w = ending a.k a.mfirsts.now a.mlasts.now a.indexes.now a.sizes.now l.prev l.j a.breaks.now _ _ _ _ l.invariant.2 c.loop-j-test.false in
+    let w = ending a.self.frame a.self.merges.firsts.now a.self.merges.lasts.now a.slots.indexes.now a.slots.sizes.now l.prev l.b-index a.breaks.now _ _ _ _ l.invariant.1 (omega arith) in
     writing_room _ _ l.at _ _ _ c.requires.room w
 
 pub returns : goal.returns
 returns c =
-    let l = c.loop-j in
+    let l = c.loop-b in
     let a = c.args in
-    let w = ending a.k a.mfirsts.now a.mlasts.now a.indexes.now a.sizes.now l.prev l.j a.breaks.now _ _ _ _ l.invariant.2 c.loop-j-test.false in
+    let w = ending a.self.frame a.self.merges.firsts.now a.self.merges.lasts.now a.slots.indexes.now a.slots.sizes.now l.prev l.b-index a.breaks.now _ _ _ _ l.invariant.1 (omega arith) in
     let n = c.write_stretch.result in
     writing_done _ _ (l.at + n) _
     (writing_more _ _ l.at _ _ l.list n _ (writing_room _ _ l.at _ _ _ c.requires.room w) c.write_stretch.ensures w)

@@ -1,9 +1,9 @@
 -- Which breaks are skipped, and where the others are cut.
-use Rattle.std.proofs.Common.{sym, ap, ◌∙◌, arith}
-use Rattle.planner_rules.specs.declared.runs.Held.{Held}
+use Rattle.std.proofs.Common.{Option, sym, ap, ◌∙◌, arith}
+use Rattle.planner_rules.specs.declared.titles.Span.{Span}
 use Rattle.planner_rules.specs.Runs.{moved}
 use Rattle.planner_rules.proofs.AxisLaws.{placed_zero, placed_past, placed_title, placed_moved}
-use Rattle.planner.proofs.runs.placed_cut.Goals as goal
+use Rattle.planner.proofs.runs.Cutter.placed_cut.Goals as goal
 
 pub returns-then-p-eq0 : goal.returns-then-p-eq0
 returns-then-p-eq0 c = placed_zero _ _ _ _ _ _ (omega arith)
@@ -17,5 +17,5 @@ returns-then-title_holds c = placed_title _ _ _ _ _ _ (omega arith) (omega arith
 pub returns : goal.returns
 returns c =
     let a = c.args in
-    c.moved_cut.ensures ∙ ap (λ (h : Held). moved h a.prev a.p a.indexes.now) c.holding_merge-held.ensures
+    c.moved_cut.ensures ∙ ap (λ (h : Option Span). moved h a.prev a.p a.indexes.now) c.holder.ensures
     ∙ placed_moved _ _ _ _ _ _ (omega arith) (omega arith) (sym c.title_holds.ensures ∙ c.if-title_holds.false)

@@ -4,34 +4,34 @@ use Rattle.planner_rules.specs.declared.runs.Frame.{Frame}
 use Rattle.planner_rules.specs.declared.runs.RunEnd.{RunEnd}
 use Rattle.planner_rules.specs.Runs.{natural, filled, merged, run_end}
 use Rattle.planner_rules.proofs.EndLaws.{Within, merged_within}
-use Rattle.planner.proofs.runs.run_end.Goals as goal
+use Rattle.planner.proofs.runs.Cutter.run_end.Goals as goal
 
 within : (k : Frame) (fs ls : List ℕ) (n : ℕ) (is : List ℕ) (r : RunEnd) → r ≡ merged k.lo k.hi fs ls n is → 1 ≤ n → n ≤ length is → Within is r
 within k fs ls n is r e h q = subst (Within is) (sym e) (merged_within k.lo k.hi fs ls n is h q)
 
-pub taken_slots-n-requires-clause-n_value : goal.taken_slots-n-requires-clause-n_value
+pub taken_slots-n-requires : goal.taken_slots-n-requires
 unfolding filled
-taken_slots-n-requires-clause-n_value c =
+taken_slots-n-requires c =
     let f = c.natural_fill-filling.ensures in
-    (f.slots_value ∙ ap (λ (cap : ℕ). natural cap c.args.sizes.now) c.capacity_for-capacity.ensures, f.le_slots.1)
+    (f.slots_value ∙ ap (λ (cap : ℕ). natural cap c.args.slots.sizes.now) c.capacity_for-capacity.ensures, f.le_slots.1)
 
-pub size_of-requires-clause-n_in_bounds : goal.size_of-requires-clause-n_in_bounds
-size_of-requires-clause-n_in_bounds c =
+pub size_of-requires : goal.size_of-requires
+size_of-requires c =
     let a = c.args in
-    let w = within a.k a.firsts.now a.lasts.now _ a.indexes.now _ c.merged_end-end.ensures (omega arith) (omega arith) in
-    (omega (arith, w.1, c.requires.slots.even), c.natural_fill-filling.ensures.sum_value)
+    let w = within a.self.frame a.self.merges.firsts.now a.self.merges.lasts.now _ a.slots.indexes.now _ c.merged_end-end.ensures (omega arith) (omega arith) in
+    (omega (arith, w.1, c.args.slots.are.even), c.natural_fill-filling.ensures.sum_value)
 
 pub returns-clause-grown_value : goal.returns-clause-grown_value
 unfolding run_end
 returns-clause-grown_value c =
     let a = c.args in (
       c.merged_end-end.ensures
-          ∙ ap (λ (n : ℕ). merged a.k.lo a.k.hi a.firsts.now a.lasts.now n a.indexes.now) c.taken_slots-n.ensures.value,
+          ∙ ap (λ (n : ℕ). merged a.self.frame.lo a.self.frame.hi a.self.merges.firsts.now a.self.merges.lasts.now n a.slots.indexes.now) c.taken_slots-n.ensures.value,
       c.size_of.ensures,
     )
 
 pub returns-clause-le_slots : goal.returns-clause-le_slots
 returns-clause-le_slots c =
     let a = c.args in
-    let w = within a.k a.firsts.now a.lasts.now _ a.indexes.now _ c.merged_end-end.ensures (omega arith) (omega arith) in
-    (w.0, omega (arith, w.1, c.requires.slots.even), w.2)
+    let w = within a.self.frame a.self.merges.firsts.now a.self.merges.lasts.now _ a.slots.indexes.now _ c.merged_end-end.ensures (omega arith) (omega arith) in
+    (w.0, omega (arith, w.1, c.args.slots.are.even), w.2)

@@ -1,0 +1,53 @@
+-- A turn counts the run at the head, and whether it exceeds its page.
+use Rattle.std.proofs.Common.{◌≡◌, Bool, false, cond, ℕ, List, ◌∷◌, length, get_or, take, sym, ap, ◌∙◌, arith}
+use Rattle.planner_rules.specs.declared.runs.RunEnd.{RunEnd}
+use Rattle.planner_rules.specs.Slots.{sum}
+use Rattle.planner_rules.specs.Runs.{Run, run, runs, expansions}
+use Rattle.planner_rules.specs.Scale.{fits_side, printed, space_of}
+use Rattle.planner_rules.specs.Pages.{overflowing}
+use Rattle.planner_rules.proofs.Laws.{part, length_part, small-take, turn, none}
+use Rattle.planner_rules.proofs.TitleLaws.{small-sum}
+use Rattle.planner.proofs.runs.Cutter.count_runs.Goals as goal
+
+pub run_fits-requires : goal.run_fits-requires
+run_fits-requires c =
+    let l = c.loop-rest in
+    let e = c.run_end-end in
+    let n = e.result.slots in
+    omega (arith, e.ensures.grown_value.1, small-sum (take n l.rest.sizes.now) (small-take n l.rest.sizes.now e.ensures.le_slots.1 l.rest.are.small))
+
+pub loop-rest-preserved : goal.loop-rest-preserved
+unfolding runs run expansions overflowing
+loop-rest-preserved c =
+    let l = c.loop-rest in
+    let a = c.args in
+    let e = c.run_end-end in
+    let n = e.result.slots in
+    let is = l.rest.indexes.now in
+    let ss = l.rest.sizes.now in
+    let page = space_of a.page.side in
+    let exceeding = λ (rs : List Run). overflowing page a.self.frame.title a.page.permille false rs in
+    let rest = c.after-rest.ensures in
+    let left : runs a.self.frame a.self.merges.firsts.now a.self.merges.lasts.now c.after-rest.result.indexes.now c.after-rest.result.sizes.now ≡ runs a.self.frame a.self.merges.firsts.now a.self.merges.lasts.now (part n is) (part n ss) =
+    λ i. runs a.self.frame a.self.merges.firsts.now a.self.merges.lasts.now (rest.indexes_are i) (rest.sizes_are i) in
+    let t = turn (run a.self.frame a.self.merges.firsts.now a.self.merges.lasts.now) n is ss l.rest.are c.loop-rest-test.true (ap (λ (r : RunEnd). r.slots) e.ensures.grown_value.0)
+    e.ensures.le_slots.0 ∙ ap (λ (rs : List Run). run a.self.frame a.self.merges.firsts.now a.self.merges.lasts.now is ss ∷ rs) (sym left) in
+    let size_is = e.ensures.grown_value.1 ∙ ap (λ (r : RunEnd). sum (take r.slots ss)) e.ensures.grown_value.0 in
+    let fitting = λ (m : ℕ). fits_side page a.page.permille (printed page a.self.frame.title false (get_or is 0 0) m) in
+    let exceeds = c.excess-overflows.ensures.value ∙ ap (λ (b : Bool). cond {A = ℕ} b 0 1) (c.run_fits.ensures ∙ ap fitting size_is) in (
+      omega (arith, ap length t, l.invariant.0),
+      omega (arith, ap expansions t, ap (λ (r : RunEnd). r.grown) e.ensures.grown_value.0, l.invariant.1),
+      omega (arith, ap exceeding t, exceeds, l.invariant.2),
+      omega (arith, ap length rest.sizes_are, length_part n ss, e.ensures.le_slots.0, e.ensures.le_slots.1, l.invariant.3),
+      omega (arith, e.ensures.le_slots.2, l.invariant.4),
+      omega (arith, c.excess-overflows.ensures.upper_bound, l.invariant.5),
+    )
+
+pub returns-clause-counts : goal.returns-clause-counts
+unfolding runs expansions overflowing
+returns-clause-counts c =
+    let l = c.loop-rest in
+    let a = c.args in
+    let exceeding = λ (rs : List Run). overflowing (space_of a.page.side) a.self.frame.title a.page.permille false rs in
+    let z = none (run a.self.frame a.self.merges.firsts.now a.self.merges.lasts.now) l.rest.indexes.now l.rest.sizes.now c.loop-rest-test.false in
+    (omega (arith, ap length z), omega (arith, ap expansions z), omega (arith, ap exceeding z))

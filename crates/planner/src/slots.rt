@@ -1,0 +1,38 @@
+// Measured slots that the questions were asked of, or a part of them.
+ghost use Rattle.std.specs.Prelude.{◌≡◌, ◌≤◌, length};
+ghost use Rattle.planner_rules.specs.Slots.{Slots, mid};
+
+// Their indexes rise, their sizes are small, and they are equally many.
+#[derive(Clone, Copy)]
+pub(crate) struct Measured<'a> {
+    pub indexes: &'a [u32],
+    pub sizes: &'a [u64],
+    ghost are: { Slots indexes.now sizes.now },
+}
+
+impl<'a> Measured<'a> {
+    // The slots from one place to another.
+    pub(crate) fn part(self, from: usize, to: usize) -> Measured<'a>
+        requires ordered { from ≤ to }
+        requires inside { to ≤ length self.sizes.now }
+        ensures indexes_are { result.indexes.now ≡ mid from to self.entry.indexes.now }
+        ensures sizes_are { result.sizes.now ≡ mid from to self.entry.sizes.now }
+    {
+        Measured {
+            indexes: &self.indexes[from..to],
+            sizes: &self.sizes[from..to],
+        }
+    }
+
+    // The slots from a place on.
+    pub(crate) fn after(self, n: usize) -> Measured<'a>
+        requires { n ≤ length self.sizes.now }
+        ensures indexes_are { let is = self.entry.indexes.now in result.indexes.now ≡ mid n (length is) is }
+        ensures sizes_are { let ss = self.entry.sizes.now in result.sizes.now ≡ mid n (length ss) ss }
+    {
+        Measured {
+            indexes: &self.indexes[n..],
+            sizes: &self.sizes[n..],
+        }
+    }
+}
