@@ -13,8 +13,8 @@ use crate::scale::{fit_scale, frame_at};
 use crate::settled::SettledSheet;
 use crate::slots::Measured;
 use planner_rules::{
-    AreaNotes, AreaPlan, Axis, AxisLists, AxisRange, ChosenScale, CountedArea, FinalCut, Fit, Frames,
-    PageSide, PrintRange, Ready, ReadyArea, ReadyTitle, Shared, SheetLists, Stretch,
+    AreaNotes, AreaPlan, Axis, AxisLists, AxisRange, ChosenScale, CountedArea, FinalCut, Fit,
+    Frames, PageSide, PrintRange, Ready, ReadyArea, ReadyTitle, Shared, SheetLists, Stretch,
 };
 use planner_setup::{axis_range, fixed_scale, looked_at};
 use planner_titles::body_start;

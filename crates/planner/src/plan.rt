@@ -16,8 +16,8 @@ use crate::title::ready_title;
 use planner_areas::area_at;
 use planner_questions::{plan_refusal, room_in, room_refusal};
 use planner_rules::{
-    Areas, Axis, AxisLists, ChosenScale, CountedAreas, MergeList, Notes, Plan, Planning, Prepared, PrintRange, Request,
-    RunCounts, Shared, SheetLists, Writing,
+    Areas, Axis, AxisLists, ChosenScale, CountedAreas, MergeList, Notes, Plan, Planning, Prepared,
+    PrintRange, Request, RunCounts, Shared, SheetLists, Writing,
 };
 use planner_setup::content_sides;
 

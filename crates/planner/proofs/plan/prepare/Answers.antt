@@ -56,14 +56,14 @@ returns c =
     let sides : content_sides a.request.now.settings ≡ given (sides_of c.in-Ok.sides) = sym c.content_sides.ensures ∙ ap sides_outcome c.in-Ok.is in
     let rows =
     subst (λ (n : ℕ). TitleReady c.ready_title-row_title.result n a.lists.now.rows.slots.indexes.now a.lists.now.rows.slots.sizes.now a.lists.now.rows.merges.firsts.now a.lists.now.rows.merges.lasts.now)
-    c.limit.ensures (rw c.in_memory-row_merges.ensures.same at c.ready_title-row_title.ensures.title_ready) in
+    c.limit.ensures (rw c.in_memory.ensures.same at c.ready_title-row_title.ensures.title_ready) in
     let columns =
     subst
     (λ (n : ℕ).
     TitleReady c.ready_title-column_title.result n a.lists.now.columns.slots.indexes.now a.lists.now.columns.slots.sizes.now a.lists.now.columns.merges.firsts.now a.lists.now.columns.merges.lasts.now)
-    c.limit-2.ensures (rw c.in_memory-column_merges.ensures.same at c.ready_title-column_title.ensures.title_ready) in
+    c.limit-2.ensures (rw c.in_memory-2.ensures.same at c.ready_title-column_title.ensures.title_ready) in
     let few : length a.lists.now.rows.merges.firsts.now + length a.lists.now.columns.merges.firsts.now < 2 ^ 64 =
-    omega (arith, c.in_memory-row_merges.ensures.few, c.in_memory-column_merges.ensures.few) in
+    omega (arith, c.in_memory.ensures.few, c.in_memory-2.ensures.few) in
     shared_by sheet a.request.now.areas
     (all_yes sheet a.request.now.areas _ c.plan_refusal-refusal.ensures c.if-refusal-gt0.false) _
     rows columns few sides refl c.ready_title-row_title.ensures.asked_value c.ready_title-column_title.ensures.asked_value
