@@ -1,4 +1,5 @@
 -- The code's tables of paper sizes are the definition's list of sheets, in units: one test, computed over the whole table. Assumes nothing.
+use Rattle.std.specs.Prelude.{Option, None, Some}
 use Rattle.std.proofs.Common.{◌≡◌, ℕ, ◌<◌, Bool, true, false, cond, ◌&&◌, T, eqb, List, [], ◌∷◌, get_or, ℤ, pos, negsuc, refl, ap, subst, sym, ◌∙◌, drop}
 use Rattle.std.proofs.Common.{eqb→eq, eqb-true, eq-eqb, ne_eqb, length, drop-cons, add-one, ◌+◌}
 use lib.Ieee.{mul, div, round, of_int}
@@ -52,10 +53,18 @@ found_is (refused k) n w h u t = absurd t
 
 -- ---- the table, row by row
 
--- the paper of a code in such rows
+-- the sides that such rows have of a code
+abbrev pub row_of : ℕ → List (ℕ × ℕ × ℕ) → Option (ℕ × ℕ)
+row_of n [] = None
+row_of n (r ∷ rest) = cond (eqb n r.0) (Some (r.1, r.2)) (row_of n rest)
+
+-- the paper of a code with these sides; Letter, with a note, where there are none
+abbrev pub paper_of : ℕ → Option (ℕ × ℕ) → Outcome PaperFound
+paper_of n None = given (found 1 835584 1081344 1)
+paper_of n (Some s) = given (found n s.0 s.1 0)
+
 abbrev pub looked : ℕ → List (ℕ × ℕ × ℕ) → Outcome PaperFound
-looked n [] = given (found 1 835584 1081344 1)
-looked n (r ∷ rest) = cond (eqb n r.0) (given (found n r.1 r.2 0)) (looked n rest)
+looked n rows = paper_of n (row_of n rows)
 
 agree : List (ℕ × ℕ × ℕ) → List Sheet → Bool
 agree [] [] = true
@@ -63,13 +72,13 @@ agree [] (s ∷ ss) = false
 agree (r ∷ rs) [] = false
 agree ((c, w, h) ∷ rs) (s ∷ ss) = eqb c s.code && is_found (upright (s, 0)) c w h 0 && agree rs ss
 
-unlisted : given (found 1 835584 1081344 1) ≡ upright (letter, 1)
+letter_is : given (found 1 835584 1081344 1) ≡ upright (letter, 1)
 unfolding letter inches_to_fixed mul div round of_int
-unlisted = refl
+letter_is = refl
 
 looked_is : (n : ℕ) (rs : List (ℕ × ℕ × ℕ)) (ss : List Sheet) → T (agree rs ss) → looked n rs ≡ upright (resolved n ss)
 unfolding agree resolved
-looked_is n [] [] t = unlisted
+looked_is n [] [] t = letter_is
 looked_is n [] (s ∷ ss) t = absurd t
 looked_is n (r ∷ rs) [] t = absurd t
 looked_is n ((c, w, h) ∷ rs) (s ∷ ss) t =
@@ -81,7 +90,7 @@ looked_is n ((c, w, h) ∷ rs) (s ∷ ss) t =
     (by (eqb n c) refl f (looked_is n rs ss (and_r (p && q) (agree rs ss) t)))
   where
     by : (b : Bool) → eqb n c ≡ b → upright (s, 0) ≡ given (found c w h 0) → looked n rs ≡ upright (resolved n ss)
-        → cond b (given (found n w h 0)) (looked n rs) ≡ upright (cond b (s, 0) (resolved n ss))
+        → paper_of n (cond b (Some (w, h)) (row_of n rs)) ≡ upright (cond b (s, 0) (resolved n ss))
     by true e f i = ap (λ (k : ℕ). given (found k w h 0)) (eqb-true n c e) ∙ sym f
     by false e f i = i
 
@@ -89,6 +98,14 @@ looked_is n ((c, w, h) ∷ rs) (s ∷ ss) t =
 pub table_is : (n : ℕ) → looked n table ≡ upright (resolved n sheets)
 unfolding agree is_found is_pos sheets letter inches_to_fixed mul div round of_int
 table_is n = looked_is n table sheets tt
+
+-- a code of the table has its sides
+pub listed : (n w h : ℕ) → row_of n table ≡ Some (w, h) → upright (resolved n sheets) ≡ given (found n w h 0)
+listed n w h e = sym (table_is n) ∙ ap (paper_of n) e
+
+-- any other resolves to Letter, with a note
+pub unlisted : (n : ℕ) → row_of n table ≡ None → upright (resolved n sheets) ≡ given (found 1 835584 1081344 1)
+unlisted n e = sym (table_is n) ∙ ap (paper_of n) e
 
 -- ---- the table, as the loop goes over it
 module _ (l : List (ℕ × ℕ × ℕ)) (r : ℕ × ℕ × ℕ) (n i : ℕ) where
