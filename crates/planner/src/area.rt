@@ -11,8 +11,9 @@ use crate::scale::{fit_scale, frame_at};
 use crate::slots::Measured;
 use planner_compare::{longer, wide};
 use planner_rules::{
-    AreaNotes, AreaPlan, AxisLists, AxisRange, ChosenScale, CountedArea, FinalCut, Fit, Frames, MergeList, PageSide,
-    PrintRange, Ready, ReadyArea, ReadyTitle, Settings, Shared, SlotList, Stretch,
+    AreaNotes, AreaPlan, AxisLists, AxisRange, ChosenScale, CountedArea, FinalCut, Fit, Frames,
+    MergeList, PageSide, PrintRange, Ready, ReadyArea, ReadyTitle, Settings, Shared, SlotList,
+    Stretch,
 };
 use planner_setup::{column_range, fixed_scale, looked_at, row_range};
 use planner_titles::body_start;

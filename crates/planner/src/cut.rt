@@ -54,10 +54,7 @@ pub(crate) fn count_cut(ready: Ready, frame: Frame, permille: u16, axis: AxisLis
     };
     let counted = cutter.count_axis(page, slots, axis.breaks);
     let tally = counted.tally;
-    final_cut(
-        tally,
-        cut_overflows(page, tally.runs, counted.overflows),
-    )
+    final_cut(tally, cut_overflows(page, tally.runs, counted.overflows))
 }
 
 // Writes the final cut of an axis, whose body is empty or not: the runs that its pages are made of.

@@ -14,7 +14,12 @@ use planner_titles::body_start;
 use units::{Fixed, Refusal};
 
 // Cuts slots into runs, counted before any is written.
-fn partition_slots(cutter: Cutter, slots: Measured, breaks: &[u32], list: &mut [u64]) -> Result<Tally, Refusal>
+fn partition_slots(
+    cutter: Cutter,
+    slots: Measured,
+    breaks: &[u32],
+    list: &mut [u64],
+) -> Result<Tally, Refusal>
     ensures { let k = cutter.entry.frame in
         let firsts = cutter.entry.merges.firsts.now in
         let lasts = cutter.entry.merges.lasts.now in
@@ -81,7 +86,12 @@ fn partition_body(
 
 // Cuts the measured slots of a range into runs and writes them to the front of a lent list, four numbers a run: first, last, size, and 1
 // where a manual break stands before the run.
-pub fn partition_axis_with_breaks(axis: Axis, setup: AxisSetup, lists: AxisLists, list: &mut [u64]) -> Result<Tally, Refusal>
+pub fn partition_axis_with_breaks(
+    axis: Axis,
+    setup: AxisSetup,
+    lists: AxisLists,
+    list: &mut [u64],
+) -> Result<Tally, Refusal>
     ensures { let firsts = lists.entry.merges.firsts.now in
         let lasts = lists.entry.merges.lasts.now in
         let is = lists.entry.slots.indexes.now in

@@ -241,7 +241,14 @@ impl Cutter<'_> {
         while rest.sizes.len() > 0 {
             let end = self.run_end(rest);
             let n = end.slots;
-            at = put_run(list, at, rest.indexes[0], rest.indexes[n - 1], end.size, manual);
+            at = put_run(
+                list,
+                at,
+                rest.indexes[0],
+                rest.indexes[n - 1],
+                end.size,
+                manual,
+            );
             manual = 0;
             rest = rest.after(n);
         }
@@ -346,7 +353,14 @@ impl Cutter<'_> {
 
     // Writes the runs of the slots from the cut a to the cut e to a lent list, from `at` on, and returns how many numbers they have.
     #[inline(always)]
-    fn write_stretch(self, slots: Measured, a: usize, e: usize, at: usize, list: &mut [u64]) -> usize
+    fn write_stretch(
+        self,
+        slots: Measured,
+        a: usize,
+        e: usize,
+        at: usize,
+        list: &mut [u64],
+    ) -> usize
         requires a_le_e { (a ≤ e) × (e ≤ length slots.sizes.now) }
         requires room_at { let merges = self.merges in
             RoomAt (stretch self.frame merges.firsts.now merges.lasts.now slots.indexes.now slots.sizes.now a e) at list.old }

@@ -133,7 +133,12 @@ fn no_or(question: u8, yes: bool, after: u8) -> u8
 }
 
 // The questions 6 to 9 of one axis: the first whose answer is no refuses.
-pub fn partition_refusal(limit: u32, setup: AxisSetup, slots: SlotList, merges: MergeList) -> Result<(), Refusal>
+pub fn partition_refusal(
+    limit: u32,
+    setup: AxisSetup,
+    slots: SlotList,
+    merges: MergeList,
+) -> Result<(), Refusal>
     ensures { partition.no_of result ≡ partition.first_no limit setup slots.entry.indexes.now slots.entry.sizes.now
         merges.entry.firsts.now merges.entry.lasts.now }
 {

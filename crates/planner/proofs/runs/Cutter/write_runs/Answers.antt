@@ -41,9 +41,9 @@ loop-rest-preserved c =
     ∙ (λ i. here ∷ first_marked 0 (runs a.self.frame a.self.merges.firsts.now a.self.merges.lasts.now (sym rest.indexes_are i) (sym rest.sizes_are i))) in
     let some = some_marked a.self.frame a.self.merges.firsts.now a.self.merges.lasts.now l.manual is ss c.loop-rest-test.true l.rest.are.even in
     rw c.put_run-at.ensures.value
-          (writing_one whole a.list.now l.at here left l.list _ _ _ _ _ refl last_is size_is refl
-          (room _ _ _ _ _ c.requires.room l.invariant some) c.put_run-at.ensures.list_after
-          (subst (λ (rs : List Run). Writing whole a.list.now l.at rs l.list) more l.invariant))
+    (writing_one whole a.list.now l.at here left l.list _ _ _ _ _ refl last_is size_is refl
+    (room _ _ _ _ _ c.requires.room l.invariant some) c.put_run-at.ensures.list_after
+    (subst (λ (rs : List Run). Writing whole a.list.now l.at rs l.list) more l.invariant))
 
 pub returns : goal.returns
 returns c =
