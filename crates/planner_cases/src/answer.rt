@@ -1,7 +1,8 @@
 // An answer as text, in an array that takes one line. What does not fit is left out.
 use crate::text::word;
 use crate::widths::{wide, wider};
-use planner_rules::{Partition, Title, Widening};
+use planner_rules::{Tally, Title, Widened};
+use units::Refusal;
 
 // The bytes that a line has room for.
 pub const LINE: usize = 8192;
@@ -37,15 +38,15 @@ pub(crate) fn refusal(out: &mut [u8; LINE], at: usize, n: u8) -> usize {
 }
 
 // A title, and the notes of titles ignored and expanded.
-pub(crate) fn widening(out: &mut [u8; LINE], answer: Widening) -> usize {
+pub(crate) fn widening(out: &mut [u8; LINE], answer: Result<Widened, Refusal>) -> usize {
     match answer {
-        Widening::Value(widened) => {
+        Ok(widened) => {
             let title = widened.title;
             let at = pair(out, title);
             let next = number(out, at, widened.ignored);
             number(out, next, widened.expanded)
         }
-        Widening::Refused(n) => refusal(out, 0, n),
+        Err(no) => refusal(out, 0, no.number()),
     }
 }
 
@@ -61,15 +62,15 @@ fn pair(out: &mut [u8; LINE], title: Title) -> usize {
 }
 
 // The counts of runs, expansions and shifts.
-fn partition(out: &mut [u8; LINE], answer: Partition) -> usize {
+fn partition(out: &mut [u8; LINE], answer: Result<Tally, Refusal>) -> usize {
     match answer {
-        Partition::Value(tally) => {
+        Ok(tally) => {
             let at = text(out, 0, b"runs");
             let next = number(out, at, tally.runs as u64);
             let later = number(out, next, tally.expansions);
             number(out, later, tally.shifts)
         }
-        Partition::Refused(n) => refusal(out, 0, n),
+        Err(no) => refusal(out, 0, no.number()),
     }
 }
 
@@ -83,7 +84,7 @@ pub(crate) fn list(out: &mut [u8; LINE], at: usize, numbers: &[u64]) -> usize {
 }
 
 // The answer to a cut: the counts, and the list of runs.
-pub(crate) fn axis(out: &mut [u8; LINE], answer: Partition, runs: &[u64]) -> usize {
+pub(crate) fn axis(out: &mut [u8; LINE], answer: Result<Tally, Refusal>, runs: &[u64]) -> usize {
     let at = partition(out, answer);
     list(out, at, runs)
 }

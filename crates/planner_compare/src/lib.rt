@@ -1,4 +1,4 @@
-// The lesser and the greater of two numbers, an index among wider numbers, and a wider number as an index.
+// The shorter and the longer of two lengths, an index among wider numbers, and a wider number as an index.
 #![tactic(auto)]
 
 ghost use Rattle.std.specs.Prelude.{◌≡◌, min, max};
@@ -11,19 +11,6 @@ pub fn shorter(a: usize, b: usize) -> usize
 }
 
 pub fn longer(a: usize, b: usize) -> usize
-    ensures { result ≡ max a b }
-{
-    if a < b { b } else { a }
-}
-
-// The lesser and the greater of two indexes.
-pub fn lesser(a: u32, b: u32) -> u32
-    ensures { result ≡ min a b }
-{
-    if a < b { a } else { b }
-}
-
-pub fn greater(a: u32, b: u32) -> u32
     ensures { result ≡ max a b }
 {
     if a < b { b } else { a }

@@ -38,7 +38,7 @@ none_left (f ∷ fs) s = refl
 -- where no merge is left, in a list of them or in a list of parts of them
 pub pass_over : (fs ls : List ℕ) (s : Span) → (fs ≡ []) ⊎ (ls ≡ []) → pass fs ls s ≡ s
 unfolding pass
-pass_over fs ls s h = elim h [ | inl e ↦ rw e | inr e ↦ rw (e, none_left fs s) ]
+pass_over fs ls s h = elim h [ inl e ↦ rw e | inr e ↦ rw (e, none_left fs s) ]
 
 pub pass_ended : (fs ls : List ℕ) (s : Span) → (length fs ≡ 0) ⊎ (length ls ≡ 0) → pass fs ls s ≡ s
 unfolding pass

@@ -14,7 +14,7 @@ passed : (s : Zip (Chunks ℕ) (Chunks ℕ)) (fs ls : List ℕ) (before after : 
     → (((u : Chunks ℕ) × chunks_steps (zip_first s) None u) ⊎ ((u : Chunks ℕ) × chunks_steps (zip_second s) None u))
     → pass (chunks_rest (zip_first s)) (chunks_rest (zip_second s)) after ≡ pass fs ls before → after ≡ pass fs ls before
 passed s fs ls before after h e =
-    sym (pass_ended (chunks_rest (zip_first s)) (chunks_rest (zip_second s)) after (elim h [ | inl u ↦ inl u.1.1.0 | inr u ↦ inr u.1.1.0 ])) ∙ e
+    sym (pass_ended (chunks_rest (zip_first s)) (chunks_rest (zip_second s)) after (elim h [ inl u ↦ inl u.1.1.0 | inr u ↦ inr u.1.1.0 ])) ∙ e
 
 pub loop-firsts-init : goal.loop-firsts-init
 unfolding expand

@@ -51,7 +51,7 @@ returns c =
     let a = c.args in
     let i = c.loop-firsts.invariant in
     let it = c.loop-firsts.firsts-iterator in
-    let z : length (rchunks_rest (zip_first it)) ≡ 0 = elim c.in-None.ensures.steps [ | inl u ↦ u.1.1.0 | inr u ↦ i.2 ∙ u.1.1.0 ] in
+    let z : length (rchunks_rest (zip_first it)) ≡ 0 = elim c.in-None.ensures.steps [ inl u ↦ u.1.1.0 | inr u ↦ i.2 ∙ u.1.1.0 ] in
     let f = none_before (rchunks_rest (zip_first it)) i.3.0 _ z i.3.2 in
     let l = none_before (rchunks_rest (zip_second it)) i.3.1 _ (sym i.2 ∙ z) i.3.3 in
     i.3.4 ∙ (λ j. holding a.clip.first a.clip.last a.b (f j) (l j))
