@@ -3,13 +3,14 @@ ghost use Rattle.std.specs.Prelude.{◌≡◌, ◌≤◌, length};
 ghost use Rattle.units.specs.Outcome.{given};
 ghost use Rattle.planner_rules.specs.Plan as call;
 ghost use Rattle.planner_rules.specs.Demand.{CoversPairs, FewestPlan, LargestPlan};
-ghost use Rattle.job_reader.specs.Reading.{lists};
+ghost use Rattle.job_reader.specs.Reading.{lists, lists_in};
 ghost use Rattle.job.specs.PlanJob as section;
 
-use job_reader::{Reading, read_job};
+use job_reader::{Job, JobLists, read_job};
 use job_settings::{JobSettings, areas_for, settings_for};
 use planner::{count_pages, plan_pages, write_area};
 use planner_rules::{Planning, Writing};
+use units::Refusal;
 
 // What is asked of a job: its plan, how many pages it has, or the runs of the area with a number, from 1, at a permille.
 #[derive(Clone, Copy)]
@@ -142,32 +143,18 @@ fn answer_lists(
 // Answers what is wanted of what was read to ten lists.
 fn answer_read(
     wanted: Wanted,
-    reading: Reading,
-    row_indexes: &[u32],
-    row_sizes: &[u64],
-    column_indexes: &[u32],
-    column_sizes: &[u64],
-    merge_first_rows: &[u32],
-    merge_first_columns: &[u32],
-    merge_last_rows: &[u32],
-    merge_last_columns: &[u32],
-    row_breaks: &[u32],
-    column_breaks: &[u32],
+    reading: Result<Job, Refusal>,
+    lent: &JobLists<'_>,
     row_runs: &mut [u64],
     column_runs: &mut [u64],
 ) -> Answer
-    requires { section.Filled reading
-        (lists row_indexes.now row_sizes.now column_indexes.now column_sizes.now merge_first_rows.now merge_first_columns.now
-        merge_last_rows.now merge_last_columns.now row_breaks.now column_breaks.now) }
-    ensures { section.ReadTold wanted reading
-        (lists row_indexes.now row_sizes.now column_indexes.now column_sizes.now
-        merge_first_rows.now merge_first_columns.now merge_last_rows.now merge_last_columns.now
-        row_breaks.now column_breaks.now)
+    requires { section.Filled reading (lists_in lent.now) }
+    ensures { section.ReadTold wanted reading (lists_in lent.now)
         result row_runs.old column_runs.old row_runs.new column_runs.new }
 {
     match reading {
-        Reading::Refused(number) => refused_to(wanted, number),
-        Reading::Value(job) => {
+        Err(refusal) => refused_to(wanted, refusal.number()),
+        Ok(job) => {
             let settings = job.settings;
             let items = job.items;
             let rows = items.rows;
@@ -178,16 +165,16 @@ fn answer_read(
             answer_lists(
                 wanted,
                 settings,
-                &row_indexes[..rows],
-                &row_sizes[..rows],
-                &column_indexes[..columns],
-                &column_sizes[..columns],
-                &merge_first_rows[..merges],
-                &merge_first_columns[..merges],
-                &merge_last_rows[..merges],
-                &merge_last_columns[..merges],
-                &row_breaks[..row_break_count],
-                &column_breaks[..column_break_count],
+                &lent.row_indexes[..rows],
+                &lent.row_sizes[..rows],
+                &lent.column_indexes[..columns],
+                &lent.column_sizes[..columns],
+                &lent.merge_first_rows[..merges],
+                &lent.merge_first_columns[..merges],
+                &lent.merge_last_rows[..merges],
+                &lent.merge_last_columns[..merges],
+                &lent.row_breaks[..row_break_count],
+                &lent.column_breaks[..column_break_count],
                 row_runs,
                 column_runs,
             )
@@ -199,54 +186,16 @@ fn answer_read(
 fn answer_in(
     wanted: Wanted,
     bytes: &[u8],
-    row_indexes: &mut [u32],
-    row_sizes: &mut [u64],
-    column_indexes: &mut [u32],
-    column_sizes: &mut [u64],
-    merge_first_rows: &mut [u32],
-    merge_first_columns: &mut [u32],
-    merge_last_rows: &mut [u32],
-    merge_last_columns: &mut [u32],
-    row_breaks: &mut [u32],
-    column_breaks: &mut [u32],
+    lent: &mut JobLists<'_>,
     row_runs: &mut [u64],
     column_runs: &mut [u64],
 ) -> Answer
-    requires { section.Holds bytes.now
-        (lists row_indexes.old row_sizes.old column_indexes.old column_sizes.old merge_first_rows.old merge_first_columns.old
-        merge_last_rows.old merge_last_columns.old row_breaks.old column_breaks.old) }
+    requires { section.Holds bytes.now (lists_in lent.old) }
     ensures { section.JobTold wanted bytes.now result row_runs.old column_runs.old row_runs.new
         column_runs.new }
 {
-    let reading = read_job(
-        bytes,
-        row_indexes,
-        row_sizes,
-        column_indexes,
-        column_sizes,
-        merge_first_rows,
-        merge_first_columns,
-        merge_last_rows,
-        merge_last_columns,
-        row_breaks,
-        column_breaks,
-    );
-    answer_read(
-        wanted,
-        reading,
-        row_indexes,
-        row_sizes,
-        column_indexes,
-        column_sizes,
-        merge_first_rows,
-        merge_first_columns,
-        merge_last_rows,
-        merge_last_columns,
-        row_breaks,
-        column_breaks,
-        row_runs,
-        column_runs,
-    )
+    let reading = read_job(bytes, lent);
+    answer_read(wanted, reading, lent, row_runs, column_runs)
 }
 
 // Answers what is wanted of a job, by arrays that hold so many rows and merges, columns and breaks.
@@ -271,22 +220,19 @@ fn answer_sized<
     let mut merge_last_columns = [0u32; ROWS];
     let mut row_breaks = [0u32; ROW_BREAKS];
     let mut column_breaks = [0u32; COLUMN_BREAKS];
-    answer_in(
-        wanted,
-        bytes,
-        &mut row_indexes,
-        &mut row_sizes,
-        &mut column_indexes,
-        &mut column_sizes,
-        &mut merge_first_rows,
-        &mut merge_first_columns,
-        &mut merge_last_rows,
-        &mut merge_last_columns,
-        &mut row_breaks,
-        &mut column_breaks,
-        row_runs,
-        column_runs,
-    )
+    let mut lent = JobLists {
+        row_indexes: &mut row_indexes,
+        row_sizes: &mut row_sizes,
+        column_indexes: &mut column_indexes,
+        column_sizes: &mut column_sizes,
+        merge_first_rows: &mut merge_first_rows,
+        merge_first_columns: &mut merge_first_columns,
+        merge_last_rows: &mut merge_last_rows,
+        merge_last_columns: &mut merge_last_columns,
+        row_breaks: &mut row_breaks,
+        column_breaks: &mut column_breaks,
+    };
+    answer_in(wanted, bytes, &mut lent, row_runs, column_runs)
 }
 
 // An array is cleared before it is lent, so a job gets none that is much longer than its bytes can fill.
