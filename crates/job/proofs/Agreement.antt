@@ -8,7 +8,7 @@ use Rattle.planner_rules.specs.declared.planning.Areas.{Areas}
 use Rattle.planner_rules.specs.Plan.{Sheet, planned, counted, area_written}
 use Rattle.planner_rules.proofs.QuestionLaws.{both}
 use Rattle.job_reader.specs.declared.lists.Job.{Job}
-use Rattle.job_reader.specs.declared.lists.Reading.TheVariants.{Value}
+use Rattle.std.specs.Prelude.{Ok}
 use Rattle.job_records.specs.Records.{records}
 use Rattle.job_questions.specs.Verdict.{questions, question6, in_order, items_of, verdict_lent}
 use Rattle.job_reader.specs.Reading.{Lists, even_lists as items_even, room_in, asked, job_of, read_job, JobRead}
@@ -19,7 +19,7 @@ use Rattle.job.specs.PlanJob.{sheet_read, fronts, job_sheet, job_areas, plan_job
 use Rattle.job.proofs.ReadLaws.{read_to, sheet_is, areas_are}
 
 -- what `read_job` read, planned, is what `plan_job` plans; the same of the other two calls
-module _ (s : List ℕ) (before after : Lists) (j : Job) (w : JobRead s (Value j) before after) where
+module _ (s : List ℕ) (before after : Lists) (j : Job) (w : JobRead s (Ok j) before after) where
   given_is : given j ≡ in_order (asked (items_even before) (room_in before) s) (job_of (records s))
   unfolding read_job
   given_is = w.answer
@@ -55,7 +55,7 @@ module _ (s : List ℕ) (before after : Lists) (j : Job) (w : JobRead s (Value j
   areas = areas_for j.settings.areas
 
   same_sheet : sheet ≡ job_sheet s
-  same_sheet = sheet_is s j after job_is (read_to s before after (Value j) w j refl job_is)
+  same_sheet = sheet_is s j after job_is (read_to s before after (Ok j) w j refl job_is)
 
   same_areas : areas ≡ job_areas s
   same_areas = areas_are s j job_is

@@ -13,8 +13,9 @@ use Rattle.planner_rules.proofs.PlanLaws.{refuses_plan}
 use Rattle.job_questions.specs.declared.Items.{Items}
 use Rattle.job_settings.specs.declared.JobSettings.{JobSettings}
 use Rattle.job_reader.specs.declared.lists.Job.{Job}
-use Rattle.job_reader.specs.declared.lists.Reading.{Reading}
-use Rattle.job_reader.specs.declared.lists.Reading.TheVariants as reading
+use Rattle.units.specs.declared.refusal.Refusal.{Refusal}
+use Rattle.units.specs.Refusals.{number_of}
+use Rattle.std.specs.Prelude.{Result, Ok, Err}
 use Rattle.job_reader.specs.Reading.{Lists}
 use Rattle.job_settings.specs.Meaning.{settings_for, areas_for}
 use Rattle.job.specs.declared.bytes.Wanted.{Wanted}
@@ -69,14 +70,14 @@ lists_told k j l e f r rows₀ columns₀ rows columns t items = rw (k, ← e, �
 -- ---- what was read
 
 -- a reading that is refused, and one that is answered
-pub read_no : (w : Wanted) {got : Reading} {n : ℕ} → got ≡ reading.Refused n → (l : Lists) {r : Answer} → r ≡ refused_to w n → (rows columns : List ℕ)
+pub read_no : (w : Wanted) {got : Result Job Refusal} {x : Refusal} → got ≡ Err x → (l : Lists) {r : Answer} → r ≡ refused_to w (number_of x) → (rows columns : List ℕ)
     → ReadTold w got l r rows columns rows columns
-read_no w {n = n} k l e rows columns = record {
-  no = λ m i. let same : n ≡ m = cc in (rw (← same) e, (refl, refl));
+read_no w {x = x} k l e rows columns = record {
+  no = λ m i. let same : x ≡ m = cc in (rw (← same) e, (refl, refl));
   yes = λ j i. let z : ◌≡◌ {A = ℕ} 0 1 = cc in absurd (omega arith);
 }
 
-pub read_yes : (w : Wanted) {got : Reading} {j : Job} → got ≡ reading.Value j → (l : Lists) (r : Answer) (rows₀ columns₀ rows columns : List ℕ)
+pub read_yes : (w : Wanted) {got : Result Job Refusal} {j : Job} → got ≡ Ok j → (l : Lists) (r : Answer) (rows₀ columns₀ rows columns : List ℕ)
     → ListsTold w j.settings (fronts j.items l) r rows₀ columns₀ rows columns → ReadTold w got l r rows₀ columns₀ rows columns
 read_yes w {j = j} k l r rows₀ columns₀ rows columns t = record {
   no = λ m i. let z : ◌≡◌ {A = ℕ} 0 1 = cc in absurd (omega arith);

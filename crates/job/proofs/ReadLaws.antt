@@ -11,14 +11,14 @@ use Rattle.units.specs.Outcome.{Outcome, given, refused, and_then}
 use Rattle.planner_rules.specs.Slots.{written}
 use Rattle.planner_rules.specs.Partition.{lent}
 use Rattle.job_questions.specs.declared.Items.{Items}
-use Rattle.job_questions.specs.declared.Checked.TheVariants as checked
 use Rattle.job_reader.specs.declared.lists.Job.{Job}
-use Rattle.job_reader.specs.declared.lists.Reading.{Reading}
-use Rattle.job_reader.specs.declared.lists.Reading.TheVariants as reading
+use Rattle.units.specs.declared.refusal.Refusal.{Refusal}
+use Rattle.units.specs.Refusals.{number_of, outcome}
+use Rattle.std.specs.Prelude.{Result, Ok, Err}
 use Rattle.job_records.specs.Records.{RW, CL, MR, BR, BC, records, marked, values, field}
 use Rattle.job_questions.specs.Verdict.{verdict_lent, question1}
-use Rattle.job_reader.specs.Reading.{Lists, lists, even_lists as items_even, room_in, read_job, job_of, reading_outcome, JobRead}
-use Rattle.job_reader.proofs.ReadingLaws.{admit_no, job_refused as not_read}
+use Rattle.job_reader.specs.Reading.{Lists, lists, even_lists as items_even, room_in, read_job, job_of, JobRead}
+use Rattle.job_reader.proofs.ReadingLaws.{admit_refused, read_refused}
 use Rattle.job_reader.proofs.ItemRoom.{Brings, items_fit, all_answered, read_whole}
 use Rattle.job_settings.specs.Meaning.{areas_for}
 use Rattle.job.specs.declared.bytes.Wanted.{Wanted}
@@ -94,10 +94,10 @@ front s o j given_is k f n old new m i =
     }
 
 -- a job that was given, and is that of the bytes
-pub read_to : (s : List ℕ) (before after : Lists) (r : Reading) → JobRead s r before after → (j : Job) → r ≡ reading.Value j → j ≡ job_of (records s)
+pub read_to : (s : List ℕ) (before after : Lists) (r : Result Job Refusal) → JobRead s r before after → (j : Job) → r ≡ Ok j → j ≡ job_of (records s)
     → ReadTo s j.items after
 read_to s before after r w j k m =
-    let q : read_job s before ≡ given j = sym w.answer ∙ ap reading_outcome k in
+    let q : read_job s before ≡ given j = sym w.answer ∙ ap outcome k in
     let rows = ap (λ (x : Job). x.items.rows) m in
     let columns = ap (λ (x : Job). x.items.columns) m in
     let merges = ap (λ (x : Job). x.items.merges) m in
@@ -134,7 +134,7 @@ module _ (s : List ℕ) {before : Lists} (holds : Holds s before) where
       go (given items) e = read_whole s items e before holds.even (holds.room (all_answered s items e).0)
       go (refused n) e =
           let v : refused n ≡ verdict_lent (items_even before) s = sym e ∙ ap (λ (b : Bool). verdict_lent b s) (sym holds.even) in
-          sym (not_read {s = s} {l = before} {f = checked.Refused n} (admit_no (items_even before) s (room_in before) (checked.Refused n) v n refl) refl).answer
+          sym (read_refused s before n (admit_refused (items_even before) s (room_in before) n v))
 
   -- a no is the questions'
   verdict_no : (n : ℕ) → refused n ≡ read_job s before → verdict_lent true s ≡ refused n
@@ -155,9 +155,9 @@ module _ (s : List ℕ) {before : Lists} (holds : Holds s before) where
       go (refused m) i h = let z : ◌≡◌ {A = ℕ} 0 1 = cc in absurd (omega arith)
 
 -- a job that was read to lists that hold it, and answered
-module _ {s : List ℕ} {before after : Lists} (holds : Holds s before) {got : Reading} (w : JobRead s got before after) where
-  yes_is : (j : Job) → got ≡ reading.Value j → (j ≡ job_of (records s)) × ((items : Items) × (verdict_lent true s ≡ given items))
-  yes_is j k = verdict_yes s holds j (sym (ap reading_outcome k) ∙ w.answer)
+module _ {s : List ℕ} {before after : Lists} (holds : Holds s before) {got : Result Job Refusal} (w : JobRead s got before after) where
+  yes_is : (j : Job) → got ≡ Ok j → (j ≡ job_of (records s)) × ((items : Items) × (verdict_lent true s ≡ given items))
+  yes_is j k = verdict_yes s holds j (sym (ap outcome k) ∙ w.answer)
 
   pub was_filled : Filled got after
   was_filled = record {
@@ -181,12 +181,12 @@ module _ {s : List ℕ} {before after : Lists} (holds : Holds s before) {got : R
       → JobTold x s r rows₀ columns₀ rows columns
   job_told x r rows₀ columns₀ rows columns t = go got refl
     where
-      go : (q : Reading) → got ≡ q → JobTold x s r rows₀ columns₀ rows columns
-      go (reading.Refused n) k =
+      go : (q : Result Job Refusal) → got ≡ q → JobTold x s r rows₀ columns₀ rows columns
+      go (Err n) k =
           let told = t.no n k in
           rw (told.0, told.1.0, told.1.1)
-          (refused_told x n (verdict_no s holds n (sym (ap reading_outcome k) ∙ w.answer)) (job_sheet s) (job_areas s) rows₀ columns₀)
-      go (reading.Value j) k =
+          (refused_told x (number_of n) (verdict_no s holds (number_of n) (sym (ap outcome k) ∙ w.answer)) (job_sheet s) (job_areas s) rows₀ columns₀)
+      go (Ok j) k =
           let y = yes_is j k in
           let m = y.0 in
           same_told x (sym y.1.1) (sheet_is s j after m (read_to s before after got w j k m)) (areas_are s j m) r rows₀ columns₀ rows columns

@@ -1,5 +1,5 @@
 -- The plan of a job's bytes: document 01, sections "Jobs" and "Questions in order", and document 02, T-02. Assumes nothing.
-use Rattle.std.specs.Prelude.{◌≡◌, true, List, ℕ, suc, ◌*◌, ◌<◌, ◌≤◌, length, take}
+use Rattle.std.specs.Prelude.{◌≡◌, true, List, ℕ, suc, ◌*◌, ◌<◌, ◌≤◌, length, take, Result, Ok, Err}
 use Rattle.units.specs.Outcome.{Outcome, given, and_then}
 use Rattle.planner_rules.specs.declared.lists.SheetLists.{SheetLists}
 use Rattle.planner_rules.specs.declared.planning.Areas.{Areas}
@@ -13,8 +13,8 @@ use Rattle.job_records.specs.Records.{RW, CL, MR, BR, BC, records, values}
 use Rattle.job_questions.specs.Verdict.{verdict, question1, items_of}
 use Rattle.job_reader.specs.Reading.{Lists, lists, even_lists, room_in, fit_in}
 use Rattle.job_reader.specs.declared.lists.Job.{Job}
-use Rattle.job_reader.specs.declared.lists.Reading.{Reading}
-use Rattle.job_reader.specs.declared.lists.Reading.TheVariants.{Value, Refused as NotRead}
+use Rattle.units.specs.declared.refusal.Refusal.{Refusal}
+use Rattle.units.specs.Refusals.{number_of}
 use Rattle.job_settings.specs.Meaning.{settings_for, areas_for}
 use Rattle.job_reader.specs.Settings.{settings_of}
 use Rattle.job_questions.specs.declared.Items.{Items}
@@ -127,13 +127,13 @@ pub record Long (n : Items) (l : Lists) : Type 0 where
   pub column_breaks_long : n.column_breaks ≤ length l.column_breaks
 
 -- what was read, if a job was, stands in the lists
-pub record Filled (reading : Reading) (l : Lists) : Type 0 where
-  pub filled : (j : Job) → reading ≡ Value j → Long j.items l
+pub record Filled (reading : Result Job Refusal) (l : Lists) : Type 0 where
+  pub filled : (j : Job) → reading ≡ Ok j → Long j.items l
 
 -- a refusal is handed on, and writes nothing; a job is answered
-pub record ReadTold (w : Wanted) (reading : Reading) (l : Lists) (r : Answer) (rows₀ columns₀ rows columns : List ℕ) : Type 0 where
-  pub no : (n : ℕ) → reading ≡ NotRead n → (r ≡ refused_to w n) × ((rows ≡ rows₀) × (columns ≡ columns₀))
-  pub yes : (j : Job) → reading ≡ Value j → ListsTold w j.settings (fronts j.items l) r rows₀ columns₀ rows columns
+pub record ReadTold (w : Wanted) (reading : Result Job Refusal) (l : Lists) (r : Answer) (rows₀ columns₀ rows columns : List ℕ) : Type 0 where
+  pub no : (x : Refusal) → reading ≡ Err x → (r ≡ refused_to w (number_of x)) × ((rows ≡ rows₀) × (columns ≡ columns₀))
+  pub yes : (j : Job) → reading ≡ Ok j → ListsTold w j.settings (fronts j.items l) r rows₀ columns₀ rows columns
 
 -- room for all that a job's bytes bring where question 1 lets them pass: one item more of a kind has more bytes than those
 pub record RoomFor (s : List ℕ) (rows columns row_breaks column_breaks : ℕ) : Type 0 where

@@ -3,14 +3,15 @@ ghost use Rattle.std.specs.Prelude.{◌≡◌, ◌≤◌, length};
 ghost use Rattle.units.specs.Outcome.{given};
 ghost use Rattle.planner_rules.specs.Plan as call;
 ghost use Rattle.planner_rules.specs.Demand.{CoversPairs, FewestPlan, LargestPlan};
-ghost use Rattle.job_reader.specs.Reading.{lists};
+ghost use Rattle.job_reader.specs.Reading.{lists_in};
 ghost use Rattle.job.specs.PlanJob as section;
 
 use job_questions::Items;
-use job_reader::{Reading, read_job};
+use job_reader::{Job, JobLists, read_job};
 use job_settings::{JobSettings, areas_for, settings_for};
 use planner::{count_pages, plan_pages, write_area};
 use planner_rules::{AxisLists, MergeList, Planning, Request, SheetLists, SlotList, Writing};
+use units::Refusal;
 
 // What is asked of a job: its plan, how many pages it has, or the runs of the area with a number, from 1, at a permille.
 #[derive(Clone, Copy)]
@@ -86,120 +87,72 @@ fn answer_lists(
     }
 }
 
-// The fronts of lists, as long as so many items say.
-fn fronts<'a>(items: Items, lists: &SheetLists<'a>) -> SheetLists<'a>
-    requires { section.Long items (section.lists_in lists.now) }
-    ensures { section.lists_in result ≡ section.fronts items (section.lists_in lists.now) }
+// The fronts of lent lists, as long as so many items say.
+fn fronts<'a>(items: Items, lent: &'a JobLists<'_>) -> SheetLists<'a>
+    requires { section.Long items (lists_in lent.now) }
+    ensures { section.lists_in result ≡ section.fronts items (lists_in lent.now) }
 {
-    let SheetLists { rows, columns } = *lists;
     SheetLists {
         rows: AxisLists {
             slots: SlotList {
-                indexes: &rows.slots.indexes[..items.rows],
-                sizes: &rows.slots.sizes[..items.rows],
+                indexes: &lent.row_indexes[..items.rows],
+                sizes: &lent.row_sizes[..items.rows],
             },
             merges: MergeList {
-                firsts: &rows.merges.firsts[..items.merges],
-                lasts: &rows.merges.lasts[..items.merges],
+                firsts: &lent.merge_first_rows[..items.merges],
+                lasts: &lent.merge_last_rows[..items.merges],
             },
-            breaks: &rows.breaks[..items.row_breaks],
+            breaks: &lent.row_breaks[..items.row_breaks],
         },
         columns: AxisLists {
             slots: SlotList {
-                indexes: &columns.slots.indexes[..items.columns],
-                sizes: &columns.slots.sizes[..items.columns],
+                indexes: &lent.column_indexes[..items.columns],
+                sizes: &lent.column_sizes[..items.columns],
             },
             merges: MergeList {
-                firsts: &columns.merges.firsts[..items.merges],
-                lasts: &columns.merges.lasts[..items.merges],
+                firsts: &lent.merge_first_columns[..items.merges],
+                lasts: &lent.merge_last_columns[..items.merges],
             },
-            breaks: &columns.breaks[..items.column_breaks],
+            breaks: &lent.column_breaks[..items.column_breaks],
         },
     }
 }
 
-// Answers what is wanted of what was read to lists.
+// Answers what is wanted of what was read to lent lists.
 fn answer_read(
     wanted: Wanted,
-    reading: Reading,
-    lists: &SheetLists,
+    reading: Result<Job, Refusal>,
+    lent: &JobLists<'_>,
     row_runs: &mut [u64],
     column_runs: &mut [u64],
 ) -> Answer
-    requires { section.Filled reading (section.lists_in lists.now) }
-    ensures { section.ReadTold wanted reading (section.lists_in lists.now)
+    requires { section.Filled reading (lists_in lent.now) }
+    ensures { section.ReadTold wanted reading (lists_in lent.now)
         result row_runs.old column_runs.old row_runs.new column_runs.new }
 {
     match reading {
-        Reading::Refused(number) => refused_to(wanted, number),
-        Reading::Value(job) => {
-            let read = fronts(job.items, lists);
-            answer_lists(wanted, job.settings, &read, row_runs, column_runs)
+        Err(refusal) => refused_to(wanted, refusal.number()),
+        Ok(job) => {
+            let lists = fronts(job.items, lent);
+            answer_lists(wanted, job.settings, &lists, row_runs, column_runs)
         }
     }
 }
 
 // Reads a job into ten lists that hold its items, and answers what is wanted of it.
-fn answer_in<'a>(
+fn answer_in(
     wanted: Wanted,
     bytes: &[u8],
-    row_indexes: &'a mut [u32],
-    row_sizes: &'a mut [u64],
-    column_indexes: &'a mut [u32],
-    column_sizes: &'a mut [u64],
-    merge_first_rows: &'a mut [u32],
-    merge_first_columns: &'a mut [u32],
-    merge_last_rows: &'a mut [u32],
-    merge_last_columns: &'a mut [u32],
-    row_breaks: &'a mut [u32],
-    column_breaks: &'a mut [u32],
+    lent: &mut JobLists<'_>,
     row_runs: &mut [u64],
     column_runs: &mut [u64],
 ) -> Answer
-    requires { section.Holds bytes.now
-        (lists row_indexes.old row_sizes.old column_indexes.old column_sizes.old merge_first_rows.old merge_first_columns.old
-        merge_last_rows.old merge_last_columns.old row_breaks.old column_breaks.old) }
+    requires { section.Holds bytes.now (lists_in lent.old) }
     ensures { section.JobTold wanted bytes.now result row_runs.old column_runs.old row_runs.new
         column_runs.new }
 {
-    let reading = read_job(
-        bytes,
-        row_indexes,
-        row_sizes,
-        column_indexes,
-        column_sizes,
-        merge_first_rows,
-        merge_first_columns,
-        merge_last_rows,
-        merge_last_columns,
-        row_breaks,
-        column_breaks,
-    );
-    let lists = SheetLists {
-        rows: AxisLists {
-            slots: SlotList {
-                indexes: row_indexes,
-                sizes: row_sizes,
-            },
-            merges: MergeList {
-                firsts: merge_first_rows,
-                lasts: merge_last_rows,
-            },
-            breaks: row_breaks,
-        },
-        columns: AxisLists {
-            slots: SlotList {
-                indexes: column_indexes,
-                sizes: column_sizes,
-            },
-            merges: MergeList {
-                firsts: merge_first_columns,
-                lasts: merge_last_columns,
-            },
-            breaks: column_breaks,
-        },
-    };
-    answer_read(wanted, reading, &lists, row_runs, column_runs)
+    let reading = read_job(bytes, lent);
+    answer_read(wanted, reading, lent, row_runs, column_runs)
 }
 
 // Answers what is wanted of a job, by arrays that hold so many rows and merges, columns and breaks.
@@ -224,22 +177,19 @@ fn answer_sized<
     let mut merge_last_columns = [0u32; ROWS];
     let mut row_breaks = [0u32; ROW_BREAKS];
     let mut column_breaks = [0u32; COLUMN_BREAKS];
-    answer_in(
-        wanted,
-        bytes,
-        &mut row_indexes,
-        &mut row_sizes,
-        &mut column_indexes,
-        &mut column_sizes,
-        &mut merge_first_rows,
-        &mut merge_first_columns,
-        &mut merge_last_rows,
-        &mut merge_last_columns,
-        &mut row_breaks,
-        &mut column_breaks,
-        row_runs,
-        column_runs,
-    )
+    let mut lent = JobLists {
+        row_indexes: &mut row_indexes,
+        row_sizes: &mut row_sizes,
+        column_indexes: &mut column_indexes,
+        column_sizes: &mut column_sizes,
+        merge_first_rows: &mut merge_first_rows,
+        merge_first_columns: &mut merge_first_columns,
+        merge_last_rows: &mut merge_last_rows,
+        merge_last_columns: &mut merge_last_columns,
+        row_breaks: &mut row_breaks,
+        column_breaks: &mut column_breaks,
+    };
+    answer_in(wanted, bytes, &mut lent, row_runs, column_runs)
 }
 
 // An array is cleared before it is lent, so a job gets none that is much longer than its bytes can fill.

@@ -13,12 +13,14 @@ use Rattle.units.specs.Outcome.{given, refused}
 use Rattle.job_records.specs.declared.records.Record.{Record}
 use Rattle.job_records.specs.declared.records.Record.TheVariants.{Paper, Landscape, Margin, Scale, Wide, High, Fit, Order, Headings, Limit, Cells, Area}
 use Rattle.job_records.specs.declared.records.Record.TheVariants.{TitleRows, TitleColumns, Row, Column, Merged, RowBreak, ColumnBreak, End}
-use Rattle.job_records.specs.declared.records.Step.{Step}
-use Rattle.job_records.specs.declared.records.Step.TheVariants.{Read, Nothing}
+use Rattle.job_records.specs.declared.records.Head.{Head}
+use Rattle.std.specs.Prelude.{Option, Some, None, Result, Ok, Err, IsErrAnd}
+use Rattle.units.specs.declared.refusal.Refusal.{Refusal}
+use Rattle.units.specs.declared.refusal.Refusal.TheVariants.{TooManyBytes, BrokenRecord, EndNotLast}
+use Rattle.units.specs.declared.refusal.Refusal.TheVariants as no
+use Rattle.units.specs.Refusals.{number_of, outcome}
 use Rattle.job_questions.specs.declared.Items.{Items}
 use Rattle.job_questions.specs.declared.State.{State}
-use Rattle.job_questions.specs.declared.Survey.{Survey}
-use Rattle.job_questions.specs.declared.Survey.TheVariants.{Stopped, Whole}
 use Rattle.job_records.specs.Records.{AR, RW, CL, MR, BR, BC, head_record, step_outcome, step, rank, is_end, goes_on, ended, records, rest, marked, values}
 use Rattle.units.specs.Grid.{last_row, last_column}
 use Rattle.planner_rules.specs.Areas.{one_to_eight}
@@ -26,7 +28,7 @@ use Rattle.job_walk.specs.Walk.{Sorted}
 use Rattle.job_questions.specs.Verdict.{asked, every, repeats, follows, ordered, flag_ok, not_reversed, in_grid, sized, rising}
 use Rattle.job_questions.specs.Verdict.{question1, question2, question3, question4, question5, question6, question7, question8, question9}
 use Rattle.job_questions.specs.Verdict.{question15, in_order, questions, items_of, verdict_lent}
-use Rattle.job_questions.specs.Pass.{beyond, placed, rows_after, columns_after, one_more, counted, Few, start, advanced, after, surveyed, first_no, answer}
+use Rattle.job_questions.specs.Pass.{beyond, placed, rows_after, columns_after, one_more, counted, Few, start, advanced, after, surveyed, first_no, answer, rank_in, no_of}
 use Rattle.planner_rules.proofs.QuestionLaws.{both}
 use Rattle.job_records.proofs.RecordLaws.{records_more, rest_more, records_stop, rest_stop, step_is, step_used, part}
 
@@ -93,7 +95,7 @@ module _ (even cells : Bool) where
   unfoldable pub number : State → List Record → ℕ
   number t rs =
       first_no
-      ((4, (t.ordered && ordered t.rank rs) && one_to_eight (t.items.areas + length (marked AR rs)))
+      ((4, (t.ordered && ordered (rank_in t.last) rs) && one_to_eight (t.items.areas + length (marked AR rs)))
       ∷ (5, t.fine.flag && every flag_ok rs)
       ∷ (6, even && (t.fine.first && every not_reversed rs))
       ∷ (7, t.fine.grid && every in_grid rs)
@@ -158,7 +160,7 @@ module _ (even cells : Bool) where
   unfolding number ordered every marked
   number_step t r rs =
       rw (
-        and_assoc t.ordered (follows t.rank (rank r)) (ordered (rank r) rs),
+        and_assoc t.ordered (follows (rank_in t.last) (rank r)) (ordered (rank r) rs),
         ← one_more_lem t.items.areas (eqb (rank r) AR) r (marked AR rs),
         and_assoc t.fine.flag (flag_ok (asked r)) (every flag_ok rs),
         and_inner even t.fine.first (not_reversed (asked r)) (every not_reversed rs),
@@ -242,58 +244,58 @@ seen_start b t e = rw e (record {
   room = record { areas = omega arith; rows = omega arith; columns = omega arith; merges = omega arith; row_breaks = omega arith; column_breaks = omega arith };
 })
 
-module _ (b s : List ℕ) (t : State) (w : Seen b s t) (f : Step) (o : step_outcome f ≡ head_record s) where
+module _ (b s : List ℕ) (t : State) (w : Seen b s t) (f : Option Head) (o : step_outcome f ≡ head_record s) where
   at_head : f ≡ step s
   at_head = step_is s f o
 
-  pub seen_more : (r : Record) (n x : ℕ) (u : State) → f ≡ Read r n → x ≡ rank r → (x ≡ 20 → ⊥) → u ≡ advanced t r
-      → Seen b (take (length s - n) (drop n s)) u
+  pub seen_more : (h : Head) (x : ℕ) (u : State) → f ≡ Some h → x ≡ rank h.found → (x ≡ 20 → ⊥) → u ≡ advanced t h.found
+      → Seen b (take (length s - h.bytes) (drop h.bytes s)) u
   unfolding after
-  seen_more r n x u k i h j =
-      let z : step s ≡ Read r n = sym at_head ∙ k in
-      let m = step_used s f r n at_head k in
-      let g : is_end r ≡ false = ne_eqb (rank r) 20 (λ q. h (i ∙ q)) in
-      rw (part n s, j) (record {
-        same_rest = sym (rest_more s r n z m.0 m.1 g) ∙ w.same_rest;
-        same_after = ap (after t) (sym (records_more s r n z m.0 m.1 g)) ∙ w.same_after;
-        room = rw (lib.ListN.length-drop n s) (room_more t.items (length s) (length b) n (rank r) w.room m.0 m.1);
+  seen_more h x u k i l j =
+      let z : step s ≡ Some h = sym at_head ∙ k in
+      let m = step_used s f h at_head k in
+      let g : is_end h.found ≡ false = ne_eqb (rank h.found) 20 (λ q. l (i ∙ q)) in
+      rw (part h.bytes s, j) (record {
+        same_rest = sym (rest_more s h z m.0 m.1 g) ∙ w.same_rest;
+        same_after = ap (after t) (sym (records_more s h z m.0 m.1 g)) ∙ w.same_after;
+        room = rw (lib.ListN.length-drop h.bytes s) (room_more t.items (length s) (length b) h.bytes (rank h.found) w.room m.0 m.1);
       })
 
   stop : (g : goes_on (step s) ≡ false) → rest b ≡ s
   stop g = sym w.same_rest ∙ rest_stop s g
 
   -- no record at the head
-  pub seen_nothing : length b ≤ 60000 → f ≡ Nothing → Stopped 2 ≡ surveyed b
+  pub seen_nothing : length b ≤ 60000 → f ≡ None → Err BrokenRecord ≡ surveyed b
   unfolding surveyed goes_on ended
   seen_nothing l k =
-      let z : step s ≡ Nothing = sym at_head ∙ k in
+      let z : step s ≡ None = sym at_head ∙ k in
       let h : rest b ≡ s = stop (ap goes_on z) in
       rw (le-leb (length b) 60000 l, h, z)
 
-  module _ (r : Record) (n x : ℕ) (k : f ≡ Read r n) (i : x ≡ rank r) (h : x ≡ 20) (l : length b ≤ 60000) where
+  module _ (g : Head) (x : ℕ) (k : f ≡ Some g) (i : x ≡ rank g.found) (h : x ≡ 20) (l : length b ≤ 60000) where
     at_end : rest b ≡ s
     unfolding goes_on
-    at_end = stop (ap goes_on (sym at_head ∙ k) ∙ ap not (eq-eqb (rank r) 20 (sym i ∙ h)))
+    at_end = stop (ap goes_on (sym at_head ∙ k) ∙ ap not (eq-eqb (rank g.found) 20 (sym i ∙ h)))
 
     is_end_lem : ended (step (rest b)) ≡ true
     unfolding ended
-    is_end_lem = ap (λ (y : List ℕ). ended (step y)) at_end ∙ ap ended (sym at_head ∙ k) ∙ eq-eqb (rank r) 20 (sym i ∙ h)
+    is_end_lem = ap (λ (y : List ℕ). ended (step y)) at_end ∙ ap ended (sym at_head ∙ k) ∙ eq-eqb (rank g.found) 20 (sym i ∙ h)
 
     -- an EN that is not last
-    pub seen_early : (length s ≡ 2 → ⊥) → Stopped 3 ≡ surveyed b
+    pub seen_early : (length s ≡ 2 → ⊥) → Err EndNotLast ≡ surveyed b
     unfolding surveyed
     seen_early q = rw (le-leb (length b) 60000 l, is_end_lem, at_end, ne_eqb (length s) 2 q)
 
     -- an EN that is last
-    pub seen_end : length s ≡ 2 → Whole t ≡ surveyed b
+    pub seen_end : length s ≡ 2 → Ok t ≡ surveyed b
     unfolding surveyed goes_on after
     seen_end q =
-        let g : records s ≡ [] = records_stop s (ap goes_on (sym at_head ∙ k) ∙ ap not (eq-eqb (rank r) 20 (sym i ∙ h))) in
-        let a : t ≡ after start (records b) = ap (after t) (sym g) ∙ w.same_after in
-        rw (le-leb (length b) 60000 l, is_end_lem, at_end, eq-eqb (length s) 2 q) (ap Whole a)
+        let e : records s ≡ [] = records_stop s (ap goes_on (sym at_head ∙ k) ∙ ap not (eq-eqb (rank g.found) 20 (sym i ∙ h))) in
+        let a : t ≡ after start (records b) = ap (after t) (sym e) ∙ w.same_after in
+        rw (le-leb (length b) 60000 l, is_end_lem, at_end, eq-eqb (length s) 2 q) (ap Ok a)
 
 -- too many bytes
-pub too_long : (b : List ℕ) → 60000 < length b → Stopped 1 ≡ surveyed b
+pub too_long : (b : List ℕ) → 60000 < length b → Err TooManyBytes ≡ surveyed b
 unfolding surveyed
 too_long b h = rw (lt-leb (length b) 60000 h)
 
@@ -314,10 +316,10 @@ sorted_of k (r ∷ rs) e =
     let w = both (follows k (rank r)) (ordered (rank r) rs) e in
     (from_follows k (rank r) w.0, sorted_of (rank r) rs w.1)
 
-ordered_after : (t : State) (rs : List Record) → (after t rs).ordered ≡ t.ordered && ordered t.rank rs
+ordered_after : (t : State) (rs : List Record) → (after t rs).ordered ≡ t.ordered && ordered (rank_in t.last) rs
 unfolding after ordered
 ordered_after t [] = sym (and-true t.ordered)
-ordered_after t (r ∷ rs) = ordered_after (advanced t r) rs ∙ sym (and_assoc t.ordered (follows t.rank (rank r)) (ordered (rank r) rs))
+ordered_after t (r ∷ rs) = ordered_after (advanced t r) rs ∙ sym (and_assoc t.ordered (follows (rank_in t.last) (rank r)) (ordered (rank r) rs))
 
 -- what a pass tells that found the marks in order
 pub sorted_after : (t : State) (rs : List Record) → t ≡ after start rs → t.ordered ≡ true → Sorted 0 rs
@@ -328,26 +330,49 @@ areas_after t rs e = ap (λ (u : State). u.items.areas) e ∙ ap (λ (c : Items)
 
 -- ---- what a survey tells of the answer
 
-module _ {A : Type 0} (v : A) (qs : List (ℕ × Bool)) (s : List ℕ) (f : Survey) (e : f ≡ surveyed s) where
+-- a refusal that was handed on
+pub handed_on : {A : Type 0} (r : Result A Refusal) (x : Refusal) → IsErrAnd r (λ (y : Refusal). y ≡ x) → outcome r ≡ refused (number_of x)
+handed_on (Ok a) x h = absurd h
+handed_on (Err y) x h = ap (λ (z : Refusal). refused (number_of z)) h
+
+-- the number of a refusal is not 0
+some_number : (r : Refusal) → 0 < number_of r
+some_number no.TooManyBytes = omega arith
+some_number no.BrokenRecord = omega arith
+some_number no.EndNotLast = omega arith
+some_number no.MisplacedRecord = omega arith
+some_number no.BadFlag = omega arith
+some_number no.MalformedLists = omega arith
+some_number no.OutsideGrid = omega arith
+some_number no.IndexesNotRising = omega arith
+some_number no.SizeOutOfRange = omega arith
+some_number no.CoordinateOverflow = omega arith
+some_number no.ListTooShort = omega arith
+some_number no.TooManyPages = omega arith
+some_number no.PageListTooShort = omega arith
+some_number no.NoSuchNumber = omega arith
+some_number no.TooManyCells = omega arith
+
+module _ {A : Type 0} (v : A) (qs : List (ℕ × Bool)) (s : List ℕ) (f : Result State Refusal) (e : f ≡ surveyed s) where
   -- one of the questions 1 to 3 is answered no
-  survey_stopped : (n : ℕ) → f ≡ Stopped n → refused n ≡ in_order ((1, question1 s) ∷ (2, question2 s) ∷ (3, question3 s) ∷ qs) v
+  survey_stopped : (n : Refusal) → f ≡ Err n → refused (number_of n) ≡ in_order ((1, question1 s) ∷ (2, question2 s) ∷ (3, question3 s) ∷ qs) v
   unfolding surveyed
   survey_stopped n k = go (question1 s) (question2 s) (question3 s) (sym k ∙ e)
     where
-      go : (a b c : Bool) → Stopped n ≡ cond a (cond b (cond c (Whole (after start (records s))) (Stopped 3)) (Stopped 2)) (Stopped 1)
-          → refused n ≡ in_order ((1, a) ∷ (2, b) ∷ (3, c) ∷ qs) v
+      go : (a b c : Bool) → Err n ≡ cond a (cond b (cond c (Ok (after start (records s))) (Err EndNotLast)) (Err BrokenRecord)) (Err TooManyBytes)
+          → refused (number_of n) ≡ in_order ((1, a) ∷ (2, b) ∷ (3, c) ∷ qs) v
       go true true true h = let z : ◌≡◌ {A = ℕ} 0 1 = cc in absurd (omega arith)
-      go true true false h = let i : n ≡ 3 = cc in ap refused i
-      go true false c h = let i : n ≡ 2 = cc in ap refused i
-      go false b c h = let i : n ≡ 1 = cc in ap refused i
+      go true true false h = let i : n ≡ EndNotLast = cc in ap (λ (m : Refusal). refused (number_of m)) i
+      go true false c h = let i : n ≡ BrokenRecord = cc in ap (λ (m : Refusal). refused (number_of m)) i
+      go false b c h = let i : n ≡ TooManyBytes = cc in ap (λ (m : Refusal). refused (number_of m)) i
 
   -- they are answered yes, and t is what was carried past the records
-  survey_whole : (t : State) → f ≡ Whole t
+  survey_whole : (t : State) → f ≡ Ok t
       → (in_order qs v ≡ in_order ((1, question1 s) ∷ (2, question2 s) ∷ (3, question3 s) ∷ qs) v) × (t ≡ after start (records s))
   unfolding surveyed
   survey_whole t k = go (question1 s) (question2 s) (question3 s) (sym k ∙ e)
     where
-      go : (a b c : Bool) → Whole t ≡ cond a (cond b (cond c (Whole (after start (records s))) (Stopped 3)) (Stopped 2)) (Stopped 1)
+      go : (a b c : Bool) → Ok t ≡ cond a (cond b (cond c (Ok (after start (records s))) (Err EndNotLast)) (Err BrokenRecord)) (Err TooManyBytes)
           → (in_order qs v ≡ in_order ((1, a) ∷ (2, b) ∷ (3, c) ∷ qs) v) × (t ≡ after start (records s))
       go true true true h = (refl, cc)
       go true true false h = let z : ◌≡◌ {A = ℕ} 0 1 = cc in absurd (omega arith)
@@ -359,35 +384,36 @@ abbrev later : Bool → List ℕ → List (ℕ × Bool)
 later even s =
     (4, question4 s) ∷ (5, question5 s) ∷ (6, question6 even s) ∷ (7, question7 s) ∷ (15, question15 s) ∷ (8, question8 s) ∷ (9, question9 s) ∷ []
 
-module _ (even : Bool) (s : List ℕ) (f : Survey) (e : f ≡ surveyed s) where
+module _ (even : Bool) (s : List ℕ) (f : Result State Refusal) (e : f ≡ surveyed s) where
   -- one of the questions 1 to 3 is answered no
-  pub job_stopped : (n : ℕ) → f ≡ Stopped n → refused n ≡ verdict_lent even s
+  pub job_stopped : (n : Refusal) → f ≡ Err n → refused (number_of n) ≡ verdict_lent even s
   unfolding verdict_lent
   job_stopped n k = survey_stopped (items_of (records s)) (later even s) s f e n k
 
-  module _ (t : State) (k : f ≡ Whole t) where
+  module _ (t : State) (k : f ≡ Ok t) where
     whole : (in_order (later even s) (items_of (records s)) ≡ in_order (questions even s) (items_of (records s))) × (t ≡ after start (records s))
     whole = survey_whole (items_of (records s)) (later even s) s f e t k
 
     pub job_state : t ≡ after start (records s)
     job_state = whole.1
 
-    module _ (x : ℕ) (i : x ≡ answer even (question15 s) t) where
-      is_first : x ≡ first_no (later even s)
+    module _ (x : Result (Unit {0}) Refusal) (i : no_of x ≡ answer even (question15 s) t) where
+      is_first : no_of x ≡ first_no (later even s)
       unfolding number
       is_first =
           i ∙ ap (answer even (question15 s)) whole.1 ∙ number_after even (question15 s) start (records s)
           ∙ ap (λ (n : ℕ). first_no ((4, ordered 0 (records s) && one_to_eight n) ∷ drop 1 (later even s))) (zero-add (length (marked AR (records s))))
 
       -- one of the others is
-      pub job_no : 0 < x → refused x ≡ verdict_lent even s
+      pub job_no : (r : Refusal) → x ≡ Err r → refused (number_of r) ≡ verdict_lent even s
       unfolding verdict_lent
-      job_no h = in_order_no (items_of (records s)) [] (later even s) x is_first h ∙ whole.0
+      job_no r h =
+          in_order_no (items_of (records s)) [] (later even s) (number_of r) (sym (ap no_of h) ∙ is_first) (some_number r) ∙ whole.0
 
       -- none is
-      pub job_yes : x ≤ 0 → given t.items ≡ verdict_lent even s
+      pub job_yes : (u : Unit {0}) → x ≡ Ok u → given t.items ≡ verdict_lent even s
       unfolding verdict_lent
-      job_yes h =
+      job_yes u h =
           ap given (ap (λ (u : State). u.items) whole.1 ∙ items_after (records s))
-          ∙ in_order_yes (items_of (records s)) [] (later even s) x refl is_first h
+          ∙ in_order_yes (items_of (records s)) [] (later even s) 0 refl (sym (ap no_of h) ∙ is_first) (omega arith)
           ∙ whole.0

@@ -1,6 +1,6 @@
 -- What one pass over the records carries from record to record, for the private functions of `src/lib.rt`. Assumes nothing.
-use Rattle.std.specs.Prelude.{ℕ, ◌+◌, ◌<◌, ◌^◌, Bool, true, cond, ◌&&◌, List, [], ◌∷◌, leb, ltb, eqb}
-use Rattle.job_records.specs.Records.{AR, RW, CL, MR, BR, BC, rank, records}
+use Rattle.std.specs.Prelude.{ℕ, ◌+◌, ◌<◌, ◌^◌, Bool, true, cond, ◌&&◌, List, [], ◌∷◌, leb, ltb, eqb, Option, Some, None, Result, Ok, Err}
+use Rattle.job_records.specs.Records.{AR, RW, CL, MR, BR, BC, rank, mark_before, records}
 use Rattle.units.specs.Grid.{last_row, last_column}
 use Rattle.planner_rules.specs.Areas.{one_to_eight}
 use Rattle.job_questions.specs.Verdict.{asked, follows, flag_ok, not_reversed, in_grid, sized, question1, question2, question3}
@@ -10,8 +10,11 @@ use Rattle.job_questions.specs.declared.Asked.TheVariants.{Flag, Rectangle, InRo
 use Rattle.job_questions.specs.declared.Fine.{Fine}
 use Rattle.job_questions.specs.declared.Items.{Items}
 use Rattle.job_questions.specs.declared.State.{State}
-use Rattle.job_questions.specs.declared.Survey.{Survey}
-use Rattle.job_questions.specs.declared.Survey.TheVariants.{Stopped, Whole}
+use Rattle.units.specs.declared.refusal.Refusal.{Refusal}
+use Rattle.units.specs.declared.refusal.Refusal.TheVariants.{TooManyBytes, BrokenRecord, EndNotLast}
+use Rattle.units.specs.Refusals.{number_of}
+use Rattle.job_records.specs.Marks.{place}
+use Rattle.job_records.specs.declared.marks.Mark.{Mark}
 
 -- what a record answers to the questions 5, 6, 7 and 9
 abbrev pub fine : Asked → Fine
@@ -69,10 +72,15 @@ pub record Few (c : Items) : Type 0 where
   pub row_breaks : c.row_breaks < 2 ^ 32
   pub column_breaks : c.column_breaks < 2 ^ 32
 
+-- the place of the mark that came last, or 0
+abbrev pub rank_in : Option Mark → ℕ
+rank_in None = 0
+rank_in (Some m) = place m
+
 -- before the first record
 abbrev pub start : State
 start = record {
-  rank = 0;
+  last = None;
   ordered = true;
   fine = record { flag = true; first = true; grid = true; size = true };
   rows = 0;
@@ -83,8 +91,8 @@ start = record {
 -- the state of a pass after one more record
 abbrev pub advanced : State → Record → State
 advanced t r = record {
-  rank = rank r;
-  ordered = t.ordered && follows t.rank (rank r);
+  last = Some (mark_before r);
+  ordered = t.ordered && follows (rank_in t.last) (rank r);
   fine = both_fine t.fine (fine (asked r));
   rows = rows_after t.rows (asked r);
   columns = columns_after t.columns (asked r);
@@ -97,9 +105,14 @@ after t [] = t
 after t (r ∷ rs) = after (advanced t r) rs
 
 -- the first of the questions 1 to 3 that is answered no, or what a pass over the records carries
-unfoldable pub surveyed : List ℕ → Survey
+unfoldable pub surveyed : List ℕ → Result State Refusal
 surveyed s =
-    cond (question1 s) (cond (question2 s) (cond (question3 s) (Whole (after start (records s))) (Stopped 3)) (Stopped 2)) (Stopped 1)
+    cond (question1 s) (cond (question2 s) (cond (question3 s) (Ok (after start (records s))) (Err EndNotLast)) (Err BrokenRecord)) (Err TooManyBytes)
+
+-- the number of a refusal, or 0
+abbrev pub no_of : Result (Unit {0}) Refusal → ℕ
+no_of (Ok u) = 0
+no_of (Err r) = number_of r
 
 -- the number of the first no, or 0
 unfoldable pub first_no : List (ℕ × Bool) → ℕ

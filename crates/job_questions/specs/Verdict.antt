@@ -16,8 +16,6 @@ use Rattle.job_records.specs.declared.records.Record.TheVariants.{TitleRows, Tit
 use Rattle.job_questions.specs.declared.Asked.{Asked}
 use Rattle.job_questions.specs.declared.Asked.TheVariants.{Flag, Rectangle, InRows, InColumns, Other}
 use Rattle.job_questions.specs.declared.Items.{Items}
-use Rattle.job_questions.specs.declared.Checked.{Checked}
-use Rattle.job_questions.specs.declared.Checked.TheVariants.{Value, Refused}
 
 -- what the questions 5, 6, 7 and 9 ask of a record: "FT and OD", "AR and every MR", "Sizes"
 abbrev pub asked : Record → Asked
@@ -200,8 +198,3 @@ verdict_lent equally_long s = in_order (questions equally_long s) (items_of (rec
 -- of a call that was lent no slices
 abbrev pub verdict : List ℕ → Outcome Items
 verdict s = verdict_lent true s
-
--- the value or the number that each case of `Checked` stands for
-abbrev pub checked_outcome : Checked → Outcome Items
-checked_outcome (Value v) = given v
-checked_outcome (Refused n) = refused n

@@ -4,16 +4,17 @@
 ghost use Rattle.std.specs.Prelude.{◌≡◌, ◌<◌, ◌^◌, length};
 ghost use Rattle.job_records.specs.Records.{rank, AR, records, marked};
 ghost use Rattle.job_walk.specs.Walk.{Sorted};
-ghost use Rattle.job_questions.specs.Verdict.{asked, follows, firsts_ok, grid_ok, size_ok, question15, verdict_lent, verdict, checked_outcome};
-ghost use Rattle.job_questions.specs.Pass.{fine, both_fine, placed, rows_after, columns_after, one_more, counted, Few};
+ghost use Rattle.job_questions.specs.Verdict.{asked, follows, firsts_ok, grid_ok, size_ok, question15, repeats, verdict_lent, verdict};
+ghost use Rattle.job_records.specs.Marks.{place};
+ghost use Rattle.units.specs.Refusals.{outcome};
+ghost use Rattle.job_questions.specs.Pass.{fine, both_fine, placed, rows_after, columns_after, counted, Few, rank_in, no_of};
 ghost use Rattle.job_questions.specs.Pass.{start, advanced, after, surveyed, answer};
 
-use job_records::ranks::{COLUMN_BREAKS, COLUMNS, END, MERGES, RANGE, ROW_BREAKS, ROWS};
-use job_records::{ColumnSlot, Range, Record, RowSlot, Step, rank_of, read_record};
+use job_records::{Mark, Range, Record, Slot, read_record};
 use job_settings::areas_for;
 use job_walk::{areas_of, cell_limit_of};
 use planner_areas::cells_hold;
-use units::{LARGEST_SIZE, MAX_WORKSHEET_COLUMN, MAX_WORKSHEET_ROW};
+use units::{LARGEST_SIZE, MAX_WORKSHEET_COLUMN, MAX_WORKSHEET_ROW, Refusal};
 
 // The most bytes of a job.
 pub const MOST_BYTES: usize = 60_000;
@@ -35,20 +36,13 @@ pub struct Items {
     pub column_breaks: usize,
 }
 
-// What `check_job` answers: how many items a job has, or a refusal with its number.
-#[derive(Clone, Copy)]
-pub enum Checked {
-    Value(Items),
-    Refused(u8),
-}
-
 // What the questions 5 to 9 ask of a record.
 #[derive(Clone, Copy)]
 pub(crate) enum Asked {
     Flag(u8),
     Rectangle(Range),
-    InRows(RowSlot),
-    InColumns(ColumnSlot),
+    InRows(Slot),
+    InColumns(Slot),
     Other,
 }
 
@@ -64,7 +58,7 @@ pub(crate) struct Fine {
 // What the pass carries from record to record. Of an axis it is the least index that may come next, or `BEYOND`.
 #[derive(Clone, Copy)]
 pub(crate) struct State {
-    pub rank: u8,
+    pub last: Option<Mark>,
     pub ordered: bool,
     pub fine: Fine,
     pub rows: u64,
@@ -72,35 +66,35 @@ pub(crate) struct State {
     pub items: Items,
 }
 
-// What a pass found: the number of a question, or what it carried past the last record before an EN that is last.
-#[derive(Clone, Copy)]
-pub(crate) enum Survey {
-    Stopped(u8),
-    Whole(State),
-}
-
 fn asked_of(found: Record) -> Asked
     ensures { result ≡ asked found }
 {
     match found {
-        Record::Fit(x) => Asked::Flag(x),
-        Record::Order(x) => Asked::Flag(x),
+        Record::Fit(x) | Record::Order(x) => Asked::Flag(x),
         Record::Area(a) => Asked::Rectangle(a),
         Record::Row(s) => Asked::InRows(s),
         Record::Column(s) => Asked::InColumns(s),
-        Record::Merged(m) => {
-            let a = m.cells;
-            Asked::Rectangle(a)
-        }
+        Record::Merged(m) => Asked::Rectangle(m.cells),
         _ => Asked::Other,
     }
 }
 
-fn follows_on(last: u8, next: u8) -> bool
-    ensures { result ≡ follows last next }
+fn repeats(mark: Mark) -> bool
+    ensures { result ≡ repeats (place mark) }
 {
-    let repeats = (next == RANGE) | ((ROWS <= next) & (next <= COLUMN_BREAKS));
-    (last < next) | ((last == next) & repeats)
+    matches!(
+        mark,
+        Mark::Area | Mark::Row | Mark::Column | Mark::Merge | Mark::RowBreak | Mark::ColumnBreak
+    )
+}
+
+fn follows_on(last: Option<Mark>, next: Mark) -> bool
+    ensures { result ≡ follows (rank_in last) (place next) }
+{
+    match last {
+        None => true,
+        Some(mark) => (next > mark) | ((mark == next) & repeats(next)),
+    }
 }
 
 fn firsts_ok(a: Range) -> bool
@@ -181,7 +175,7 @@ fn columns_after(next: u64, what: Asked) -> u64
     ensures { result ≡ columns_after next what }
 {
     match what {
-        Asked::InColumns(s) => place(MAX_WORKSHEET_COLUMN as u32, next, s.index as u32),
+        Asked::InColumns(s) => place(MAX_WORKSHEET_COLUMN as u32, next, s.index),
         _ => next,
     }
 }
@@ -197,26 +191,37 @@ fn both(a: Fine, b: Fine) -> Fine
     }
 }
 
-// One more where the ranks are the same.
-fn one_more(n: usize, rank: u8, wanted: u8) -> usize
-    requires { n < 2 ^ 32 }
-    ensures { result ≡ one_more n rank wanted }
-{
-    if rank == wanted { n + 1 } else { n }
-}
-
-// The items after a record with this rank.
-fn count(c: Items, rank: u8) -> Items
+// The items after a record with this mark.
+fn count(c: Items, mark: Mark) -> Items
     requires { Few c }
-    ensures { result ≡ counted c rank }
+    ensures { result ≡ counted c (place mark) }
 {
-    Items {
-        areas: one_more(c.areas, rank, RANGE),
-        rows: one_more(c.rows, rank, ROWS),
-        columns: one_more(c.columns, rank, COLUMNS),
-        merges: one_more(c.merges, rank, MERGES),
-        row_breaks: one_more(c.row_breaks, rank, ROW_BREAKS),
-        column_breaks: one_more(c.column_breaks, rank, COLUMN_BREAKS),
+    match mark {
+        Mark::Area => Items {
+            areas: c.areas + 1,
+            ..c
+        },
+        Mark::Row => Items {
+            rows: c.rows + 1,
+            ..c
+        },
+        Mark::Column => Items {
+            columns: c.columns + 1,
+            ..c
+        },
+        Mark::Merge => Items {
+            merges: c.merges + 1,
+            ..c
+        },
+        Mark::RowBreak => Items {
+            row_breaks: c.row_breaks + 1,
+            ..c
+        },
+        Mark::ColumnBreak => Items {
+            column_breaks: c.column_breaks + 1,
+            ..c
+        },
+        _ => c,
     }
 }
 
@@ -224,17 +229,15 @@ fn advance(t: State, found: Record) -> State
     requires { Few t.items }
     ensures { result ≡ advanced t found }
 {
-    let rank = rank_of(found);
+    let mark = found.mark();
     let what = asked_of(found);
-    let earlier = t.fine;
-    let items = t.items;
     State {
-        rank,
-        ordered: t.ordered & follows_on(t.rank, rank),
-        fine: both(earlier, fine_of(what)),
+        last: Some(mark),
+        ordered: t.ordered & follows_on(t.last, mark),
+        fine: both(t.fine, fine_of(what)),
         rows: rows_after(t.rows, what),
         columns: columns_after(t.columns, what),
-        items: count(items, rank),
+        items: count(t.items, mark),
     }
 }
 
@@ -242,7 +245,7 @@ fn beginning() -> State
     ensures { result ≡ start }
 {
     State {
-        rank: 0,
+        last: None,
         ordered: true,
         fine: Fine {
             flag: true,
@@ -278,84 +281,73 @@ fn cells_ok(bytes: &[u8], count: usize) -> bool
     cells_hold(limit, areas)
 }
 
-// The first of the questions 4 to 7, 15, 8 and 9 that is answered no, or 0. Slices that make up one list are equally long, or not.
-fn first_no(bytes: &[u8], equally_long: bool, t: State) -> u8
+// The first of the questions 4 to 7, 15, 8 and 9 that is answered no, if one is. Slices that make up one list are equally long, or not.
+fn first_no(bytes: &[u8], equally_long: bool, t: State) -> Result<(), Refusal>
     requires { t ≡ after start (records bytes.now) }
-    ensures { result ≡ answer equally_long (question15 bytes.now) t }
+    ensures { no_of result ≡ answer equally_long (question15 bytes.now) t }
 {
     let areas = t.items.areas;
     if !(t.ordered & ((1 <= areas) & (areas <= MOST_AREAS))) {
-        return 4;
+        return Err(Refusal::MisplacedRecord);
     }
     if !t.fine.flag {
-        return 5;
+        return Err(Refusal::BadFlag);
     }
     if !(equally_long & t.fine.first) {
-        return 6;
+        return Err(Refusal::MalformedLists);
     }
     if !t.fine.grid {
-        return 7;
+        return Err(Refusal::OutsideGrid);
     }
     let held = cells_ok(bytes, areas);
     let rising = (t.rows < BEYOND) & (t.columns < BEYOND);
     if !held {
-        return 15;
+        return Err(Refusal::TooManyCells);
     }
     if !rising {
-        return 8;
+        return Err(Refusal::IndexesNotRising);
     }
     if !t.fine.size {
-        return 9;
+        return Err(Refusal::SizeOutOfRange);
     }
-    0
+    Ok(())
 }
 
 // Questions 1 to 3, and what is carried past the records.
-fn survey_job(bytes: &[u8]) -> Survey
+fn survey_job(bytes: &[u8]) -> Result<State, Refusal>
     ensures { result ≡ surveyed bytes.now }
 {
     if bytes.len() > MOST_BYTES {
-        return Survey::Stopped(1);
+        return Err(Refusal::TooManyBytes);
     }
     let mut s = bytes;
     let mut t = beginning();
-    loop {
-        let Step::Read(found, used) = read_record(s) else {
-            return Survey::Stopped(2);
-        };
-        if rank_of(found) == END {
+    while let Some(head) = read_record(s) {
+        if head.found.mark() == Mark::End {
             if s.len() != 2 {
-                return Survey::Stopped(3);
+                return Err(Refusal::EndNotLast);
             }
-            return Survey::Whole(t);
+            return Ok(t);
         }
-        t = advance(t, found);
-        s = &s[used..];
+        t = advance(t, head.found);
+        s = &s[head.bytes..];
     }
+    Err(Refusal::BrokenRecord)
 }
 
-// How many items a job has, or the number of the first question that is answered no. The slices that a caller was lent for the job's
-// answer and that make up one list are equally long, or not.
-pub fn check_job_lent(bytes: &[u8], equally_long: bool) -> Checked
-    ensures { checked_outcome result ≡ verdict_lent equally_long bytes.now }
+// How many items a job has, or the first question that is answered no. The slices that a caller was lent for the job's answer and that make up
+// one list are equally long, or not.
+pub fn check_job_lent(bytes: &[u8], equally_long: bool) -> Result<Items, Refusal>
+    ensures { outcome result ≡ verdict_lent equally_long bytes.now }
 {
-    let found = survey_job(bytes);
-    match found {
-        Survey::Stopped(number) => Checked::Refused(number),
-        Survey::Whole(state) => {
-            let number = first_no(bytes, equally_long, state);
-            if number > 0 {
-                return Checked::Refused(number);
-            }
-            let items = state.items;
-            Checked::Value(items)
-        }
-    }
+    let state = survey_job(bytes)?;
+    first_no(bytes, equally_long, state)?;
+    Ok(state.items)
 }
 
 // The same for a call that was lent no list.
-pub fn check_job(bytes: &[u8]) -> Checked
-    ensures { checked_outcome result ≡ verdict bytes.now }
+pub fn check_job(bytes: &[u8]) -> Result<Items, Refusal>
+    ensures { outcome result ≡ verdict bytes.now }
 {
     check_job_lent(bytes, true)
 }

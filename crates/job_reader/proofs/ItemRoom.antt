@@ -10,8 +10,8 @@ use lib.ListN.{length}
 use borrow.Author.Tests.{le-leb, leb-true}
 use Rattle.units.specs.Outcome.{Outcome, given, refused}
 use Rattle.job_records.specs.declared.records.Record.{Record}
-use Rattle.job_records.specs.declared.records.Step.{Step}
-use Rattle.job_records.specs.declared.records.Step.TheVariants.{Read, Nothing}
+use Rattle.job_records.specs.declared.records.Head.{Head}
+use Rattle.std.specs.Prelude.{Option, Some, None}
 use Rattle.job_questions.specs.declared.Items.{Items}
 use Rattle.job_records.specs.Records.{Format, Found, RW, CL, MR, BR, BC, found, find, formats, known, head_record, step, rank, is_end, used, onto}
 use Rattle.job_records.specs.Records.{records_from, records, marked}
@@ -54,9 +54,10 @@ found_heavy k w (f ∷ fs) x s r n t e i =
 abbrev Weighs : ℕ → ℕ → Type 0
 Weighs k w = (s : List ℕ) → T (heavy k w s formats)
 
-step_heavy : (k w : ℕ) → Weighs k w → (s : List ℕ) (r : Record) (n : ℕ) → step s ≡ Read r n → eqb (rank r) k ≡ true → w ≤ n
+step_heavy : (k w : ℕ) → Weighs k w → (s : List ℕ) (q : Head) → step s ≡ Some q → eqb (rank q.found) k ≡ true → w ≤ q.bytes
 unfolding head_record known
-step_heavy k w h s r n i e = found_heavy k w formats _ s r n (h s) e (in_whole (length s) (known s) r n (step_found s r n i)).0
+step_heavy k w h s q i e =
+    found_heavy k w formats _ s q.found q.bytes (h s) e (in_whole (length s) (known s) q.found q.bytes (step_found s q i)).0
 
 -- ---- the bytes of all records with a mark
 
@@ -77,18 +78,19 @@ module _ (k w : ℕ) (h : Weighs k w) where
   bytes_from (suc j) (b ∷ bs) u = let i = bytes_from j bs (omega arith) in omega arith
   bytes_from zero (b ∷ bs) u = go (step (b ∷ bs)) refl (λ m v. bytes_from m bs v)
     where
-      here : (r : Record) (n : ℕ) (e : Bool) → step (b ∷ bs) ≡ Read r n → ((m : ℕ) → m ≤ length bs → length (marked k (records_from m bs)) * w + m ≤ length bs)
-          → length (marked k (cond e [] (r ∷ records_from (pred n) bs))) * w + 0 ≤ suc (length bs)
-      here r n true i more = omega arith
-      here r n false i more =
-          let m = step_used (b ∷ bs) (Read r n) r n (sym i) refl in
-          let v = next r n (length bs) (records_from (pred n) bs) m.0 (step_heavy k w h (b ∷ bs) r n i) (more (pred n) (omega (arith, m.0, m.1))) in
+      here : (q : Head) (e : Bool) → step (b ∷ bs) ≡ Some q → ((m : ℕ) → m ≤ length bs → length (marked k (records_from m bs)) * w + m ≤ length bs)
+          → length (marked k (cond e [] (q.found ∷ records_from (pred q.bytes) bs))) * w + 0 ≤ suc (length bs)
+      here q true i more = omega arith
+      here q false i more =
+          let m = step_used (b ∷ bs) (Some q) q (sym i) refl in
+          let l : pred q.bytes ≤ length bs = omega (arith, m.0, m.1) in
+          let v = next q.found q.bytes (length bs) (records_from (pred q.bytes) bs) m.0 (step_heavy k w h (b ∷ bs) q i) (more (pred q.bytes) l) in
           omega (arith, v)
 
-      go : (f : Step) → step (b ∷ bs) ≡ f → ((m : ℕ) → m ≤ length bs → length (marked k (records_from m bs)) * w + m ≤ length bs)
+      go : (f : Option Head) → step (b ∷ bs) ≡ f → ((m : ℕ) → m ≤ length bs → length (marked k (records_from m bs)) * w + m ≤ length bs)
           → length (marked k (onto f (records_from (pred (used f)) bs))) * w + 0 ≤ suc (length bs)
-      go Nothing i more = omega arith
-      go (Read r n) i more = here r n (is_end r) i more
+      go None i more = omega arith
+      go (Some q) i more = here q (is_end q.found) i more
 
   pub bytes_of : (s : List ℕ) → length (marked k (records s)) * w ≤ length s
   unfolding records

@@ -10,12 +10,13 @@ use Rattle.units.specs.Outcome.{given, refused}
 use Rattle.planner_rules.specs.Slots.{written}
 use Rattle.job_records.specs.declared.records.Record.{Record}
 use Rattle.job_questions.specs.declared.Items.{Items}
-use Rattle.job_questions.specs.declared.Checked.{Checked}
-use Rattle.job_questions.specs.declared.Checked.TheVariants as checked
+use Rattle.units.specs.declared.refusal.Refusal.{Refusal}
+use Rattle.units.specs.Refusals.{number_of, outcome}
+use Rattle.std.specs.Prelude.{Result, Ok, Err}
+use Rattle.job_reader.specs.declared.lists.Job.{Job}
 use Rattle.job_settings.specs.declared.JobSettings.{JobSettings}
-use Rattle.job_reader.specs.declared.lists.Reading.TheVariants.{Value, Refused}
 use Rattle.job_records.specs.Records.{AR, RW, CL, MR, BR, BC, field, records, marked, values}
-use Rattle.job_questions.specs.Verdict.{ordered, questions, in_order, items_of, verdict_lent, checked_outcome}
+use Rattle.job_questions.specs.Verdict.{ordered, questions, in_order, items_of, verdict_lent}
 use Rattle.job_reader.specs.Settings.{settings_of}
 use Rattle.job_walk.specs.Walk.{Sorted}
 use Rattle.job_reader.specs.Walk.{From, Past}
@@ -54,17 +55,20 @@ all_past v more ((n, q) ∷ qs) a = rw a.0 (all_past v more qs a.1)
 
 -- ---- question 11, after the others
 
-module _ (even : Bool) (s : List ℕ) (room : Items) (f : Checked) (e : checked_outcome f ≡ verdict_lent even s) where
-  pub admit_no : (n : ℕ) → f ≡ checked.Refused n → refused n ≡ admitted even room s
-  unfolding verdict_lent admitted
-  admit_no n k =
-      in_order_more (items_of (records s)) (items_of (records s)) ((11, fit_in (items_of (records s)) room) ∷ []) n (questions even s)
-      (sym (ap checked_outcome k) ∙ e)
+-- a no before it is the answer
+pub admit_refused : (even : Bool) (s : List ℕ) (room : Items) (n : ℕ) → refused n ≡ verdict_lent even s → refused n ≡ admitted even room s
+unfolding verdict_lent admitted
+admit_refused even s room n e =
+    in_order_more (items_of (records s)) (items_of (records s)) ((11, fit_in (items_of (records s)) room) ∷ []) n (questions even s) e
 
-  module _ (items : Items) (k : f ≡ checked.Value items) where
+module _ (even : Bool) (s : List ℕ) (room : Items) (f : Result Items Refusal) (e : outcome f ≡ verdict_lent even s) where
+  pub admit_no : (x : Refusal) → f ≡ Err x → refused (number_of x) ≡ admitted even room s
+  admit_no x k = admit_refused even s room (number_of x) (sym (ap outcome k) ∙ e)
+
+  module _ (items : Items) (k : f ≡ Ok items) where
     is_questioned : given items ≡ in_order (questions even s) (items_of (records s))
     unfolding verdict_lent
-    is_questioned = sym (ap checked_outcome k) ∙ e
+    is_questioned = sym (ap outcome k) ∙ e
 
     counted : items ≡ items_of (records s)
     counted = (in_order_given (items_of (records s)) (items_of (records s)) (questions even s) items is_questioned).0
@@ -86,7 +90,7 @@ read_given : (s : List ℕ) (l : Lists) → given (job_of (records s)) ≡ in_or
 unfolding read_job
 read_given s l h = h
 
-read_refused : (s : List ℕ) (l : Lists) (n : ℕ) → refused n ≡ admitted_to s l → refused n ≡ read_job s l
+pub read_refused : (s : List ℕ) (l : Lists) (n : ℕ) → refused n ≡ admitted_to s l → refused n ≡ read_job s l
 unfolding admitted read_job
 read_refused s l n h = in_order_refused (items_of (records s)) (job_of (records s)) (asked (even_lists l) (room_in l) s) n h
 
@@ -94,9 +98,9 @@ read_refused s l n h = in_order_refused (items_of (records s)) (job_of (records 
 pub record Admitted (s : List ℕ) (l : Lists) (items : Items) : Type 0 where
   pub is : given items ≡ in_order (asked (even_lists l) (room_in l) s) (items_of (records s))
 
-pub admitted_is : {s : List ℕ} {l : Lists} {items : Items} {f : Checked} → checked_outcome f ≡ admitted_to s l → f ≡ checked.Value items → Admitted s l items
+pub admitted_is : {s : List ℕ} {l : Lists} {items : Items} {f : Result Items Refusal} → outcome f ≡ admitted_to s l → f ≡ Ok items → Admitted s l items
 unfolding admitted
-admitted_is e k = record { is = sym (ap checked_outcome k) ∙ e }
+admitted_is e k = record { is = sym (ap outcome k) ∙ e }
 
 module _ {s : List ℕ} {l : Lists} {items : Items} (w : Admitted s l items) where
   all : All (asked (even_lists l) (room_in l) s)
@@ -115,7 +119,7 @@ module _ {s : List ℕ} {l : Lists} {items : Items} (w : Admitted s l items) whe
 
   -- the job that was read
   pub job_given : {after : Lists} {set : JobSettings} → set ≡ settings_of (records s) → AllWritten s l after → JobRead s
-      (Value (record { settings = set; items = items })) l after
+      (Ok (record { settings = set; items = items })) l after
   job_given i v =
       let g = in_order_given (items_of (records s)) (job_of (records s)) (asked (even_lists l) (room_in l) s) items w.is in
       let q : given (job_of (records s)) ≡ read_job s l = read_given s l g.1 in
@@ -134,11 +138,12 @@ module _ {s : List ℕ} {l : Lists} {items : Items} (w : Admitted s l items) whe
       }
 
 -- a job that is refused
-pub job_refused : {s : List ℕ} {l : Lists} {f : Checked} {n : ℕ} → checked_outcome f ≡ admitted_to s l → f ≡ checked.Refused n → JobRead s (Refused n) l l
-job_refused {s} {l} {f} {n} e k =
-    let q : refused n ≡ read_job s l = read_refused s l n (sym (ap checked_outcome k) ∙ e) in
+pub job_refused : {s : List ℕ} {l : Lists} {f : Result Items Refusal} {x : Refusal} {r : Result Job Refusal}
+    → outcome f ≡ admitted_to s l → f ≡ Err x → outcome r ≡ refused (number_of x) → JobRead s r l l
+job_refused {s} {l} {f} {x} {r} e k h =
+    let q : refused (number_of x) ≡ read_job s l = read_refused s l (number_of x) (sym (ap outcome k) ∙ e) in
     record {
-      answer = q;
+      answer = h ∙ q;
       row_indexes_are = rw (← q);
       row_sizes_are = rw (← q);
       column_indexes_are = rw (← q);

@@ -10,10 +10,9 @@ use lib.Dec.{eqb}
 use lib.ListN.{length, take, drop, length-drop}
 use lib.Seq.{drop-drop}
 use borrow.Author.Tests.{eq-eqb, ne_eqb, eqb-true, eqb-false}
-use Rattle.job_records.specs.declared.records.Record.{Record}
 use Rattle.job_records.specs.Records.{step, rank, records, marked}
-use Rattle.job_walk.specs.declared.Next.{Next}
-use Rattle.job_walk.specs.declared.Next.TheVariants.{Kind, Stop}
+use Rattle.job_records.specs.declared.records.Head.{Head}
+use Rattle.std.specs.Prelude.{Option, Some, None}
 use Rattle.job_walk.specs.Walk.{before, Sorted}
 use Rattle.job_reader.specs.Walk.{of_kind, Past}
 use Rattle.job_records.proofs.RecordLaws.{part}
@@ -31,37 +30,37 @@ apart k n h o =
 
 -- ---- the record of a kind
 
-pub kind_none : (k : ℕ) {g f : Next} → f ≡ g → f ≡ Stop → Stop ≡ of_kind k g
+pub kind_none : (k : ℕ) {g f : Option Head} → f ≡ g → f ≡ None → None ≡ of_kind k g
 unfolding of_kind
 kind_none k e i = sym (ap (of_kind k) (sym e ∙ i))
 
-module _ (k : ℕ) {g f : Next} (e : f ≡ g) {r : Record} {n x : ℕ} (i : f ≡ Kind r n) (j : x ≡ rank r) where
-  pub kind_some : x ≡ k → Kind r n ≡ of_kind k g
+module _ (k : ℕ) {g f : Option Head} (e : f ≡ g) {h : Head} {x : ℕ} (i : f ≡ Some h) (j : x ≡ rank h.found) where
+  pub kind_some : x ≡ k → Some h ≡ of_kind k g
   unfolding of_kind
-  kind_some h = rw (← e, i, eq-eqb (rank r) k (sym j ∙ h))
+  kind_some l = rw (← e, i, eq-eqb (rank h.found) k (sym j ∙ l))
 
-  pub kind_other : (x ≡ k → ⊥) → Stop ≡ of_kind k g
+  pub kind_other : (x ≡ k → ⊥) → None ≡ of_kind k g
   unfolding of_kind
-  kind_other h = rw (← e, i, ne_eqb (rank r) k (λ q. h (j ∙ q)))
+  kind_other l = rw (← e, i, ne_eqb (rank h.found) k (λ q. l (j ∙ q)))
 
-kind_goes : (k : ℕ) (g : Next) (r : Record) (n : ℕ) → of_kind k g ≡ Kind r n → (g ≡ Kind r n) × (rank r ≡ k)
+kind_goes : (k : ℕ) (g : Option Head) (h : Head) → of_kind k g ≡ Some h → (g ≡ Some h) × (rank h.found ≡ k)
 unfolding of_kind
-kind_goes k Stop r n h = let z : ◌≡◌ {A = ℕ} 0 1 = cc in absurd (omega arith)
-kind_goes k (Kind q m) r n h = go (eqb (rank q) k) refl h
+kind_goes k None h e = let z : ◌≡◌ {A = ℕ} 0 1 = cc in absurd (omega arith)
+kind_goes k (Some f) h e = go (eqb (rank f.found) k) refl e
   where
-    go : (b : Bool) → eqb (rank q) k ≡ b → cond b (Kind q m) Stop ≡ Kind r n → (Kind q m ≡ Kind r n) × (rank r ≡ k)
-    go true i h = let j : q ≡ r = cc in (h, ap rank (sym j) ∙ eqb-true (rank q) k i)
-    go false i h = let z : ◌≡◌ {A = ℕ} 0 1 = cc in absurd (omega arith)
+    go : (b : Bool) → eqb (rank f.found) k ≡ b → cond b (Some f) None ≡ Some h → (Some f ≡ Some h) × (rank h.found ≡ k)
+    go true i e = let j : f ≡ h = cc in (e, ap (λ (x : Head). rank x.found) (sym j) ∙ eqb-true (rank f.found) k i)
+    go false i e = let z : ◌≡◌ {A = ℕ} 0 1 = cc in absurd (omega arith)
 
 -- no record of the kind comes next: nothing comes, or one of another kind
-kind_stops : {X : Type 0} (k : ℕ) (g : Next) → of_kind k g ≡ Stop → (g ≡ Stop → X) → ((r : Record) (n : ℕ) → g ≡ Kind r n → (rank r ≡ k → ⊥) → X) → X
+kind_stops : {X : Type 0} (k : ℕ) (g : Option Head) → of_kind k g ≡ None → (g ≡ None → X) → ((h : Head) → g ≡ Some h → (rank h.found ≡ k → ⊥) → X) → X
 unfolding of_kind
-kind_stops k Stop h p q = p refl
-kind_stops {X} k (Kind r n) h p q = go (eqb (rank r) k) refl h
+kind_stops k None e p q = p refl
+kind_stops {X} k (Some h) e p q = go (eqb (rank h.found) k) refl e
   where
-    go : (b : Bool) → eqb (rank r) k ≡ b → cond b (Kind r n) Stop ≡ Stop → X
-    go true i h = let z : ◌≡◌ {A = ℕ} 0 1 = cc in absurd (omega arith)
-    go false i h = q r n refl (eqb-false (rank r) k i)
+    go : (b : Bool) → eqb (rank h.found) k ≡ b → cond b (Some h) None ≡ None → X
+    go true i e = let z : ◌≡◌ {A = ℕ} 0 1 = cc in absurd (omega arith)
+    go false i e = q h refl (eqb-false (rank h.found) k i)
 
 -- ---- what is left of b
 
@@ -97,53 +96,53 @@ going_past i j b s w h =
     let l = w.suffix.long in
     record { within = omega arith; left = rw (← w.suffix.is) (record { sorted = h; kept = w.kept }) }
 
-module _ {i j : ℕ} {b s : List ℕ} (w : Going i j b s) {f : Next} (e : f ≡ before (step s)) where
-  pub past_end : f ≡ Stop → Past j b (length b - length s)
+module _ {i j : ℕ} {b s : List ℕ} (w : Going i j b s) {f : Option Head} (e : f ≡ before (step s)) where
+  pub past_end : f ≡ None → Past j b (length b - length s)
   past_end k = going_past i j b s w (rw (walk_end s e k) tt)
 
-  pub past_at : {r : Record} {n : ℕ} → f ≡ Kind r n → j ≤ rank r → Past j b (length b - length s)
+  pub past_at : {h : Head} → f ≡ Some h → j ≤ rank h.found → Past j b (length b - length s)
   past_at k h = going_past i j b s w (rw (walk_on s e k) (h, (walk_sorted s e k i w.sorted).1))
 
   -- a record before the marks from j on
-  pub going_on : {r : Record} {n : ℕ} → f ≡ Kind r n → rank r < j → Going i j b (take (length s - n) (drop n s))
-  going_on {r} {n} k h =
+  pub going_on : {h : Head} → f ≡ Some h → rank h.found < j → Going i j b (take (length s - h.bytes) (drop h.bytes s))
+  going_on {h} k l =
       let v = walk_sorted s e k i w.sorted in
       record {
-        sorted = sorted_less i (rank r) (records (take (length s - n) (drop n s))) v.0 v.1;
-        kept = λ m l. sym (walk_no s e k m (λ q. omega arith)) ∙ w.kept m l;
-        suffix = suffix_on b s n w.suffix (walk_used s e k).within;
+        sorted = sorted_less i (rank h.found) (records (take (length s - h.bytes) (drop h.bytes s))) v.0 v.1;
+        kept = λ m o. sym (walk_no s e k m (λ q. omega arith)) ∙ w.kept m o;
+        suffix = suffix_on b s h.bytes w.suffix (walk_used s e k).within;
       }
 
 marked-nil : (k : ℕ) → marked k [] ≡ []
 unfolding marked
 marked-nil k = refl
 
--- r is the next record of the kind k in s, which is what is left of b; it has n bytes
-pub record Comes (k : ℕ) (b s : List ℕ) (r : Record) (n : ℕ) : Type 0 where
-  pub rank_is : rank r ≡ k
-  pub used : Used s n
-  pub head : marked k (records s) ≡ r ∷ marked k (records (take (length s - n) (drop n s)))
-  pub on : Going k (k + 1) b (take (length s - n) (drop n s))
+-- h is the next record of the kind k in s, which is what is left of b
+pub record Comes (k : ℕ) (b s : List ℕ) (h : Head) : Type 0 where
+  pub rank_is : rank h.found ≡ k
+  pub used : Used s h.bytes
+  pub head : marked k (records s) ≡ h.found ∷ marked k (records (take (length s - h.bytes) (drop h.bytes s)))
+  pub on : Going k (k + 1) b (take (length s - h.bytes) (drop h.bytes s))
 
 -- a loop over the records of a kind, which stand at the head
-module _ {k : ℕ} {b s : List ℕ} (w : Going k (k + 1) b s) {f : Next} (e : f ≡ of_kind k (before (step s))) where
+module _ {k : ℕ} {b s : List ℕ} (w : Going k (k + 1) b s) {f : Option Head} (e : f ≡ of_kind k (before (step s))) where
   -- none is left: all of the kind were passed
-  pub kind_done : f ≡ Stop → Past (k + 1) b (length b - length s) × (marked k (records s) ≡ [])
-  kind_done h = (
-    kind_stops k (before (step s)) (sym e ∙ h) (past_end w refl) (λ r n q o. past_at w refl q (above q o)),
-    kind_stops k (before (step s)) (sym e ∙ h) (λ q. rw (walk_end s refl q) (marked-nil k)) (λ r n q o. walk_no s refl q k o ∙ after q o),
+  pub kind_done : f ≡ None → Past (k + 1) b (length b - length s) × (marked k (records s) ≡ [])
+  kind_done i = (
+    kind_stops k (before (step s)) (sym e ∙ i) (past_end w refl) (λ h q o. past_at w refl q (above q o)),
+    kind_stops k (before (step s)) (sym e ∙ i) (λ q. rw (walk_end s refl q) (marked-nil k)) (λ h q o. walk_no s refl q k o ∙ after q o),
   )
     where
-      above : {r : Record} {n : ℕ} → before (step s) ≡ Kind r n → (rank r ≡ k → ⊥) → k + 1 ≤ rank r
-      above {r} q o = apart k (rank r) (walk_sorted s refl q k w.sorted).0 o
+      above : {h : Head} → before (step s) ≡ Some h → (rank h.found ≡ k → ⊥) → k + 1 ≤ rank h.found
+      above {h} q o = apart k (rank h.found) (walk_sorted s refl q k w.sorted).0 o
 
-      after : {r : Record} {n : ℕ} → before (step s) ≡ Kind r n → (rank r ≡ k → ⊥) → marked k (records (take (length s - n) (drop n s))) ≡ []
-      after {r} {n} q o =
-          sorted_above k (rank r) (records (take (length s - n) (drop n s))) (omega (arith, above q o)) (walk_sorted s refl q k w.sorted).1
+      after : {h : Head} → before (step s) ≡ Some h → (rank h.found ≡ k → ⊥) → marked k (records (take (length s - h.bytes) (drop h.bytes s))) ≡ []
+      after {h} q o =
+          sorted_above k (rank h.found) (records (take (length s - h.bytes) (drop h.bytes s))) (omega (arith, above q o)) (walk_sorted s refl q k w.sorted).1
 
-  pub kind_next : {r : Record} {n : ℕ} → f ≡ Kind r n → Comes k b s r n
-  kind_next {r} {n} h =
-      let this = kind_goes k (before (step s)) r n (sym e ∙ h) in
+  pub kind_next : {h : Head} → f ≡ Some h → Comes k b s h
+  kind_next {h} i =
+      let this = kind_goes k (before (step s)) h (sym e ∙ i) in
       record {
         rank_is = this.1;
         used = walk_used s refl this.0;

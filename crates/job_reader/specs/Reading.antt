@@ -1,6 +1,6 @@
 -- The call that reads a job into lent lists: document 01, sections "Jobs" and "Questions in order". Assumes nothing.
-use Rattle.std.specs.Prelude.{◌≡◌, ℕ, Bool, true, ◌&&◌, List, [], ◌∷◌, ◌++◌, length, leb, eqb}
-use Rattle.units.specs.Outcome.{Outcome, given, refused}
+use Rattle.std.specs.Prelude.{◌≡◌, ℕ, Bool, true, ◌&&◌, List, [], ◌∷◌, ◌++◌, length, leb, eqb, Result}
+use Rattle.units.specs.Outcome.{Outcome}
 use Rattle.planner_rules.specs.Slots.{written}
 use Rattle.planner_rules.specs.Partition.{lent}
 use Rattle.job_records.specs.Records.{RW, CL, MR, BR, BC, records, values}
@@ -9,8 +9,9 @@ use Rattle.job_reader.specs.Settings.{settings_of}
 use Rattle.job_records.specs.declared.records.Record.{Record}
 use Rattle.job_questions.specs.declared.Items.{Items}
 use Rattle.job_reader.specs.declared.lists.Job.{Job}
-use Rattle.job_reader.specs.declared.lists.Reading.{Reading}
-use Rattle.job_reader.specs.declared.lists.Reading.TheVariants.{Value, Refused}
+use Rattle.job_reader.specs.declared.lists.JobLists.{JobLists}
+use Rattle.units.specs.declared.refusal.Refusal.{Refusal}
+use Rattle.units.specs.Refusals.{outcome}
 
 -- ten lists: two of rows and two of columns (indexes and sizes), four of merges, and the breaks
 pub record Lists : Type 0 where
@@ -39,6 +40,12 @@ lists ri rs ci cs fr fc lr lc rb cb = record {
   row_breaks = rb;
   column_breaks = cb;
 }
+
+-- the lists that are lent together
+abbrev pub lists_in : JobLists → Lists
+lists_in l =
+    lists l.row_indexes.now l.row_sizes.now l.column_indexes.now l.column_sizes.now l.merge_first_rows.now l.merge_first_columns.now
+    l.merge_last_rows.now l.merge_last_columns.now l.row_breaks.now l.column_breaks.now
 
 -- 6: "Slices that make up one list equally long", of the lent lists
 abbrev pub even_lists : Lists → Bool
@@ -84,14 +91,9 @@ job_of rs = record { settings = settings_of rs; items = items_of rs }
 unfoldable pub read_job : List ℕ → Lists → Outcome Job
 read_job s l = in_order (asked (even_lists l) (room_in l) s) (job_of (records s))
 
--- the value or the number that each case of `Reading` stands for
-abbrev pub reading_outcome : Reading → Outcome Job
-reading_outcome (Value j) = given j
-reading_outcome (Refused n) = refused n
-
 -- the answer r of the call and the lent lists, which were `before`, for the bytes s
-pub record JobRead (s : List ℕ) (r : Reading) (before after : Lists) : Type 0 where
-  pub answer : reading_outcome r ≡ read_job s before
+pub record JobRead (s : List ℕ) (r : Result Job Refusal) (before after : Lists) : Type 0 where
+  pub answer : outcome r ≡ read_job s before
   -- "RW u32, i64"
   pub row_indexes_are : after.row_indexes ≡ lent (read_job s before) (values RW 0 (records s)) before.row_indexes
   pub row_sizes_are : after.row_sizes ≡ lent (read_job s before) (values RW 1 (records s)) before.row_sizes

@@ -1,20 +1,17 @@
 -- How the records of a job are walked once question 4 is answered yes: marks that never fall, so that the items of a kind stand together.
 -- For the private functions of `src/settings.rt` and `src/lists.rt`. Assumes nothing.
-use Rattle.std.specs.Prelude.{◌≡◌, Bool, cond, ◌||◌, List, ℕ, ◌≤◌, eqb, length, drop, nat_abs}
+use Rattle.std.specs.Prelude.{◌≡◌, Bool, cond, ◌||◌, List, ℕ, ◌≤◌, eqb, length, drop, Option, Some, None}
 use Rattle.job_records.specs.Records.{PC, SC, FW, FH, FT, OD, RW, CL, BR, BC, rank, field, marked, records}
 use Rattle.job_records.specs.declared.records.Range.{Range}
-use Rattle.job_records.specs.declared.records.RowSlot.{RowSlot}
-use Rattle.job_records.specs.declared.records.ColumnSlot.{ColumnSlot}
 use Rattle.job_records.specs.declared.records.Record.{Record}
-use Rattle.job_walk.specs.declared.Next.{Next}
-use Rattle.job_walk.specs.declared.Next.TheVariants.{Kind, Stop}
+use Rattle.job_records.specs.declared.records.Head.{Head}
 use Rattle.job_walk.specs.Walk.{Sorted}
 use Rattle.job_reader.specs.declared.lists.Measured.{Measured}
 
 -- the next record, where its mark is k
-unfoldable pub of_kind : ℕ → Next → Next
-of_kind k Stop = Stop
-of_kind k (Kind r n) = cond (eqb (rank r) k) (Kind r n) Stop
+unfoldable pub of_kind : ℕ → Option Head → Option Head
+of_kind k None = None
+of_kind k (Some h) = cond (eqb (rank h.found) k) (Some h) None
 
 -- s is the part of b that has the marks from k on
 pub record From (k : ℕ) (b s : List ℕ) : Type 0 where
@@ -45,13 +42,6 @@ is_break k = eqb k BR || eqb k BC
 -- a slot's index and size
 abbrev pub measured : Record → Measured
 measured r = record { index = field 0 r; size = field 1 r }
-
--- a row and a column as slots
-abbrev pub row_measured : RowSlot → Measured
-row_measured s = record { index = s.index; size = nat_abs s.size }
-
-abbrev pub column_measured : ColumnSlot → Measured
-column_measured s = record { index = s.index; size = nat_abs s.size }
 
 -- the four indexes of a merge
 abbrev pub cells : Record → Range

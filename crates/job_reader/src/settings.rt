@@ -1,96 +1,78 @@
 // The settings of a job, each with whether its record is there: document 01, section "Jobs".
 ghost use Rattle.std.specs.Prelude.{◌≡◌, true, length};
 ghost use Rattle.job_records.specs.Records.{records, marked, MG, LP, AR, TR, TC};
+ghost use Rattle.job_records.specs.Marks.{place};
 ghost use Rattle.job_walk.specs.Walk.{Sorted};
 ghost use Rattle.job_reader.specs.Settings as section;
 ghost use Rattle.job_reader.specs.Walk.{is_number, is_flag};
 
-use job_records::ranks::{
-    COLUMN_TITLE, FIT, FIT_HEIGHT, FIT_WIDTH, HEADINGS, LANDSCAPE, MARGINS, ORDER, PAGE_LIMIT,
-    PAPER, PERCENT, ROW_TITLE,
-};
-use job_records::{MarginBits, Record};
+use job_records::{MarginBits, Mark, Record};
 use job_settings::JobSettings;
-use job_walk::{Lookup, areas_of, cell_limit_of, find_record};
+use job_walk::{areas_of, cell_limit_of, find_record};
 use planner_rules::Title;
 
-fn number_of(bytes: &[u8], wanted: u8) -> Option<u16>
+fn number_of(bytes: &[u8], wanted: Mark) -> Option<u16>
     requires sorted { Sorted 0 (records bytes.now) }
-    requires wanted_value { is_number wanted ≡ true }
-    ensures { result ≡ section.number_from (marked wanted (records bytes.now)) }
+    requires wanted_value { is_number (place wanted) ≡ true }
+    ensures { result ≡ section.number_from (marked (place wanted) (records bytes.now)) }
 {
-    let Lookup::Found(found) = find_record(bytes, wanted, 0) else {
-        return None;
-    };
-    match found {
+    match find_record(bytes, wanted, 0)? {
         Record::Paper(x) => Some(x),
         Record::Scale(x) => Some(x),
         Record::Wide(x) => Some(x),
         Record::High(x) => Some(x),
-        _ => None,
+        _ => unreachable!(),
     }
 }
 
-fn flag_of(bytes: &[u8], wanted: u8) -> Option<u8>
+fn flag_of(bytes: &[u8], wanted: Mark) -> Option<u8>
     requires sorted { Sorted 0 (records bytes.now) }
-    requires wanted_value { is_flag wanted ≡ true }
-    ensures { result ≡ section.flag_from (marked wanted (records bytes.now)) }
+    requires wanted_value { is_flag (place wanted) ≡ true }
+    ensures { result ≡ section.flag_from (marked (place wanted) (records bytes.now)) }
 {
-    let Lookup::Found(found) = find_record(bytes, wanted, 0) else {
-        return None;
-    };
-    match found {
+    match find_record(bytes, wanted, 0)? {
         Record::Fit(x) => Some(x),
         Record::Order(x) => Some(x),
-        _ => None,
+        _ => unreachable!(),
     }
 }
 
-fn is_there(bytes: &[u8], wanted: u8) -> bool
+fn is_there(bytes: &[u8], wanted: Mark) -> bool
     requires { Sorted 0 (records bytes.now) }
-    ensures { result ≡ section.is_there (marked wanted (records bytes.now)) }
+    ensures { result ≡ section.is_there (marked (place wanted) (records bytes.now)) }
 {
-    let Lookup::Found(_) = find_record(bytes, wanted, 0) else {
-        return false;
-    };
-    true
+    find_record(bytes, wanted, 0).is_some()
 }
 
 fn margins_of(bytes: &[u8]) -> Option<MarginBits>
     requires { Sorted 0 (records bytes.now) }
     ensures { result ≡ section.margins_from (marked MG (records bytes.now)) }
 {
-    let Lookup::Found(found) = find_record(bytes, MARGINS, 0) else {
-        return None;
-    };
-    let Record::Margin(margins) = found else {
-        return None;
-    };
-    Some(margins)
+    match find_record(bytes, Mark::Margins, 0)? {
+        Record::Margin(margins) => Some(margins),
+        _ => unreachable!(),
+    }
 }
 
 fn limit_of(bytes: &[u8]) -> Option<u64>
     requires { Sorted 0 (records bytes.now) }
     ensures { result ≡ section.limit_from (marked LP (records bytes.now)) }
 {
-    let Lookup::Found(found) = find_record(bytes, PAGE_LIMIT, 0) else {
-        return None;
-    };
-    let Record::Limit(limit) = found else {
-        return None;
-    };
-    Some(limit)
+    match find_record(bytes, Mark::PageLimit, 0)? {
+        Record::Limit(limit) => Some(limit),
+        _ => unreachable!(),
+    }
 }
 
 fn row_title_of(bytes: &[u8]) -> Title
     requires { Sorted 0 (records bytes.now) }
     ensures { result ≡ section.title_from (marked TR (records bytes.now)) }
 {
-    let Lookup::Found(found) = find_record(bytes, ROW_TITLE, 0) else {
+    let Some(found) = find_record(bytes, Mark::RowTitle, 0) else {
         return Title::Absent;
     };
     let Record::TitleRows(first, last) = found else {
-        return Title::Absent;
+        unreachable!()
     };
     Title::Pair(first, last)
 }
@@ -99,31 +81,30 @@ fn column_title_of(bytes: &[u8]) -> Title
     requires { Sorted 0 (records bytes.now) }
     ensures { result ≡ section.title_from (marked TC (records bytes.now)) }
 {
-    let Lookup::Found(found) = find_record(bytes, COLUMN_TITLE, 0) else {
+    let Some(found) = find_record(bytes, Mark::ColumnTitle, 0) else {
         return Title::Absent;
     };
     let Record::TitleColumns(first, last) = found else {
-        return Title::Absent;
+        unreachable!()
     };
     Title::Pair(first as u32, last as u32)
 }
 
-// The settings of a job with so many areas.
 pub(crate) fn settings_of(bytes: &[u8], areas: usize) -> JobSettings
     requires sorted { Sorted 0 (records bytes.now) }
     requires areas_value { areas ≡ length (marked AR (records bytes.now)) }
     ensures { result ≡ section.settings_of (records bytes.now) }
 {
     JobSettings {
-        paper: number_of(bytes, PAPER),
-        landscape: is_there(bytes, LANDSCAPE),
+        paper: number_of(bytes, Mark::Paper),
+        landscape: is_there(bytes, Mark::Landscape),
         margins: margins_of(bytes),
-        percent: number_of(bytes, PERCENT),
-        fit_width: number_of(bytes, FIT_WIDTH),
-        fit_height: number_of(bytes, FIT_HEIGHT),
-        fit: flag_of(bytes, FIT),
-        order: flag_of(bytes, ORDER),
-        headings: is_there(bytes, HEADINGS),
+        percent: number_of(bytes, Mark::Percent),
+        fit_width: number_of(bytes, Mark::FitWidth),
+        fit_height: number_of(bytes, Mark::FitHeight),
+        fit: flag_of(bytes, Mark::Fit),
+        order: flag_of(bytes, Mark::Order),
+        headings: is_there(bytes, Mark::Headings),
         page_limit: limit_of(bytes),
         cell_limit: cell_limit_of(bytes),
         areas: areas_of(bytes, areas),

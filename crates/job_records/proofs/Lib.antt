@@ -1,3 +1,4 @@
 -- Laws that belong to no one function.
 pub mod NumberLaws
+pub mod MarkLaws
 pub mod RecordLaws

@@ -1,8 +1,7 @@
 -- Laws of `specs/Records.antt`. Assumes nothing.
 use mathlib.Core.Path.{◌≡◌, refl, sym, ap, ◌∙◌}
-use mathlib.Core.Bool.{Bool, true, false, cond, ◌||◌}
+use mathlib.Core.Bool.{Bool, true, false, cond}
 use mathlib.Core.List.{List, [], ◌∷◌}
-use mathlib.Core.Logic.{inl, inr}
 use Prim.Native.Nat.{ℕ, zero, suc, pred, ◌-◌, ◌≤◌, ◌<◌}
 use native.Mathlib.Decide.{dec_le}
 use native.Mathlib.Nat.{lt_of_not-le}
@@ -10,161 +9,90 @@ use native.Mathlib.Omega.{arith}
 use lib.Dec.{T, eqb, leb, leb→le}
 use lib.ListN.{length, take, drop, length-drop}
 use lib.Seq.{take_all}
-use mir.Facts.{or_yes}
-use mir.Val.{has_key}
-use types.Run.{OneOf, hit}
 use borrow.Author.Tests.{ne_eqb, le-leb, lt-leb}
 use Rattle.job_records.specs.LittleEndian.{u16_at}
 use Rattle.job_records.specs.declared.records.Record.{Record}
-use Rattle.job_records.specs.declared.records.Step.{Step}
-use Rattle.job_records.specs.declared.records.Step.TheVariants.{Read, Nothing}
+use Rattle.job_records.specs.declared.records.Head.{Head}
+use Rattle.job_records.specs.declared.marks.Mark.{Mark}
+use Rattle.std.specs.Prelude.{Option, Some, None}
+use Rattle.job_records.specs.Marks.{number_of, marks, spelled_by, mark_of, bytes_of}
 use Rattle.units.specs.Outcome.{Outcome, given, refused}
-use Rattle.job_records.specs.Records.{Format, Found, found, find, formats, size_in, known, whole, head_record, step_outcome, step_of, step, is_end, goes_on}
+use Rattle.job_records.specs.Records.{Format, Found, found, find, formats, kind_of, known, whole, head_record, step_outcome, step_of, step, is_end, goes_on}
 use Rattle.job_records.specs.Records.{used, onto, records_from, records, rest_from, rest}
 
 -- ---- the record of a mark
 
--- a mark that was tested to be n
-pub at_mark : (fs : List Format) (s : List ℕ) (x n : ℕ) → x ≡ n → find n fs s ≡ find x fs s
-at_mark fs s x n e = ap (λ (m : ℕ). find m fs s) (sym e)
-
--- what the default of a `match` on the marks tells: that the mark is none of them, each beside the one before
-abbrev pub NoneOf : List Format → ℕ → Type 0 → Type 0
+-- what the default of a `match` on the numbers of the marks tells: that the number is none of them, each beside the one before
+abbrev pub NoneOf : List Mark → ℕ → Type 0 → Type 0
 NoneOf [] x N = N
-NoneOf (f ∷ fs) x N = NoneOf fs x (N × (x ≡ f.mark → ⊥))
+NoneOf (m ∷ ms) x N = NoneOf ms x (N × (x ≡ number_of m → ⊥))
 
-kept : (fs : List Format) (x : ℕ) (N : Type 0) → NoneOf fs x N → N
+kept : (ms : List Mark) (x : ℕ) (N : Type 0) → NoneOf ms x N → N
 kept [] x N p = p
-kept (f ∷ fs) x N p = (kept fs x (N × (x ≡ f.mark → ⊥)) p).0
+kept (m ∷ ms) x N p = (kept ms x (N × (x ≡ number_of m → ⊥)) p).0
 
-none : (fs : List Format) (x : ℕ) (s : List ℕ) (N : Type 0) → NoneOf fs x N → find x fs s ≡ refused 2
-unfolding find
-none [] x s N p = refl
-none (f ∷ fs) x s N p =
-    rw (ne_eqb x f.mark (kept fs x (N × (x ≡ f.mark → ⊥)) p).1) (none fs x s (N × (x ≡ f.mark → ⊥)) p)
+none : (ms : List Mark) (x : ℕ) (N : Type 0) → NoneOf ms x N → None ≡ spelled_by x ms
+none [] x N p = refl
+none (m ∷ ms) x N p =
+    rw (ne_eqb x (number_of m) (kept ms x (N × (x ≡ number_of m → ⊥)) p).1) (none ms x (N × (x ≡ number_of m → ⊥)) p)
 
-pub no_mark : (fs : List Format) (s : List ℕ) (x : ℕ) → NoneOf fs x (Unit {0}) → refused 2 ≡ find x fs s
-no_mark fs s x p = sym (none fs x s (Unit {0}) p)
+pub no_mark : (x : ℕ) → NoneOf marks x (Unit {0}) → None ≡ mark_of x
+unfolding mark_of
+no_mark x p = none marks x (Unit {0}) p
 
--- a mark that none of the later formats has is found among the first n, if at all
-pub find_front : (n : ℕ) (fs : List Format) (s : List ℕ) (x : ℕ) → NoneOf (drop n fs) x (Unit {0}) → find x (take n fs) s ≡ find x fs s
-unfolding find
-find_front zero fs s x p = no_mark fs s x p
-find_front (suc n) [] s x p = refl
-find_front (suc n) (f ∷ fs) s x p = ap (cond (eqb x f.mark) (found (f.kind s) f.bytes)) (find_front n fs s x p)
+-- the format of a mark
+abbrev format_of : Mark → Format
+format_of m = record { mark = number_of m; kind = kind_of m; bytes = bytes_of m }
 
--- ---- how many bytes the record of a mark has
+formats_of : List Mark → List Format
+formats_of [] = []
+formats_of (m ∷ ms) = format_of m ∷ formats_of ms
 
-pub size_of_mark : (fs : List Format) (x n l : ℕ) → x ≡ n → size_in fs x ≤ l → size_in fs n ≤ l
-size_of_mark fs x n l e h = rw e at h
+-- the record that stands for a mark, if there is one
+abbrev pub record_for : Option Mark → List ℕ → Outcome Found
+record_for None s = refused 2
+record_for (Some m) s = found (kind_of m s) (bytes_of m)
 
-pub size_front : (n : ℕ) (fs : List Format) (x : ℕ) → size_in (take n fs) x ≤ size_in fs x
-unfolding size_in
-size_front zero fs x = omega arith
-size_front (suc n) [] x = omega arith
-size_front (suc n) (f ∷ fs) x = go (eqb x f.mark) (size_front n fs x)
+find_spelled : (ms : List Mark) (n : ℕ) (s : List ℕ) → find n (formats_of ms) s ≡ record_for (spelled_by n ms) s
+unfolding find formats_of
+find_spelled [] n s = refl
+find_spelled (m ∷ ms) n s = go (eqb n (number_of m)) (find_spelled ms n s)
   where
-    go : (b : Bool) → size_in (take n fs) x ≤ size_in fs x → cond b f.bytes (size_in (take n fs) x) ≤ cond b f.bytes (size_in fs x)
-    go true h = omega arith
-    go false h = h
+    go : (b : Bool) → find n (formats_of ms) s ≡ record_for (spelled_by n ms) s
+        → cond b (found (kind_of m s) (bytes_of m)) (find n (formats_of ms) s) ≡ record_for (cond b (Some m) (spelled_by n ms)) s
+    go true e = refl
+    go false e = e
 
--- records that all have n bytes at most
-abbrev pub within : ℕ → List Format → Bool
-within n [] = true
-within n (f ∷ fs) = cond (leb f.bytes n) (within n fs) false
-
--- marks whose records all have n bytes
-abbrev Sized : List ℕ → ℕ → Type 0
-Sized [] n = Unit {0}
-Sized (k ∷ ks) n = (n ≡ size_in formats k) × Sized ks n
-
-pub size_of_keys : (k : ℕ) (ks : List ℕ) (n x : ℕ) → Sized (k ∷ ks) n → OneOf (k ∷ ks) x → n ≡ size_in formats x
-size_of_keys k [] n x t e = rw e t.0
-size_of_keys k (l ∷ ks) n x t (inl e) = rw e t.0
-size_of_keys k (l ∷ ks) n x t (inr o) = size_of_keys l ks n x t.1 o
-
--- what the default of a `match` tells, whose arms have some keys each; the last arm stands first here
-abbrev pub Apart : List (List ℕ) → ℕ → Type 0
-Apart [] x = Unit {0}
-Apart (ks ∷ kss) x = Apart kss x × (OneOf ks x → ⊥)
-
-abbrev among : List (List ℕ) → ℕ → Bool
-among [] k = false
-among (ks ∷ kss) k = has_key ks k || among kss k
-
-abbrev pub covers : List (List ℕ) → List Format → Bool
-covers kss [] = true
-covers kss (f ∷ fs) = cond (among kss f.mark) (covers kss fs) false
+find_mark : (n : ℕ) (s : List ℕ) → find n formats s ≡ record_for (mark_of n) s
+unfolding formats formats_of mark_of
+find_mark n s = find_spelled marks n s
 
 pub split : (a b : Bool) → T (cond a b false) → T a × T b
 split true b t = (tt, t)
 split false b t = absurd t
 
-pub size_within : (n : ℕ) (fs : List Format) (x : ℕ) → T (within n fs) → size_in fs x ≤ n
-unfolding size_in
-size_within n [] x t = omega arith
-size_within n (f ∷ fs) x t =
-    let w = split (leb f.bytes n) (within n fs) t in
-    go (eqb x f.mark) (leb→le f.bytes n w.0) (size_within n fs x w.1)
-  where
-    go : (b : Bool) → f.bytes ≤ n → size_in fs x ≤ n → cond b f.bytes (size_in fs x) ≤ n
-    go true h k = h
-    go false h k = k
-
-apart : (kss : List (List ℕ)) (x k : ℕ) → Apart kss x → T (among kss k) → x ≡ k → ⊥
-apart [] x k a t e = absurd t
-apart (ks ∷ kss) x k a t e =
-    elim (or_yes (has_key ks k) (among kss k) t) [
-      | inl h ↦ a.1 (rw e (hit ks k h))
-      | inr h ↦ apart kss x k a.0 h e
-    ]
-
-pub no_size : (kss : List (List ℕ)) (fs : List Format) (x : ℕ) → T (covers kss fs) → Apart kss x → 0 ≡ size_in fs x
-unfolding size_in
-no_size kss [] x t a = refl
-no_size kss (f ∷ fs) x t a =
-    let w = split (among kss f.mark) (covers kss fs) t in
-    rw (ne_eqb x f.mark (apart kss x f.mark a w.0)) (no_size kss fs x w.1 a)
-
 -- ---- the record at the head
 
-module _ (s : List ℕ) (m : ℕ) where
-  here : (f : Format) (b : Bool) (n : ℕ) (g : Outcome Found) → (n ≤ length s → whole (length s) g ≡ g) → cond b f.bytes n ≤ length s
-      → whole (length s) (cond b (found (f.kind s) f.bytes) g) ≡ cond b (found (f.kind s) f.bytes) g
-  unfolding whole
-  here f true n g k h = rw (le-leb f.bytes (length s) h)
-  here f false n g k h = k h
+module _ (s : List ℕ) (x : ℕ) (e : x ≡ u16_at s 0) where
+  known_is : known s ≡ record_for (mark_of x) s
+  unfolding known
+  known_is = find_mark (u16_at s 0) s ∙ ap (λ (n : ℕ). record_for (mark_of n) s) (sym e)
 
-  all_there : (fs : List Format) → size_in fs m ≤ length s → whole (length s) (find m fs s) ≡ find m fs s
-  unfolding whole find size_in
-  all_there [] h = refl
-  all_there (f ∷ fs) h = here f (eqb m f.mark) (size_in fs m) (find m fs s) (all_there fs) h
+  -- an unknown mark
+  pub head_unknown : mark_of x ≡ None → refused 2 ≡ head_record s
+  unfolding head_record whole
+  head_unknown i = rw (known_is, i)
 
-  cut_here : (f : Format) (b : Bool) (n : ℕ) (g : Outcome Found) → (length s < n → whole (length s) g ≡ refused 2) → length s < cond b f.bytes n
-      → whole (length s) (cond b (found (f.kind s) f.bytes) g) ≡ refused 2
-  unfolding whole
-  cut_here f true n g k h = rw (lt-leb f.bytes (length s) h)
-  cut_here f false n g k h = k h
+  module _ (m : Mark) (i : mark_of x ≡ Some m) where
+    -- all bytes of the record are there
+    pub head_whole : bytes_of m ≤ length s → found (kind_of m s) (bytes_of m) ≡ head_record s
+    unfolding head_record whole
+    head_whole h = rw (known_is, i, le-leb (bytes_of m) (length s) h)
 
-  cut : (fs : List Format) → length s < size_in fs m → whole (length s) (find m fs s) ≡ refused 2
-  unfolding find size_in
-  cut [] h = absurd (omega arith)
-  cut (f ∷ fs) h = cut_here f (eqb m f.mark) (size_in fs m) (find m fs s) (cut fs) h
-
--- all bytes of the record are there
-pub head_whole : (s : List ℕ) (x n : ℕ) (f : Outcome Found) → x ≡ u16_at s 0 → n ≡ size_in formats x → n ≤ length s → f ≡ find x formats s
-    → f ≡ head_record s
-unfolding head_record known
-head_whole s x n f e i h k =
-    let l : size_in formats x ≤ length s = rw (← i) h in
-    k ∙ sym (all_there s x formats l) ∙ ap (λ (m : ℕ). whole (length s) (find m formats s)) e
-
--- or not
-pub head_cut : (s : List ℕ) (x n : ℕ) → x ≡ u16_at s 0 → n ≡ size_in formats x → length s < n → refused 2 ≡ head_record s
-unfolding head_record known
-head_cut s x n e i h =
-    let l : length s < size_in formats (u16_at s 0) = rw (← e, ← i) h in
-    sym (cut s (u16_at s 0) formats l)
+    -- or not
+    pub head_cut : length s < bytes_of m → refused 2 ≡ head_record s
+    unfolding head_record whole
+    head_cut h = rw (known_is, i, lt-leb (bytes_of m) (length s) h)
 
 -- ---- how many bytes a record has: at least two, and no more than there are
 
@@ -245,29 +173,28 @@ head_short s h = go (head_record s) refl (head_two s)
 
 -- ---- a step
 
-of_step : (f : Step) → f ≡ step_of (step_outcome f)
-of_step (Read r n) = refl
-of_step Nothing = refl
+of_step : (f : Option Head) → f ≡ step_of (step_outcome f)
+of_step (Some h) = refl
+of_step None = refl
 
--- the case of the enum, where its outcome is known
-pub step_is : (s : List ℕ) (f : Step) → step_outcome f ≡ head_record s → f ≡ step s
+-- the step, where its outcome is known
+pub step_is : (s : List ℕ) (f : Option Head) → step_outcome f ≡ head_record s → f ≡ step s
 unfolding step
 step_is s f e = of_step f ∙ ap step_of e
 
 -- what was found where a step read a record
-pub step_found : (s : List ℕ) (r : Record) (n : ℕ) → step s ≡ Read r n → head_record s ≡ found r n
+pub step_found : (s : List ℕ) (h : Head) → step s ≡ Some h → head_record s ≡ found h.found h.bytes
 unfolding step
-step_found s r n e = go (head_record s) e
+step_found s h e = go (head_record s) e
   where
-    go : (o : Outcome Found) → step_of o ≡ Read r n → o ≡ found r n
+    go : (o : Outcome Found) → step_of o ≡ Some h → o ≡ found h.found h.bytes
     go (given f) e =
-        let i : f.kind ≡ r = cc in
-        let k : f.bytes ≡ n = cc in
-        rw (← i, ← k) refl
+        let i : ◌≡◌ {A = Head} (record { found = f.kind; bytes = f.bytes }) h = cc in
+        rw (← i) refl
     go (refused k) e = let z : ◌≡◌ {A = ℕ} 0 1 = cc in absurd (omega arith)
 
-pub step_used : (s : List ℕ) (f : Step) (r : Record) (n : ℕ) → f ≡ step s → f ≡ Read r n → (1 ≤ n) × (n ≤ length s)
-step_used s f r n e k = let w = head_sized s r n (step_found s r n (sym e ∙ k)) in (omega arith, w.1)
+pub step_used : (s : List ℕ) (f : Option Head) (h : Head) → f ≡ step s → f ≡ Some h → (1 ≤ h.bytes) × (h.bytes ≤ length s)
+step_used s f h e k = let w = head_sized s h.found h.bytes (step_found s h (sym e ∙ k)) in (omega (arith, w.0), w.1)
 
 -- ---- the records and the rest, step by step
 
@@ -277,11 +204,16 @@ skip zero s = refl
 skip (suc k) [] = refl
 skip (suc k) (b ∷ bs) = skip k bs
 
-pub records_more : (s : List ℕ) (r : Record) (n : ℕ) → step s ≡ Read r n → 1 ≤ n → n ≤ length s → is_end r ≡ false → records s ≡ r ∷ records (drop n s)
+pub records_more : (s : List ℕ) (h : Head) → step s ≡ Some h → 1 ≤ h.bytes → h.bytes ≤ length s → is_end h.found ≡ false
+    → records s ≡ h.found ∷ records (drop h.bytes s)
 unfolding records records_from onto
-records_more [] r n e h k g = absurd (omega arith)
-records_more (b ∷ bs) r zero e h k g = absurd (omega arith)
-records_more (b ∷ bs) r (suc n) e h k g = rw (e, g) (ap (λ (l : List Record). r ∷ l) (skip n bs))
+records_more s h e i k g = go s h.found h.bytes e i k g
+  where
+    go : (s : List ℕ) (r : Record) (n : ℕ) → step s ≡ Some (record { found = r; bytes = n }) → 1 ≤ n → n ≤ length s → is_end r ≡ false
+        → records_from 0 s ≡ r ∷ records_from 0 (drop n s)
+    go [] r n e h k g = absurd (omega arith)
+    go (b ∷ bs) r zero e h k g = absurd (omega arith)
+    go (b ∷ bs) r (suc n) e h k g = rw (e, g) (ap (λ (l : List Record). r ∷ l) (skip n bs))
 
 skip_rest : (k : ℕ) (s : List ℕ) → rest_from k s ≡ rest_from zero (drop k s)
 unfolding rest_from
@@ -289,20 +221,24 @@ skip_rest zero s = refl
 skip_rest (suc k) [] = refl
 skip_rest (suc k) (b ∷ bs) = skip_rest k bs
 
-pub rest_more : (s : List ℕ) (r : Record) (n : ℕ) → step s ≡ Read r n → 1 ≤ n → n ≤ length s → is_end r ≡ false → rest s ≡ rest (drop n s)
+pub rest_more : (s : List ℕ) (h : Head) → step s ≡ Some h → 1 ≤ h.bytes → h.bytes ≤ length s → is_end h.found ≡ false → rest s ≡ rest (drop h.bytes s)
 unfolding rest rest_from goes_on
-rest_more [] r n e h k g = absurd (omega arith)
-rest_more (b ∷ bs) r zero e h k g = absurd (omega arith)
-rest_more (b ∷ bs) r (suc n) e h k g = rw (e, g) (skip_rest n bs)
+rest_more s h e i k g = go s h.found h.bytes e i k g
+  where
+    go : (s : List ℕ) (r : Record) (n : ℕ) → step s ≡ Some (record { found = r; bytes = n }) → 1 ≤ n → n ≤ length s → is_end r ≡ false
+        → rest_from 0 s ≡ rest_from 0 (drop n s)
+    go [] r n e h k g = absurd (omega arith)
+    go (b ∷ bs) r zero e h k g = absurd (omega arith)
+    go (b ∷ bs) r (suc n) e h k g = rw (e, g) (skip_rest n bs)
 
 pub records_stop : (s : List ℕ) → goes_on (step s) ≡ false → records s ≡ []
 unfolding records records_from goes_on onto
 records_stop [] e = refl
 records_stop (b ∷ bs) e = go (step (b ∷ bs)) e
   where
-    go : (f : Step) → goes_on f ≡ false → onto f (records_from (pred (used f)) bs) ≡ []
-    go Nothing e = refl
-    go (Read r n) e = rw (borrow.Author.Tests.not-false (is_end r) e)
+    go : (f : Option Head) → goes_on f ≡ false → onto f (records_from (pred (used f)) bs) ≡ []
+    go None e = refl
+    go (Some h) e = rw (borrow.Author.Tests.not-false (is_end h.found) e)
 
 pub rest_stop : (s : List ℕ) → goes_on (step s) ≡ false → rest s ≡ s
 unfolding rest rest_from

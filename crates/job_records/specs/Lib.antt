@@ -1,3 +1,4 @@
--- What the contracts of `job_records` cite: numbers and records in bytes.
+-- What the contracts of `job_records` cite: numbers, marks and records in bytes.
 pub mod LittleEndian
+pub mod Marks
 pub mod Records

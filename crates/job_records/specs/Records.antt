@@ -1,17 +1,18 @@
 -- Document 01, section "Jobs": the records of a job. A record is said of the bytes from its mark on, so that no definition speaks of a
 -- position. Assumes nothing.
-use Rattle.std.specs.Prelude.{ℕ, zero, suc, pred, ◌+◌, ◌*◌, Bool, false, not, cond, List, [], ◌∷◌, map, length, get_or, take, leb, eqb, nat_abs}
+use Rattle.std.specs.Prelude.{ℕ, zero, suc, pred, ◌+◌, ◌*◌, Bool, false, not, cond, List, [], ◌∷◌, map, length, get_or, leb, eqb, nat_abs, Option, Some, None}
 use Rattle.units.specs.Outcome.{Outcome, given, refused}
 use Rattle.job_records.specs.LittleEndian.{u16_at, u32_at, u64_at, i64_of}
 use Rattle.job_records.specs.declared.records.Range.{Range}
-use Rattle.job_records.specs.declared.records.RowSlot.{RowSlot}
-use Rattle.job_records.specs.declared.records.ColumnSlot.{ColumnSlot}
+use Rattle.job_records.specs.declared.records.Slot.{Slot}
 use Rattle.job_records.specs.declared.records.MarginBits.{MarginBits}
 use Rattle.job_records.specs.declared.records.Record.{Record}
 use Rattle.job_records.specs.declared.records.Record.TheVariants.{Paper, Landscape, Margin, Scale, Wide, High, Fit, Order, Headings, Limit, Cells, Area}
 use Rattle.job_records.specs.declared.records.Record.TheVariants.{TitleRows, TitleColumns, Row, Column, Merged, RowBreak, ColumnBreak, End}
-use Rattle.job_records.specs.declared.records.Step.{Step}
-use Rattle.job_records.specs.declared.records.Step.TheVariants.{Read, Nothing}
+use Rattle.job_records.specs.Marks.{place}
+use Rattle.job_records.specs.declared.records.Head.{Head}
+use Rattle.job_records.specs.declared.marks.Mark.{Mark}
+use Rattle.job_records.specs.declared.marks.Mark.TheVariants as mark
 
 -- ---- what stands after a mark, which has two bytes
 
@@ -31,11 +32,11 @@ abbrev pub range_at : List ℕ → Range
 range_at s = record { first_row = u32_at s 2; first_column = u16_at s 6; last_row = u32_at s 8; last_column = u16_at s 12 }
 
 -- "RW u32, i64"
-abbrev pub row_at : List ℕ → RowSlot
+abbrev pub row_at : List ℕ → Slot
 row_at s = record { index = u32_at s 2; size = i64_of (u64_at s 6) }
 
 -- "CL u16, i64"
-abbrev pub column_at : List ℕ → ColumnSlot
+abbrev pub column_at : List ℕ → Slot
 column_at s = record { index = u16_at s 2; size = i64_of (u64_at s 4) }
 
 -- ---- the table of records
@@ -109,14 +110,28 @@ unfoldable pub find : ℕ → List Format → List ℕ → Outcome Found
 find m [] s = refused 2
 find m (f ∷ fs) s = cond (eqb m f.mark) (found (f.kind s) f.bytes) (find m fs s)
 
--- the formats of the settings, which stand first, for the private functions of `src/records.rt`
-abbrev pub settings : List Format
-settings = take 14 formats
-
--- how many bytes the record of a mark has, for the private functions of `src/records.rt`; 0 where the formats have no such mark
-unfoldable pub size_in : List Format → ℕ → ℕ
-size_in [] m = 0
-size_in (f ∷ fs) m = cond (eqb m f.mark) f.bytes (size_in fs m)
+-- the record with a mark, for a private function of `src/records.rt`
+abbrev pub kind_of : Mark → List ℕ → Record
+kind_of mark.Paper s = Paper (u16_at s 2)
+kind_of mark.Landscape s = Landscape
+kind_of mark.Margins s = Margin (margins_at s)
+kind_of mark.Percent s = Scale (u16_at s 2)
+kind_of mark.FitWidth s = Wide (u16_at s 2)
+kind_of mark.FitHeight s = High (u16_at s 2)
+kind_of mark.Fit s = Fit (get_or s 2 0)
+kind_of mark.Order s = Order (get_or s 2 0)
+kind_of mark.Headings s = Headings
+kind_of mark.PageLimit s = Limit (u64_at s 2)
+kind_of mark.CellLimit s = Cells (u64_at s 2)
+kind_of mark.Area s = Area (range_at s)
+kind_of mark.RowTitle s = TitleRows (u32_at s 2) (u32_at s 6)
+kind_of mark.ColumnTitle s = TitleColumns (u16_at s 2) (u16_at s 4)
+kind_of mark.Row s = Row (row_at s)
+kind_of mark.Column s = Column (column_at s)
+kind_of mark.Merge s = Merged (record { cells = range_at s })
+kind_of mark.RowBreak s = RowBreak (u32_at s 2)
+kind_of mark.ColumnBreak s = ColumnBreak (u16_at s 2)
+kind_of mark.End s = End
 
 -- the record of a known mark at the head of the bytes
 unfoldable pub known : List ℕ → Outcome Found
@@ -131,18 +146,18 @@ whole n (refused k) = refused k
 unfoldable pub head_record : List ℕ → Outcome Found
 head_record s = whole (length s) (known s)
 
--- the value or the number that each case of `Step` stands for
-abbrev pub step_outcome : Step → Outcome Found
-step_outcome (Read r n) = found r n
-step_outcome Nothing = refused 2
+-- the outcome that a head stands for, or its absence
+abbrev pub step_outcome : Option Head → Outcome Found
+step_outcome (Some h) = found h.found h.bytes
+step_outcome None = refused 2
 
--- the case of `Step` that stands for an outcome
-abbrev pub step_of : Outcome Found → Step
-step_of (given f) = Read f.kind f.bytes
-step_of (refused n) = Nothing
+-- the head that stands for an outcome
+abbrev pub step_of : Outcome Found → Option Head
+step_of (given f) = Some (record { found = f.kind; bytes = f.bytes })
+step_of (refused n) = None
 
 -- the step from the head of the bytes
-unfoldable pub step : List ℕ → Step
+unfoldable pub step : List ℕ → Option Head
 unfolding head_record
 step s = step_of (head_record s)
 
@@ -208,28 +223,32 @@ BC = 19
 abbrev pub EN : ℕ
 EN = 20
 
+-- the mark before a record
+abbrev pub mark_before : Record → Mark
+mark_before (Paper x) = mark.Paper
+mark_before Landscape = mark.Landscape
+mark_before (Margin m) = mark.Margins
+mark_before (Scale x) = mark.Percent
+mark_before (Wide x) = mark.FitWidth
+mark_before (High x) = mark.FitHeight
+mark_before (Fit x) = mark.Fit
+mark_before (Order x) = mark.Order
+mark_before Headings = mark.Headings
+mark_before (Limit x) = mark.PageLimit
+mark_before (Cells x) = mark.CellLimit
+mark_before (Area a) = mark.Area
+mark_before (TitleRows f l) = mark.RowTitle
+mark_before (TitleColumns f l) = mark.ColumnTitle
+mark_before (Row s) = mark.Row
+mark_before (Column s) = mark.Column
+mark_before (Merged m) = mark.Merge
+mark_before (RowBreak b) = mark.RowBreak
+mark_before (ColumnBreak b) = mark.ColumnBreak
+mark_before End = mark.End
+
 -- the place of a record's mark
 abbrev pub rank : Record → ℕ
-rank (Paper x) = PC
-rank Landscape = LA
-rank (Margin m) = MG
-rank (Scale x) = SC
-rank (Wide x) = FW
-rank (High x) = FH
-rank (Fit x) = FT
-rank (Order x) = OD
-rank Headings = HD
-rank (Limit x) = LP
-rank (Cells x) = UC
-rank (Area a) = AR
-rank (TitleRows f l) = TR
-rank (TitleColumns f l) = TC
-rank (Row s) = RW
-rank (Column s) = CL
-rank (Merged m) = MR
-rank (RowBreak b) = BR
-rank (ColumnBreak b) = BC
-rank End = EN
+rank r = place (mark_before r)
 
 -- ---- the records of a job, up to the first EN
 
@@ -238,24 +257,24 @@ abbrev pub is_end : Record → Bool
 is_end r = eqb (rank r) EN
 
 -- whether reading goes on after a step: it found a record, and that is no EN
-unfoldable pub goes_on : Step → Bool
-goes_on Nothing = false
-goes_on (Read r n) = not (is_end r)
+unfoldable pub goes_on : Option Head → Bool
+goes_on None = false
+goes_on (Some h) = not (is_end h.found)
 
 -- whether a step found an EN
-unfoldable pub ended : Step → Bool
-ended Nothing = false
-ended (Read r n) = is_end r
+unfoldable pub ended : Option Head → Bool
+ended None = false
+ended (Some h) = is_end h.found
 
 -- how many bytes a step takes
-abbrev pub used : Step → ℕ
-used Nothing = 0
-used (Read r n) = n
+abbrev pub used : Option Head → ℕ
+used None = 0
+used (Some h) = h.bytes
 
 -- the record of a step, if it is no EN, before others
-unfoldable pub onto : Step → List Record → List Record
-onto Nothing rs = []
-onto (Read r n) rs = cond (is_end r) [] (r ∷ rs)
+unfoldable pub onto : Option Head → List Record → List Record
+onto None rs = []
+onto (Some h) rs = cond (is_end h.found) [] (h.found ∷ rs)
 
 -- the records before the first EN, or before what is no whole known record; k bytes still belong to the record before
 unfoldable pub records_from : ℕ → List ℕ → List Record

@@ -2,10 +2,9 @@
 #![tactic(auto)]
 
 mod little_endian;
-pub mod ranks;
+mod marks;
 mod records;
 
 pub use little_endian::{float, signed};
-pub use records::{
-    ColumnSlot, JobAreas, MarginBits, Merge, Range, Record, RowSlot, Step, rank_of, read_record,
-};
+pub use marks::Mark;
+pub use records::{Head, JobAreas, MarginBits, Merge, Range, Record, Slot, read_record};

@@ -1,13 +1,10 @@
 // The records of a job, one at a time: document 01, section "Jobs".
-ghost use Rattle.std.specs.Prelude.{◌≡◌, ◌≤◌, leb, length};
-ghost use Rattle.job_records.specs.Records.{range_at, margins_at, row_at, column_at, find, formats, settings, size_in, head_record, step_outcome, rank};
+ghost use Rattle.std.specs.Prelude.{◌≡◌, ◌≤◌, length};
+ghost use Rattle.job_records.specs.Records.{range_at, margins_at, row_at, column_at, kind_of, head_record, step_outcome, mark_before};
+ghost use Rattle.job_records.specs.Marks.{bytes_of};
 
 use crate::little_endian::{signed, u16_at, u32_at, u64_at};
-use crate::ranks::{
-    CELL_LIMIT, COLUMN_BREAKS, COLUMN_TITLE, COLUMNS, END, FIT, FIT_HEIGHT, FIT_WIDTH, HEADINGS,
-    LANDSCAPE, MARGINS, MERGES, ORDER, PAGE_LIMIT, PAPER, PERCENT, RANGE, ROW_BREAKS, ROW_TITLE,
-    ROWS,
-};
+use crate::marks::Mark;
 
 // A rectangle of cells.
 #[derive(Clone, Copy)]
@@ -32,18 +29,11 @@ pub struct JobAreas {
     pub eighth: Range,
 }
 
-// A measured row. The size stands first: behind the index a range would end inside it, and a `Record` would be written in halves.
+// A measured row or column. The size stands first: behind the index a range would end inside it, and a `Record` would be written in halves.
 #[derive(Clone, Copy)]
-pub struct RowSlot {
+pub struct Slot {
     pub size: i64,
     pub index: u32,
-}
-
-// A measured column, in the same order.
-#[derive(Clone, Copy)]
-pub struct ColumnSlot {
-    pub size: i64,
-    pub index: u16,
 }
 
 // A merged rectangle.
@@ -80,20 +70,19 @@ pub enum Record {
     Area(Range),
     TitleRows(u32, u32),
     TitleColumns(u16, u16),
-    Row(RowSlot),
-    Column(ColumnSlot),
+    Row(Slot),
+    Column(Slot),
     Merged(Merge),
     RowBreak(u32),
     ColumnBreak(u16),
     End,
 }
 
-// What `read_record` answers: the record at the head of some bytes and how many bytes it has, or that no whole known record is there, which is
-// a no to question 2.
+// A record at the head of some bytes, and how many bytes it has.
 #[derive(Clone, Copy)]
-pub enum Step {
-    Read(Record, usize),
-    Nothing,
+pub struct Head {
+    pub found: Record,
+    pub bytes: usize,
 }
 
 fn margins_at(s: &[u8]) -> MarginBits
@@ -122,175 +111,100 @@ fn range_at(s: &[u8]) -> Range
     }
 }
 
-fn row_at(s: &[u8]) -> RowSlot
+fn row_at(s: &[u8]) -> Slot
     requires { 14 ≤ length s.now }
     ensures { result ≡ row_at s.now }
 {
-    RowSlot {
+    Slot {
         index: u32_at(s, 2),
         size: signed(u64_at(s, 6)),
     }
 }
 
-fn column_at(s: &[u8]) -> ColumnSlot
+fn column_at(s: &[u8]) -> Slot
     requires { 12 ≤ length s.now }
     ensures { result ≡ column_at s.now }
 {
-    ColumnSlot {
-        index: u16_at(s, 2),
+    Slot {
+        index: u16_at(s, 2) as u32,
         size: signed(u64_at(s, 4)),
     }
 }
 
-const PC: u16 = 0x4350;
-
-const LA: u16 = 0x414c;
-
-const MG: u16 = 0x474d;
-
-const SC: u16 = 0x4353;
-
-const FW: u16 = 0x5746;
-
-const FH: u16 = 0x4846;
-
-const FT: u16 = 0x5446;
-
-const OD: u16 = 0x444f;
-
-const HD: u16 = 0x4448;
-
-const LP: u16 = 0x504c;
-
-const UC: u16 = 0x4355;
-
-const AR: u16 = 0x5241;
-
-const TR: u16 = 0x5254;
-
-const TC: u16 = 0x4354;
-
-const RW: u16 = 0x5752;
-
-const CL: u16 = 0x4c43;
-
-const MR: u16 = 0x524d;
-
-const BR: u16 = 0x5242;
-
-const BC: u16 = 0x4342;
-
-const EN: u16 = 0x4e45;
-
-// How many bytes a record with this mark has; 0 for an unknown mark.
-fn size_of(mark: u16) -> usize
-    ensures { result ≡ size_in formats mark }
-{
-    match mark {
-        LA | HD | EN => 2,
-        FT | OD => 3,
-        PC | SC | FW | FH | BC => 4,
-        TC | BR => 6,
-        LP | UC | TR => 10,
-        CL => 12,
-        AR | RW | MR => 14,
-        MG => 50,
-        _ => 0,
-    }
-}
-
-// The most bytes of a record: those of MG.
-const LONGEST: usize = 50;
-
-// Whether the record with this mark ends within so many bytes; it is not asked how many it has where any would.
-fn all_there(bytes: usize, mark: u16) -> bool
-    ensures { result ≡ leb (size_in formats mark) bytes }
-{
-    if bytes >= LONGEST {
-        return true;
-    }
-    size_of(mark) <= bytes
-}
-
-// The record with this mark where it is a setting, whose bytes are all there.
-fn setting_at(s: &[u8], mark: u16) -> Step
-    requires { size_in settings mark ≤ length s.now }
-    ensures { step_outcome result ≡ find mark settings s.now }
-{
-    match mark {
-        PC => Step::Read(Record::Paper(u16_at(s, 2)), 4),
-        LA => Step::Read(Record::Landscape, 2),
-        MG => Step::Read(Record::Margin(margins_at(s)), 50),
-        SC => Step::Read(Record::Scale(u16_at(s, 2)), 4),
-        FW => Step::Read(Record::Wide(u16_at(s, 2)), 4),
-        FH => Step::Read(Record::High(u16_at(s, 2)), 4),
-        FT => Step::Read(Record::Fit(s[2]), 3),
-        OD => Step::Read(Record::Order(s[2]), 3),
-        HD => Step::Read(Record::Headings, 2),
-        LP => Step::Read(Record::Limit(u64_at(s, 2)), 10),
-        UC => Step::Read(Record::Cells(u64_at(s, 2)), 10),
-        AR => Step::Read(Record::Area(range_at(s)), 14),
-        TR => Step::Read(Record::TitleRows(u32_at(s, 2), u32_at(s, 6)), 10),
-        TC => Step::Read(Record::TitleColumns(u16_at(s, 2), u16_at(s, 4)), 6),
-        _ => Step::Nothing,
-    }
-}
-
 // The record with this mark, whose bytes are all there.
-fn known_at(s: &[u8], mark: u16) -> Step
-    requires { size_in formats mark ≤ length s.now }
-    ensures { step_outcome result ≡ find mark formats s.now }
+#[inline(always)]
+fn record_at(s: &[u8], mark: Mark) -> Record
+    requires { bytes_of mark ≤ length s.now }
+    ensures { result ≡ kind_of mark s.now }
 {
     match mark {
-        RW => Step::Read(Record::Row(row_at(s)), 14),
-        CL => Step::Read(Record::Column(column_at(s)), 12),
-        MR => Step::Read(Record::Merged(Merge { cells: range_at(s) }), 14),
-        BR => Step::Read(Record::RowBreak(u32_at(s, 2)), 6),
-        BC => Step::Read(Record::ColumnBreak(u16_at(s, 2)), 4),
-        EN => Step::Read(Record::End, 2),
-        _ => setting_at(s, mark),
+        Mark::Paper => Record::Paper(u16_at(s, 2)),
+        Mark::Landscape => Record::Landscape,
+        Mark::Margins => Record::Margin(margins_at(s)),
+        Mark::Percent => Record::Scale(u16_at(s, 2)),
+        Mark::FitWidth => Record::Wide(u16_at(s, 2)),
+        Mark::FitHeight => Record::High(u16_at(s, 2)),
+        Mark::Fit => Record::Fit(s[2]),
+        Mark::Order => Record::Order(s[2]),
+        Mark::Headings => Record::Headings,
+        Mark::PageLimit => Record::Limit(u64_at(s, 2)),
+        Mark::CellLimit => Record::Cells(u64_at(s, 2)),
+        Mark::Area => Record::Area(range_at(s)),
+        Mark::RowTitle => Record::TitleRows(u32_at(s, 2), u32_at(s, 6)),
+        Mark::ColumnTitle => Record::TitleColumns(u16_at(s, 2), u16_at(s, 4)),
+        Mark::Row => Record::Row(row_at(s)),
+        Mark::Column => Record::Column(column_at(s)),
+        Mark::Merge => Record::Merged(Merge { cells: range_at(s) }),
+        Mark::RowBreak => Record::RowBreak(u32_at(s, 2)),
+        Mark::ColumnBreak => Record::ColumnBreak(u16_at(s, 2)),
+        Mark::End => Record::End,
     }
 }
 
-// The whole known record at the head of the bytes, and how many bytes it has.
-pub fn read_record(bytes: &[u8]) -> Step
+// The whole known record at the head of the bytes; where none is, it is a no to question 2.
+pub fn read_record(bytes: &[u8]) -> Option<Head>
     ensures { step_outcome result ≡ head_record bytes.now }
 {
     if bytes.len() < 2 {
-        return Step::Nothing;
+        return None;
     }
-    let mark = u16_at(bytes, 0);
-    if all_there(bytes.len(), mark) {
-        known_at(bytes, mark)
-    } else {
-        Step::Nothing
+    let mark = Mark::spelled(u16_at(bytes, 0))?;
+    let size = mark.bytes();
+    if bytes.len() < size {
+        return None;
     }
+    Some(Head {
+        found: record_at(bytes, mark),
+        bytes: size,
+    })
 }
 
-// The place of a record's mark in the order of the records, from 1.
-pub fn rank_of(found: Record) -> u8
-    ensures { result ≡ rank found }
-{
-    match found {
-        Record::Paper(_) => PAPER,
-        Record::Landscape => LANDSCAPE,
-        Record::Margin(_) => MARGINS,
-        Record::Scale(_) => PERCENT,
-        Record::Wide(_) => FIT_WIDTH,
-        Record::High(_) => FIT_HEIGHT,
-        Record::Fit(_) => FIT,
-        Record::Order(_) => ORDER,
-        Record::Headings => HEADINGS,
-        Record::Limit(_) => PAGE_LIMIT,
-        Record::Cells(_) => CELL_LIMIT,
-        Record::Area(_) => RANGE,
-        Record::TitleRows(_, _) => ROW_TITLE,
-        Record::TitleColumns(_, _) => COLUMN_TITLE,
-        Record::Row(_) => ROWS,
-        Record::Column(_) => COLUMNS,
-        Record::Merged(_) => MERGES,
-        Record::RowBreak(_) => ROW_BREAKS,
-        Record::ColumnBreak(_) => COLUMN_BREAKS,
-        Record::End => END,
+impl Record {
+    // The mark before it.
+    pub fn mark(self) -> Mark
+        ensures { result ≡ mark_before self }
+    {
+        match self {
+            Record::Paper(_) => Mark::Paper,
+            Record::Landscape => Mark::Landscape,
+            Record::Margin(_) => Mark::Margins,
+            Record::Scale(_) => Mark::Percent,
+            Record::Wide(_) => Mark::FitWidth,
+            Record::High(_) => Mark::FitHeight,
+            Record::Fit(_) => Mark::Fit,
+            Record::Order(_) => Mark::Order,
+            Record::Headings => Mark::Headings,
+            Record::Limit(_) => Mark::PageLimit,
+            Record::Cells(_) => Mark::CellLimit,
+            Record::Area(_) => Mark::Area,
+            Record::TitleRows(_, _) => Mark::RowTitle,
+            Record::TitleColumns(_, _) => Mark::ColumnTitle,
+            Record::Row(_) => Mark::Row,
+            Record::Column(_) => Mark::Column,
+            Record::Merged(_) => Mark::Merge,
+            Record::RowBreak(_) => Mark::RowBreak,
+            Record::ColumnBreak(_) => Mark::ColumnBreak,
+            Record::End => Mark::End,
+        }
     }
 }

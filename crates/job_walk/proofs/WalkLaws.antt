@@ -1,5 +1,5 @@
 -- Laws for the loops that walk the records of a job. Assumes nothing.
-use mathlib.Core.Path.{◌≡◌, refl, sym, ap, ap₂, ◌∙◌}
+use mathlib.Core.Path.{◌≡◌, refl, sym, ap, ◌∙◌}
 use mathlib.Core.Bool.{Bool, true, false, not, cond}
 use mathlib.Core.List.{List, [], ◌∷◌}
 use Prim.Native.Nat.{ℕ, zero, suc, ◌-◌, ◌≤◌, ◌<◌}
@@ -11,12 +11,8 @@ use lib.ListN.{length, take, drop, length-take, drop_of_length-le}
 use lib.Seq.{drop-nil, take_all}
 use borrow.Author.Tests.{eq-eqb, ne_eqb, eqb-true, lt-ltb, le-ltb}
 use Rattle.job_records.specs.declared.records.Record.{Record}
-use Rattle.job_records.specs.declared.records.Step.{Step}
-use Rattle.job_records.specs.declared.records.Step.TheVariants.{Read, Nothing}
-use Rattle.job_walk.specs.declared.Next.{Next}
-use Rattle.job_walk.specs.declared.Next.TheVariants.{Kind, Stop}
-use Rattle.job_walk.specs.declared.Lookup.{Lookup}
-use Rattle.job_walk.specs.declared.Lookup.TheVariants.{Found, Missing}
+use Rattle.job_records.specs.declared.records.Head.{Head}
+use Rattle.std.specs.Prelude.{Option, Some, None}
 use Rattle.job_records.specs.Records.{AR, head_record, step_outcome, step, rank, is_end, goes_on, records, marked}
 use Rattle.job_walk.specs.Areas.{nowhere, range_from, areas_held, areas_from}
 use Rattle.job_walk.specs.Walk.{before, first_of, in_place, Sorted}
@@ -48,44 +44,43 @@ is_in_place j k (r ∷ rs) w =
 
 -- ---- the next record
 
-module _ (s : List ℕ) (f : Step) (o : step_outcome f ≡ head_record s) where
+module _ (s : List ℕ) (f : Option Head) (o : step_outcome f ≡ head_record s) where
   at_head : f ≡ step s
   at_head = step_is s f o
 
-  pub next_nothing : f ≡ Nothing → Stop ≡ before (step s)
+  pub next_nothing : f ≡ None → None ≡ before (step s)
   unfolding before
   next_nothing k = sym (ap before (sym at_head ∙ k))
 
-  module _ {r : Record} {n x : ℕ} (k : f ≡ Read r n) (i : x ≡ rank r) where
-    pub next_end : x ≡ 20 → Stop ≡ before (step s)
+  module _ {h : Head} {x : ℕ} (k : f ≡ Some h) (i : x ≡ rank h.found) where
+    pub next_end : x ≡ 20 → None ≡ before (step s)
     unfolding before
-    next_end h = rw (← at_head, k, eq-eqb (rank r) 20 (sym i ∙ h))
+    next_end j = rw (← at_head, k, eq-eqb (rank h.found) 20 (sym i ∙ j))
 
-    pub next_kind : (x ≡ 20 → ⊥) → Kind r n ≡ before (step s)
+    pub next_kind : (x ≡ 20 → ⊥) → Some h ≡ before (step s)
     unfolding before
-    next_kind h = rw (← at_head, k, ne_eqb (rank r) 20 (λ q. h (i ∙ q)))
+    next_kind j = rw (← at_head, k, ne_eqb (rank h.found) 20 (λ q. j (i ∙ q)))
 
 -- what it tells of a step
-stops : (f : Step) → before f ≡ Stop → goes_on f ≡ false
+stops : (f : Option Head) → before f ≡ None → goes_on f ≡ false
 unfolding before goes_on
-stops Nothing k = refl
-stops (Read r n) k = go (is_end r) k
+stops None k = refl
+stops (Some h) k = go (is_end h.found) k
   where
-    go : (b : Bool) → cond b Stop (Kind r n) ≡ Stop → not b ≡ false
+    go : (b : Bool) → cond b None (Some h) ≡ None → not b ≡ false
     go true k = refl
     go false k = let z : ◌≡◌ {A = ℕ} 0 1 = cc in absurd (omega arith)
 
-goes : (f : Step) (r : Record) (n : ℕ) → before f ≡ Kind r n → (f ≡ Read r n) × (is_end r ≡ false)
+goes : (f : Option Head) (h : Head) → before f ≡ Some h → (f ≡ Some h) × (is_end h.found ≡ false)
 unfolding before
-goes Nothing r n k = let z : ◌≡◌ {A = ℕ} 0 1 = cc in absurd (omega arith)
-goes (Read q m) r n k = go (is_end q) refl k
+goes None h k = let z : ◌≡◌ {A = ℕ} 0 1 = cc in absurd (omega arith)
+goes (Some g) h k = go (is_end g.found) refl k
   where
-    go : (b : Bool) → is_end q ≡ b → cond b Stop (Kind q m) ≡ Kind r n → (Read q m ≡ Read r n) × (is_end r ≡ false)
-    go true g k = let z : ◌≡◌ {A = ℕ} 0 1 = cc in absurd (omega arith)
-    go false g k =
-        let i : q ≡ r = cc in
-        let j : m ≡ n = cc in
-        (ap₂ Read i j, ap is_end (sym i) ∙ g)
+    go : (b : Bool) → is_end g.found ≡ b → cond b None (Some g) ≡ Some h → (Some g ≡ Some h) × (is_end h.found ≡ false)
+    go true i k = let z : ◌≡◌ {A = ℕ} 0 1 = cc in absurd (omega arith)
+    go false i k =
+        let j : g ≡ h = cc in
+        (k, ap (λ (x : Head). is_end x.found) (sym j) ∙ i)
 
 -- a record that was read has n bytes of s
 pub record Used (s : List ℕ) (n : ℕ) : Type 0 where
@@ -94,111 +89,112 @@ pub record Used (s : List ℕ) (n : ℕ) : Type 0 where
   pub less : length (take (length s - n) (drop n s)) < length s
 
 -- a turn of a loop over s: f is what comes next
-module _ (s : List ℕ) {f : Next} (e : f ≡ before (step s)) where
-  pub walk_end : f ≡ Stop → records s ≡ []
+module _ (s : List ℕ) {f : Option Head} (e : f ≡ before (step s)) where
+  pub walk_end : f ≡ None → records s ≡ []
   walk_end k = records_stop s (stops (step s) (sym e ∙ k))
 
-  module _ {r : Record} {n : ℕ} (k : f ≡ Kind r n) where
-    pub walk_used : Used s n
+  module _ {h : Head} (k : f ≡ Some h) where
+    pub walk_used : Used s h.bytes
     walk_used =
-        let u = step_used s (step s) r n refl (goes (step s) r n (sym e ∙ k)).0 in
-        record { some = u.0; within = u.1; less = omega (arith, length_part n s) }
+        let u = step_used s (step s) h refl (goes (step s) h (sym e ∙ k)).0 in
+        record { some = u.0; within = u.1; less = omega (arith, length_part h.bytes s, u.0, u.1) }
 
-    pub walk_on : records s ≡ r ∷ records (take (length s - n) (drop n s))
+    pub walk_on : records s ≡ h.found ∷ records (take (length s - h.bytes) (drop h.bytes s))
     walk_on =
-        let g = goes (step s) r n (sym e ∙ k) in
-        rw (part n s) (records_more s r n g.0 walk_used.some walk_used.within g.1)
+        let g = goes (step s) h (sym e ∙ k) in
+        rw (part h.bytes s) (records_more s h g.0 walk_used.some walk_used.within g.1)
 
-    pub walk_yes : (j : ℕ) → rank r ≡ j → marked j (records s) ≡ r ∷ marked j (records (take (length s - n) (drop n s)))
+    pub walk_yes : (j : ℕ) → rank h.found ≡ j → marked j (records s) ≡ h.found ∷ marked j (records (take (length s - h.bytes) (drop h.bytes s)))
     unfolding marked
-    walk_yes j h = rw (walk_on, eq-eqb (rank r) j h)
+    walk_yes j i = rw (walk_on, eq-eqb (rank h.found) j i)
 
-    pub walk_no : (j : ℕ) → (rank r ≡ j → ⊥) → marked j (records s) ≡ marked j (records (take (length s - n) (drop n s)))
+    pub walk_no : (j : ℕ) → (rank h.found ≡ j → ⊥) → marked j (records s) ≡ marked j (records (take (length s - h.bytes) (drop h.bytes s)))
     unfolding marked
-    walk_no j h = rw (walk_on, ne_eqb (rank r) j h)
+    walk_no j i = rw (walk_on, ne_eqb (rank h.found) j i)
 
-    pub walk_sorted : (j : ℕ) → Sorted j (records s) → (j ≤ rank r) × Sorted (rank r) (records (take (length s - n) (drop n s)))
+    pub walk_sorted : (j : ℕ) → Sorted j (records s)
+        → (j ≤ rank h.found) × Sorted (rank h.found) (records (take (length s - h.bytes) (drop h.bytes s)))
     walk_sorted j w = rw walk_on at w
 
 -- ---- the loop that looks for a record
 
 -- the record with the mark k that has n of them before it
-abbrev pub looked : ℕ → ℕ → List ℕ → Lookup
+abbrev pub looked : ℕ → ℕ → List ℕ → Option Record
 looked k n s = first_of (drop n (in_place k (records s)))
 
 first_after : (n : ℕ) → (n ≡ 0 → ⊥) → (r : Record) (rs : List Record) → first_of (drop (n - 1) rs) ≡ first_of (drop n (r ∷ rs))
 first_after zero z r rs = absurd (z refl)
 first_after (suc n) z r rs = let j : suc n - 1 ≡ n = omega arith in ap (λ (i : ℕ). first_of (drop i rs)) j
 
--- r is the next record in s, with m bytes and the rank x: none comes, or it is the one, or the look goes on after it
-pub record Seen (k n : ℕ) (s : List ℕ) (r : Record) (m x : ℕ) : Type 0 where
-  pub used : Used s m
-  pub past : k < x → Missing ≡ looked k n s
-  pub here : x ≡ k → n ≡ 0 → Found r ≡ looked k n s
-  pub after : x ≡ k → (n ≡ 0 → ⊥) → looked k (n - 1) (take (length s - m) (drop m s)) ≡ looked k n s
-  pub on : x ≤ k → (x ≡ k → ⊥) → looked k n (take (length s - m) (drop m s)) ≡ looked k n s
+-- h is the next record in s, and x its rank: none comes, or it is the one, or the look goes on after it
+pub record Seen (k n : ℕ) (s : List ℕ) (h : Head) (x : ℕ) : Type 0 where
+  pub used : Used s h.bytes
+  pub past : k < x → None ≡ looked k n s
+  pub here : x ≡ k → n ≡ 0 → Some h.found ≡ looked k n s
+  pub after : x ≡ k → (n ≡ 0 → ⊥) → looked k (n - 1) (take (length s - h.bytes) (drop h.bytes s)) ≡ looked k n s
+  pub on : x ≤ k → (x ≡ k → ⊥) → looked k n (take (length s - h.bytes) (drop h.bytes s)) ≡ looked k n s
 
-module _ (k n : ℕ) (s : List ℕ) {f : Next} (e : f ≡ before (step s)) where
-  pub look_end : f ≡ Stop → Missing ≡ looked k n s
+module _ (k n : ℕ) (s : List ℕ) {f : Option Head} (e : f ≡ before (step s)) where
+  pub look_end : f ≡ None → None ≡ looked k n s
   unfolding in_place
   look_end h = rw (walk_end s e h, drop-nil n)
 
-  pub look_next : {r : Record} {m x : ℕ} → f ≡ Kind r m → x ≡ rank r → Seen k n s r m x
+  pub look_next : {h : Head} {x : ℕ} → f ≡ Some h → x ≡ rank h.found → Seen k n s h x
   unfolding in_place
-  look_next {r} {m} {x} h i = record {
-    used = walk_used s e h;
-    past = λ j. rw (walk_on s e h, lt-ltb k (rank r) (omega arith), drop-nil n);
-    here = λ j z. rw (walk_on s e h, le-ltb k (rank r) (omega arith), eq-eqb (rank r) k (sym i ∙ j), z);
-    after = λ j z.
-        rw (walk_on s e h, le-ltb k (rank r) (omega arith), eq-eqb (rank r) k (sym i ∙ j))
-        (first_after n z r (in_place k (records (take (length s - m) (drop m s)))));
-    on = λ l j. rw (walk_on s e h, le-ltb k (rank r) (omega arith), ne_eqb (rank r) k (λ q. j (i ∙ q)));
+  look_next {h} {x} j i = record {
+    used = walk_used s e j;
+    past = λ l. rw (walk_on s e j, lt-ltb k (rank h.found) (omega arith), drop-nil n);
+    here = λ l z. rw (walk_on s e j, le-ltb k (rank h.found) (omega arith), eq-eqb (rank h.found) k (sym i ∙ l), z);
+    after = λ l z.
+        rw (walk_on s e j, le-ltb k (rank h.found) (omega arith), eq-eqb (rank h.found) k (sym i ∙ l))
+        (first_after n z h.found (in_place k (records (take (length s - h.bytes) (drop h.bytes s)))));
+    on = λ l q. rw (walk_on s e j, le-ltb k (rank h.found) (omega arith), ne_eqb (rank h.found) k (λ u. q (i ∙ u)));
   }
 
 -- ---- the record that was found
 
-found_none : {X : Type 0} (n : ℕ) (r : Record) → first_of (drop n []) ≡ Found r → X
+found_none : {X : Type 0} (n : ℕ) (r : Record) → first_of (drop n []) ≡ Some r → X
 found_none n r h =
-    let i : Missing ≡ Found r = rw (drop-nil n) at h in
+    let i : None ≡ Some r = rw (drop-nil n) at h in
     let z : ◌≡◌ {A = ℕ} 0 1 = cc in
     absurd (omega arith)
 
-looked_rank : (k n : ℕ) (rs : List Record) (r : Record) → first_of (drop n (in_place k rs)) ≡ Found r → rank r ≡ k
+looked_rank : (k n : ℕ) (rs : List Record) (r : Record) → first_of (drop n (in_place k rs)) ≡ Some r → rank r ≡ k
 unfolding in_place
 looked_rank k n [] r h = found_none n r h
 looked_rank k n (q ∷ qs) r h = go (ltb k (rank q)) (eqb (rank q) k) refl n h (λ m. looked_rank k m qs r)
   where
-    go : (a b : Bool) → eqb (rank q) k ≡ b → (n : ℕ) → first_of (drop n (cond a [] (cond b (q ∷ in_place k qs) (in_place k qs)))) ≡ Found r
-        → ((m : ℕ) → first_of (drop m (in_place k qs)) ≡ Found r → rank r ≡ k) → rank r ≡ k
+    go : (a b : Bool) → eqb (rank q) k ≡ b → (n : ℕ) → first_of (drop n (cond a [] (cond b (q ∷ in_place k qs) (in_place k qs)))) ≡ Some r
+        → ((m : ℕ) → first_of (drop m (in_place k qs)) ≡ Some r → rank r ≡ k) → rank r ≡ k
     go true b i n h later = found_none n r h
     go false true i zero h later = let j : q ≡ r = cc in ap rank (sym j) ∙ eqb-true (rank q) k i
     go false true i (suc n) h later = later n h
     go false false i n h later = later n h
 
 -- f is the first of the records l, which have the mark k, or that there is none
-pub record Looked (k : ℕ) (l : List Record) (f : Lookup) : Type 0 where
+pub record Looked (k : ℕ) (l : List Record) (f : Option Record) : Type 0 where
   pub is : f ≡ first_of l
-  pub ranked : (r : Record) → f ≡ Found r → rank r ≡ k
+  pub ranked : (r : Record) → f ≡ Some r → rank r ≡ k
 
-pub looked_in_place : (k n : ℕ) (s : List ℕ) {f : Lookup} → f ≡ looked k n s → Looked k (drop n (in_place k (records s))) f
+pub looked_in_place : (k n : ℕ) (s : List ℕ) {f : Option Record} → f ≡ looked k n s → Looked k (drop n (in_place k (records s))) f
 looked_in_place k n s e = record { is = e; ranked = λ r h. looked_rank k n (records s) r (sym e ∙ h) }
 
-pub looked_marked : (k : ℕ) (s : List ℕ) {f : Lookup} → Sorted 0 (records s) → f ≡ looked k 0 s → Looked k (marked k (records s)) f
+pub looked_marked : (k : ℕ) (s : List ℕ) {f : Option Record} → Sorted 0 (records s) → f ≡ looked k 0 s → Looked k (marked k (records s)) f
 looked_marked k s w e = record { is = e ∙ ap first_of (is_in_place 0 k (records s) w); ranked = (looked_in_place k 0 s e).ranked }
 
-module _ {k : ℕ} {l : List Record} {f : Lookup} (w : Looked k l f) where
+module _ {k : ℕ} {l : List Record} {f : Option Record} (w : Looked k l f) where
   -- what is made of the records, where there is none and where there is one
-  pub from_none : {X : Type 0} (g : List Record → X) {v : X} → f ≡ Missing → g [] ≡ v → v ≡ g l
+  pub from_none : {X : Type 0} (g : List Record → X) {v : X} → f ≡ None → g [] ≡ v → v ≡ g l
   from_none {X} g {v} h p = go l (sym w.is ∙ h)
     where
-      go : (l : List Record) → first_of l ≡ Missing → v ≡ g l
+      go : (l : List Record) → first_of l ≡ None → v ≡ g l
       go [] h = sym p
       go (r ∷ l) h = let z : ◌≡◌ {A = ℕ} 0 1 = cc in absurd (omega arith)
 
-  pub from_one : {X : Type 0} (g : List Record → X) {v : X} {r q : Record} → f ≡ Found r → r ≡ q → ((t : List Record) → g (q ∷ t) ≡ v) → v ≡ g l
+  pub from_one : {X : Type 0} (g : List Record → X) {v : X} {r q : Record} → f ≡ Some r → r ≡ q → ((t : List Record) → g (q ∷ t) ≡ v) → v ≡ g l
   from_one {X} g {v} {r} {q} h i p = go l (sym w.is ∙ h)
     where
-      go : (l : List Record) → first_of l ≡ Found r → v ≡ g l
+      go : (l : List Record) → first_of l ≡ Some r → v ≡ g l
       go [] h = let z : ◌≡◌ {A = ℕ} 0 1 = cc in absurd (omega arith)
       go (o ∷ t) h = let j : o ≡ q = cc in sym (ap (λ (y : Record). g (y ∷ t)) j ∙ p t)
 

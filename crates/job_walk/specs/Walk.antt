@@ -1,23 +1,18 @@
 -- How the records of a job are walked: one by one, and up to those of a mark. Assumes nothing.
-use Rattle.std.specs.Prelude.{cond, List, [], ◌∷◌, ℕ, ◌≤◌, eqb, ltb}
+use Rattle.std.specs.Prelude.{cond, List, [], ◌∷◌, ℕ, ◌≤◌, eqb, ltb, Option, Some, None}
 use Rattle.job_records.specs.Records.{rank, is_end}
 use Rattle.job_records.specs.declared.records.Record.{Record}
-use Rattle.job_records.specs.declared.records.Step.{Step}
-use Rattle.job_records.specs.declared.records.Step.TheVariants.{Read, Nothing}
-use Rattle.job_walk.specs.declared.Next.{Next}
-use Rattle.job_walk.specs.declared.Next.TheVariants.{Kind, Stop}
-use Rattle.job_walk.specs.declared.Lookup.{Lookup}
-use Rattle.job_walk.specs.declared.Lookup.TheVariants.{Found, Missing}
+use Rattle.job_records.specs.declared.records.Head.{Head}
 
 -- the record before the EN that a step found
-unfoldable pub before : Step → Next
-before Nothing = Stop
-before (Read r n) = cond (is_end r) Stop (Kind r n)
+unfoldable pub before : Option Head → Option Head
+before None = None
+before (Some h) = cond (is_end h.found) None (Some h)
 
 -- the first of some records
-abbrev pub first_of : List Record → Lookup
-first_of [] = Missing
-first_of (r ∷ rs) = Found r
+abbrev pub first_of : List Record → Option Record
+first_of [] = None
+first_of (r ∷ rs) = Some r
 
 -- the records with the mark k that stand before every record with a later mark
 unfoldable pub in_place : ℕ → List Record → List Record

@@ -2,73 +2,53 @@
 #![tactic(auto)]
 
 ghost use Rattle.std.specs.Prelude.{◌≡◌, take, drop};
+ghost use Rattle.job_records.specs.Marks.{place};
 ghost use Rattle.job_records.specs.Records.{step, records, UC, AR};
 ghost use Rattle.job_walk.specs.Walk as walk;
 ghost use Rattle.job_walk.specs.Areas as section;
 
-use job_records::ranks::{CELL_LIMIT, END, RANGE};
-use job_records::{JobAreas, Range, Record, Step, rank_of, read_record};
+use job_records::{Head, JobAreas, Mark, Range, Record, read_record};
 
-// The next record before the EN and how many bytes it has, or none.
-#[derive(Clone, Copy)]
-pub enum Next {
-    Kind(Record, usize),
-    Stop,
-}
-
-// A record that was looked for, if it is there.
-#[derive(Clone, Copy)]
-pub enum Lookup {
-    Found(Record),
-    Missing,
-}
-
-pub fn next_record(s: &[u8]) -> Next
+// The next record before the EN, or none.
+pub fn next_record(s: &[u8]) -> Option<Head>
     ensures { result ≡ walk.before (step s.now) }
 {
-    let Step::Read(found, used) = read_record(s) else {
-        return Next::Stop;
-    };
-    if rank_of(found) == END {
-        return Next::Stop;
+    let head = read_record(s)?;
+    if head.found.mark() == Mark::End {
+        return None;
     }
-    Next::Kind(found, used)
+    Some(head)
 }
 
-// The record with the rank `wanted` that has so many of them before it. The first record with a later rank ends the search.
-pub fn find_record(bytes: &[u8], wanted: u8, before: usize) -> Lookup
-    ensures { result ≡ walk.first_of (drop before (walk.in_place wanted (records bytes.now))) }
+// The record with a mark that has so many of them before it, if it is there. The first record with a later mark ends the search.
+pub fn find_record(bytes: &[u8], wanted: Mark, before: usize) -> Option<Record>
+    ensures { result ≡ walk.first_of (drop before (walk.in_place (place wanted) (records bytes.now))) }
 {
     let mut s = bytes;
     let mut left = before;
-    loop {
-        let Next::Kind(found, used) = next_record(s) else {
-            return Lookup::Missing;
-        };
-        let rank = rank_of(found);
-        if rank > wanted {
-            return Lookup::Missing;
+    while let Some(head) = next_record(s) {
+        let mark = head.found.mark();
+        if mark > wanted {
+            return None;
         }
-        if rank == wanted {
+        if mark == wanted {
             if left == 0 {
-                return Lookup::Found(found);
+                return Some(head.found);
             }
             left -= 1;
         }
-        s = &s[used..];
+        s = &s[head.bytes..];
     }
+    None
 }
 
 pub fn cell_limit_of(bytes: &[u8]) -> Option<u64>
     ensures { result ≡ section.cell_limit_from (walk.in_place UC (records bytes.now)) }
 {
-    let Lookup::Found(found) = find_record(bytes, CELL_LIMIT, 0) else {
-        return None;
-    };
-    let Record::Cells(most) = found else {
-        return None;
-    };
-    Some(most)
+    match find_record(bytes, Mark::CellLimit, 0)? {
+        Record::Cells(most) => Some(most),
+        _ => unreachable!(),
+    }
 }
 
 fn nowhere() -> Range
@@ -86,11 +66,11 @@ fn nowhere() -> Range
 fn area_of(bytes: &[u8], before: usize) -> Range
     ensures { result ≡ section.range_from (drop before (walk.in_place AR (records bytes.now))) }
 {
-    let Lookup::Found(found) = find_record(bytes, RANGE, before) else {
+    let Some(found) = find_record(bytes, Mark::Area, before) else {
         return nowhere();
     };
     let Record::Area(cells) = found else {
-        return nowhere();
+        unreachable!()
     };
     cells
 }

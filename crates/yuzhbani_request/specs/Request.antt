@@ -40,7 +40,7 @@ abbrev pub cell_limit_from : List ℕ → Option ℕ
 cell_limit_from ns = cond (is_set (get_or ns 20 0)) (Some (get_or ns 21 0)) None
 
 -- 0 to 21: paper, landscape, margins, percent, fit, both targets, order, headings, page limit and cell limit
-unfoldable pub settings_from : List ℕ → Option ℕs
+unfoldable pub settings_from : List ℕ → Settings
 settings_from ns = record {
   paper = setting_from ns 0;
   landscape = is_set (get_or ns 2 0);

@@ -3,8 +3,8 @@ use lib.ListN.{length}
 use Rattle.job_questions.proofs.PassLaws.{Seen}
 use Rattle.job_questions.proofs.survey_job.Given as goal
 
-abbrev pub invariant-loop-found : goal.invariant-loop-found
-invariant-loop-found l = Seen l.bytes l.s l.t
+abbrev pub invariant-loop-head : goal.invariant-loop-head
+invariant-loop-head l = Seen l.bytes l.s l.t
 
-abbrev pub decreases-loop-found : goal.decreases-loop-found
-decreases-loop-found l = length l.s
+abbrev pub decreases-loop-head : goal.decreases-loop-head
+decreases-loop-head l = length l.s

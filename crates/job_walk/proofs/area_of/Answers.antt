@@ -4,6 +4,6 @@ use Rattle.job_walk.proofs.WalkLaws.{looked_in_place}
 use Rattle.job_walk.proofs.Arms.{only_area}
 use Rattle.job_walk.proofs.area_of.Goals as goal
 
-pub returns-in_default-found : goal.returns-in_default-found
-returns-in_default-found c =
-    absurd (only_area _ ((looked_in_place AR c.args.before c.args.bytes.now c.find_record.ensures).ranked _ c.in-Found.is) c.in_default-found.not-Area)
+pub unreachable-requires : goal.unreachable-requires
+unreachable-requires c =
+    only_area _ ((looked_in_place AR c.args.before c.args.bytes.now c.find_record.ensures).ranked _ c.in-Some.is) c.in_default-found.not-Area

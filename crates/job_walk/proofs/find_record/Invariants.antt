@@ -1,11 +1,12 @@
 -- The loop of `find_record` looks in the rest of the bytes for what is left to look for, and the rest grows shorter.
 use mathlib.Core.Path.{◌≡◌}
 use lib.ListN.{length}
+use Rattle.job_records.specs.Marks.{place}
 use Rattle.job_walk.proofs.WalkLaws.{looked}
 use Rattle.job_walk.proofs.find_record.Given as goal
 
-abbrev pub invariant-loop-found : goal.invariant-loop-found
-invariant-loop-found l = looked l.wanted l.left l.s ≡ looked l.wanted l.before l.bytes
+abbrev pub invariant-loop-head : goal.invariant-loop-head
+invariant-loop-head l = looked (place l.wanted) l.left l.s ≡ looked (place l.wanted) l.before l.bytes
 
-abbrev pub decreases-loop-found : goal.decreases-loop-found
-decreases-loop-found l = length l.s
+abbrev pub decreases-loop-head : goal.decreases-loop-head
+decreases-loop-head l = length l.s

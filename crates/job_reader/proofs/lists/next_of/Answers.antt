@@ -1,14 +1,19 @@
 -- `job_reader::lists::next_of` meets its contract.
+use Rattle.std.proofs.Common.{sym, ap, ◌∙◌}
+use Rattle.job_records.specs.Marks.{place}
+use Rattle.job_records.proofs.MarkLaws.{same_place, other_place}
 use Rattle.job_reader.proofs.WalkLaws.{kind_none, kind_some, kind_other}
 use Rattle.job_reader.proofs.lists.next_of.Goals as goal
 
-pub returns-in_default : goal.returns-in_default
-returns-in_default c = kind_none c.args.wanted c.next_record.ensures c.in_default.is
+pub returns-in_err-head : goal.returns-in_err-head
+returns-in_err-head c = c.from_residual.ensures ∙ kind_none (place c.args.wanted) c.next_record.ensures c.in_err-head.was
 
-pub returns-then-rank_of-wanted : goal.returns-then-rank_of-wanted
-returns-then-rank_of-wanted c =
-    kind_some c.args.wanted c.next_record.ensures c.in-Kind.is c.rank_of.ensures c.if-rank_of-wanted.true
+pub returns-then-eq : goal.returns-then-eq
+returns-then-eq c =
+    kind_some (place c.args.wanted) c.next_record.ensures c.in_ok-head.was (ap place c.mark.ensures)
+    (same_place c.mark.result c.args.wanted (sym c.eq.ensures ∙ c.if-eq.true))
 
-pub returns-else-rank_of-wanted : goal.returns-else-rank_of-wanted
-returns-else-rank_of-wanted c =
-    kind_other c.args.wanted c.next_record.ensures c.in-Kind.is c.rank_of.ensures c.if-rank_of-wanted.false
+pub returns-else-eq : goal.returns-else-eq
+returns-else-eq c =
+    kind_other (place c.args.wanted) c.next_record.ensures c.in_ok-head.was (ap place c.mark.ensures)
+    (other_place c.mark.result c.args.wanted (sym c.eq.ensures ∙ c.if-eq.false))

@@ -1,14 +1,15 @@
 -- `job_reader::lists::write_breaks`: what the loop keeps of the bytes that are left and of the list.
 use Rattle.std.proofs.Common.{◌+◌, length}
+use Rattle.job_records.specs.Marks.{place}
 use Rattle.job_reader.proofs.WalkLaws.{Going}
 use Rattle.job_reader.proofs.Lent.{Numbers}
 use Rattle.job_reader.proofs.lists.write_breaks.Given as goal
 
-abbrev pub invariant-loop-found : goal.invariant-loop-found
-invariant-loop-found l = record {
-  going : Going l.wanted (l.wanted + 1) l.bytes l.s;
-  numbers : Numbers l.wanted 0 l.bytes l.s l.k l.initial.breaks l.breaks;
+abbrev pub invariant-loop-head : goal.invariant-loop-head
+invariant-loop-head l = record {
+  going : Going (place l.wanted) (place l.wanted + 1) l.bytes l.s;
+  numbers : Numbers (place l.wanted) 0 l.bytes l.s l.k l.initial.breaks l.breaks;
 }
 
-abbrev pub decreases-loop-found : goal.decreases-loop-found
-decreases-loop-found l = length l.s
+abbrev pub decreases-loop-head : goal.decreases-loop-head
+decreases-loop-head l = length l.s

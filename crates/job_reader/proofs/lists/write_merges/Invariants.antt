@@ -4,8 +4,8 @@ use Rattle.job_reader.proofs.WalkLaws.{Going}
 use Rattle.job_reader.proofs.Lent.{Numbers}
 use Rattle.job_reader.proofs.lists.write_merges.Given as goal
 
-abbrev pub invariant-loop-found : goal.invariant-loop-found
-invariant-loop-found l = record {
+abbrev pub invariant-loop-head : goal.invariant-loop-head
+invariant-loop-head l = record {
   going : Going 17 18 l.bytes l.s;
   first_rows : Numbers 17 0 l.bytes l.s l.k l.initial.first_rows l.first_rows;
   first_columns : Numbers 17 1 l.bytes l.s l.k l.initial.first_columns l.first_columns;
@@ -13,5 +13,5 @@ invariant-loop-found l = record {
   last_columns : Numbers 17 3 l.bytes l.s l.k l.initial.last_columns l.last_columns;
 }
 
-abbrev pub decreases-loop-found : goal.decreases-loop-found
-decreases-loop-found l = length l.s
+abbrev pub decreases-loop-head : goal.decreases-loop-head
+decreases-loop-head l = length l.s

@@ -1,11 +1,20 @@
 -- `job_reader::settings::is_there` meets its contract.
-use Rattle.std.proofs.Common.{refl}
+use Rattle.std.proofs.Common.{◌≡◌, refl, ap, ◌∙◌, List, [], ◌∷◌}
+use Rattle.std.specs.Prelude.{is_some}
+use Rattle.job_records.specs.Marks.{place}
+use Rattle.job_records.specs.Records.{records, marked}
+use Rattle.job_records.specs.declared.records.Record.{Record}
+use Rattle.job_walk.specs.Walk.{first_of}
+use Rattle.job_walk.proofs.WalkLaws.{looked_marked}
 use Rattle.job_reader.specs.Settings.{is_there}
-use Rattle.job_walk.proofs.WalkLaws.{looked_marked, from_none, from_one}
 use Rattle.job_reader.proofs.settings.is_there.Goals as goal
 
-pub returns-in_default : goal.returns-in_default
-returns-in_default c = from_none (looked_marked c.args.wanted c.args.bytes.now c.requires c.find_record.ensures) is_there c.in_default.is refl
+one_there : (rs : List Record) → is_some (first_of rs) ≡ is_there rs
+one_there [] = refl
+one_there (r ∷ rs) = refl
 
 pub returns : goal.returns
-returns c = from_one (looked_marked c.args.wanted c.args.bytes.now c.requires c.find_record.ensures) is_there c.in-Found.is refl (λ t. refl)
+returns c =
+    c.is_some.ensures
+    ∙ ap is_some (looked_marked (place c.args.wanted) c.args.bytes.now c.requires c.find_record.ensures).is
+    ∙ one_there (marked (place c.args.wanted) (records c.args.bytes.now))

@@ -9,10 +9,10 @@ pub returns-in_default : goal.returns-in_default
 returns-in_default c = from_none (looked_marked TR c.args.bytes.now c.requires c.find_record.ensures) title_from c.in_default.is refl
 
 -- a record with this mark that is not of this kind
-pub returns-in_default-found : goal.returns-in_default-found
-returns-in_default-found c =
-    let ranked : rank c.in-Found.found ≡ TR = (looked_marked TR c.args.bytes.now c.requires c.find_record.ensures).ranked _ c.in-Found.is in
+pub unreachable-requires : goal.unreachable-requires
+unreachable-requires c =
+    let ranked : rank c.in-Some.found ≡ TR = (looked_marked TR c.args.bytes.now c.requires c.find_record.ensures).ranked _ c.in-Some.is in
     search rules
 
 pub returns : goal.returns
-returns c = from_one (looked_marked TR c.args.bytes.now c.requires c.find_record.ensures) title_from c.in-Found.is c.in-TitleRows.is (λ t. refl)
+returns c = from_one (looked_marked TR c.args.bytes.now c.requires c.find_record.ensures) title_from c.in-Some.is c.in-TitleRows.is (λ t. refl)
