@@ -119,34 +119,32 @@ fn size_ok(size: i64) -> bool
     (0 <= size) & (size <= LARGEST_SIZE as i64)
 }
 
+// What is asked of nothing.
+const FINE: Fine = Fine {
+    flag: true,
+    first: true,
+    grid: true,
+    size: true,
+};
+
 fn fine_of(what: Asked) -> Fine
     ensures { result ≡ fine what }
 {
-    let mut f = Fine {
-        flag: true,
-        first: true,
-        grid: true,
-        size: true,
-    };
     match what {
-        Asked::Flag(x) => {
-            f.flag = x <= 1;
-            f
-        }
-        Asked::Rectangle(a) => {
-            f.first = firsts_ok(a);
-            f.grid = grid_ok(a);
-            f
-        }
-        Asked::InRows(s) => {
-            f.size = size_ok(s.size);
-            f
-        }
-        Asked::InColumns(s) => {
-            f.size = size_ok(s.size);
-            f
-        }
-        Asked::Other => f,
+        Asked::Flag(x) => Fine {
+            flag: x <= 1,
+            ..FINE
+        },
+        Asked::Rectangle(a) => Fine {
+            first: firsts_ok(a),
+            grid: grid_ok(a),
+            ..FINE
+        },
+        Asked::InRows(s) | Asked::InColumns(s) => Fine {
+            size: size_ok(s.size),
+            ..FINE
+        },
+        Asked::Other => FINE,
     }
 }
 
@@ -247,12 +245,7 @@ fn beginning() -> State
     State {
         last: None,
         ordered: true,
-        fine: Fine {
-            flag: true,
-            first: true,
-            grid: true,
-            size: true,
-        },
+        fine: FINE,
         rows: 0,
         columns: 0,
         items: Items {

@@ -88,27 +88,18 @@ fn order_for(order: Option<u8>) -> PageOrder
 pub fn settings_for(read: JobSettings) -> Settings
     ensures { result ≡ section.settings_for read }
 {
-    let paper = read.paper;
-    let margins = read.margins;
-    let percent = read.percent;
-    let fit = read.fit;
-    let fit_width = read.fit_width;
-    let fit_height = read.fit_height;
-    let order = read.order;
-    let limit = read.page_limit;
-    let cell_limit = read.cell_limit;
     Settings {
-        paper,
+        paper: read.paper,
         landscape: read.landscape,
-        margins: margin_setting(margins),
-        percent,
-        fit: fit_on(fit, fit_width, fit_height),
-        fit_width,
-        fit_height,
-        order: order_for(order),
+        margins: margin_setting(read.margins),
+        percent: read.percent,
+        fit: fit_on(read.fit, read.fit_width, read.fit_height),
+        fit_width: read.fit_width,
+        fit_height: read.fit_height,
+        order: order_for(read.order),
         headings: read.headings,
-        page_limit: page_limit(limit),
-        cell_limit,
+        page_limit: page_limit(read.page_limit),
+        cell_limit: read.cell_limit,
     }
 }
 
@@ -128,23 +119,15 @@ pub fn range_for(cells: Range) -> PrintRange
 pub fn areas_for(read: JobAreas) -> Areas
     ensures { result ≡ section.areas_for read }
 {
-    let first = read.first;
-    let second = read.second;
-    let third = read.third;
-    let fourth = read.fourth;
-    let fifth = read.fifth;
-    let sixth = read.sixth;
-    let seventh = read.seventh;
-    let eighth = read.eighth;
     Areas {
         count: read.count,
-        first: range_for(first),
-        second: range_for(second),
-        third: range_for(third),
-        fourth: range_for(fourth),
-        fifth: range_for(fifth),
-        sixth: range_for(sixth),
-        seventh: range_for(seventh),
-        eighth: range_for(eighth),
+        first: range_for(read.first),
+        second: range_for(read.second),
+        third: range_for(read.third),
+        fourth: range_for(read.fourth),
+        fifth: range_for(read.fifth),
+        sixth: range_for(read.sixth),
+        seventh: range_for(read.seventh),
+        eighth: range_for(read.eighth),
     }
 }
