@@ -5,7 +5,8 @@ use job::{count_job, write_job_area};
 use job_report::{area_line, head_lines, page_line};
 use planner_areas::plan_at;
 use planner_pages::{area_page, page_spot};
-use planner_rules::{Found, PageAnswer, Plan, Planning, RUN_NUMBERS, Spot};
+use planner_rules::{Page, Plan, Planning, RUN_NUMBERS, Spot};
+use units::Refusal;
 
 // The runs that a list has room for, and its numbers.
 const RUNS: usize = 5000;
@@ -20,8 +21,13 @@ fn put_head(block: &mut [u8; BLOCK], planning: Planning) -> usize {
 }
 
 // The line of a page, and the place after it.
-fn put_page(block: &mut [u8; BLOCK], at: usize, number: u64, answer: PageAnswer) -> usize {
-    let PageAnswer::Value(page) = answer else {
+fn put_page(
+    block: &mut [u8; BLOCK],
+    at: usize,
+    number: u64,
+    answer: Result<Page, Refusal>,
+) -> usize {
+    let Ok(page) = answer else {
         return at;
     };
     let mut line = [0u8; LINE];
@@ -87,7 +93,7 @@ fn put_pages(block: &mut [u8; BLOCK], at: usize, bytes: &[u8], plan: Plan) -> us
     for before in 0..plan.pages {
         let number = before + 1;
         let found = page_spot(plan, number);
-        let Found::At(spot) = found else {
+        let Some(spot) = found else {
             return next;
         };
         next = begin_area(

@@ -14,18 +14,18 @@ use Rattle.planner_rules.specs.declared.pages.PageOrder.{PageOrder}
 use Rattle.planner_rules.specs.declared.pages.Page.{Page}
 use Rattle.planner_rules.specs.declared.pages.Plan.{Plan}
 use Rattle.planner_rules.specs.declared.pages.Spot.{Spot}
-use Rattle.planner_rules.specs.declared.pages.Found.TheVariants.{At, Nothing}
-use Rattle.planner_rules.specs.declared.pages.PageAnswer.{PageAnswer}
-use Rattle.planner_rules.specs.declared.pages.PageAnswer.TheVariants as page
+use Rattle.std.specs.Prelude.{Some, None, Result, Ok, Err}
+use Rattle.units.specs.Refusals.{number_of, outcome}
+use Rattle.units.specs.declared.refusal.Refusal.{Refusal}
+use Rattle.units.specs.declared.refusal.Refusal.TheVariants as no
 use Rattle.planner_rules.specs.Questions.{ask}
 use Rattle.planner_rules.specs.Areas.{eight_plans, no_plan}
-use Rattle.planner_rules.specs.Pages.{area_pages, page_at, pages_in, holds_area, numbered, area_numbered, page_outcome, spot_of}
+use Rattle.planner_rules.specs.Pages.{area_pages, page_at, pages_in, holds_area, numbered, area_numbered, spot_of}
 use Rattle.planner_rules.proofs.Laws.{split}
 use Rattle.planner_rules.proofs.NoTen.{not_given}
 use Rattle.planner_rules.proofs.PageLaws.{numbered_take, page_count}
 use Rattle.planner_rules.proofs.QuestionLaws.{both}
 use Rattle.job_report.specs.declared.blocks.Block.{Block}
-use Rattle.job_report.specs.declared.blocks.BlockAnswer.TheVariants.{Value, Refused}
 use Rattle.job_report.specs.Lines.{page_line, PutAt}
 use Rattle.job_report.specs.Blocks.{lines_from, held, block_lines, area_of, pages_on, block_pages, BlockPut, There, LinesHeld}
 use Rattle.job_report.proofs.TextLaws.{and_then_lem, put_none}
@@ -238,43 +238,43 @@ module _ (p : Plan) (n : ℕ) (s : Spot) (rows columns : List ℕ) where
 
 module _ (p : Plan) (n : ℕ) (rows columns : List ℕ) where
   -- there is no such page
-  pub block_nowhere : spot_of p n ≡ Nothing → (old : List ℕ) → BlockPut (block_pages p rows columns n) n (Refused 14) old old
+  pub block_nowhere : spot_of p n ≡ None → (old : List ℕ) → BlockPut (block_pages p rows columns n) n (Err no.NoSuchNumber) old old
   unfolding block_pages
   block_nowhere e old = rw e (record { answer = refl; array_is = refl })
 
-  module _ (s : Spot) (found : spot_of p n ≡ At s) (a : AreaPlan) (is : a ≡ get_or (eight_plans p.areas) s.area no_plan)
-      (answer : PageAnswer) (asked : page_outcome answer ≡ area_numbered p.order a rows columns 1) where
+  module _ (s : Spot) (found : spot_of p n ≡ Some s) (a : AreaPlan) (is : a ≡ get_or (eight_plans p.areas) s.area no_plan)
+      (answer : Result Page Refusal) (asked : outcome answer ≡ area_numbered p.order a rows columns 1) where
     held_same : a ≡ area_of p s
     held_same = is ∙ sym (placed p n s found).area_is
 
     -- the area has a page, so that only 11 refuses its first
-    first_is : ask 11 (holds_area (area_of p s) rows columns) (numbered (area_pages p.order (area_of p s) rows columns) 1) ≡ page_outcome answer
+    first_is : ask 11 (holds_area (area_of p s) rows columns) (numbered (area_pages p.order (area_of p s) rows columns) 1) ≡ outcome answer
     unfolding area_numbered
     first_is = rw (← held_same) (sym asked)
 
     -- the runs of the area are held
-    pub first_there : (first : Page) → answer ≡ page.Value first → There p n s rows columns
-    first_there first e = record { found = found; holds = go (holds_area (area_of p s) rows columns) refl (first_is ∙ ap page_outcome e) }
+    pub first_there : (first : Page) → answer ≡ Ok first → There p n s rows columns
+    first_there first e = record { found = found; holds = go (holds_area (area_of p s) rows columns) refl (first_is ∙ ap outcome e) }
       where
         go : (b : Bool) → holds_area (area_of p s) rows columns ≡ b → ask 11 b (numbered (area_pages p.order (area_of p s) rows columns) 1) ≡ given first
             → holds_area (area_of p s) rows columns ≡ true
         go true i j = i
         go false i j = absurd (not_given first 11 (sym j))
 
-    pub block_given : (first : Page) → answer ≡ page.Value first → (b : Block) (old new : List ℕ) → LinesHeld n (pages_on p rows columns n s) b old new
-        → BlockPut (block_pages p rows columns n) n (Value b) old new
+    pub block_given : (first : Page) → answer ≡ Ok first → (b : Block) (old new : List ℕ) → LinesHeld n (pages_on p rows columns n s) b old new
+        → BlockPut (block_pages p rows columns n) n (Ok b) old new
     unfolding block_pages
     block_given first e b old new w =
         rw (found, (first_there first e).holds) (record { answer = ap given w.block_is; array_is = w.array_is })
 
     -- they are not
-    pub block_refused : (k : ℕ) → answer ≡ page.Refused k → (old : List ℕ) → BlockPut (block_pages p rows columns n) n (Refused k) old old
+    pub block_refused : (k : Refusal) → answer ≡ Err k → (old : List ℕ) → BlockPut (block_pages p rows columns n) n (Err k) old old
     unfolding block_pages
-    block_refused k e old = rw found (go (holds_area (area_of p s) rows columns) (first_is ∙ ap page_outcome e))
+    block_refused k e old = rw found (go (holds_area (area_of p s) rows columns) (first_is ∙ ap outcome e))
       where
-        go : (b : Bool) → ask 11 b (numbered (area_pages p.order (area_of p s) rows columns) 1) ≡ refused k
-            → BlockPut (ask 11 b (given (pages_on p rows columns n s))) n (Refused k) old old
+        go : (b : Bool) → ask 11 b (numbered (area_pages p.order (area_of p s) rows columns) 1) ≡ refused (number_of k)
+            → BlockPut (ask 11 b (given (pages_on p rows columns n s))) n (Err k) old old
         go true j =
             let own = own_page p n s found in
-            absurd (omega (arith, there_none (area_pages p.order (area_of p s) rows columns) 0 k j, area_count p (area_of p s) rows columns, own))
-        go false j = let same : 11 ≡ k = cc in rw (← same) (record { answer = refl; array_is = refl })
+            absurd (omega (arith, there_none (area_pages p.order (area_of p s) rows columns) 0 (number_of k) j, area_count p (area_of p s) rows columns, own))
+        go false j = let same : 11 ≡ number_of k = cc in record { answer = ap refused (sym same); array_is = refl }

@@ -11,14 +11,14 @@ use borrow.Author.Tests.{leb-true, lt-ltb, le-ltb}
 use Rattle.planner_rules.specs.declared.pages.AreaPlan.{AreaPlan}
 use Rattle.planner_rules.specs.declared.pages.Plan.{Plan}
 use Rattle.planner_rules.specs.declared.pages.Spot.{Spot}
-use Rattle.planner_rules.specs.declared.pages.Found.TheVariants.{At, Nothing}
+use Rattle.std.specs.Prelude.{Some, None}
 use Rattle.planner_rules.specs.Areas.{eight_plans, plans_in, no_plan}
 use Rattle.planner_rules.specs.Pages.{pages_in, spot_from, spot_of}
 use Rattle.planner_rules.proofs.Laws.{split}
 use Rattle.planner_rules.proofs.QuestionLaws.{both}
 use Rattle.job_report.specs.Blocks.{area_of}
 
-pub no_spot : {X : Type 0} (s : Spot) → Nothing ≡ At s → X
+pub no_spot : {X : Type 0} (s : Spot) → None ≡ Some s → X
 no_spot s e = let z : ◌≡◌ {A = ℕ} 0 1 = cc in absurd (omega arith)
 
 -- a spot among the areas from the k-th on, of a page that has so many pages before it
@@ -28,13 +28,13 @@ pub record Within (areas : List AreaPlan) (k before : ℕ) (s : Spot) : Type 0 w
   pub not_later : s.before ≤ before
   pub own : s.before < pages_in (get_or areas (s.area - k) no_plan)
 
-pub spot_within : (areas : List AreaPlan) (k before : ℕ) (s : Spot) → spot_from k before areas ≡ At s → Within areas k before s
+pub spot_within : (areas : List AreaPlan) (k before : ℕ) (s : Spot) → spot_from k before areas ≡ Some s → Within areas k before s
 unfolding spot_from
 spot_within [] k before s e = no_spot s e
 spot_within (a ∷ areas) k before s e =
     split (suc before) (pages_in a)
     (λ h.
-    let is : At (record { area = k; before = before }) ≡ At s = rw (lt-ltb before (pages_in a) h) at e in
+    let is : Some (record { area = k; before = before }) ≡ Some s = rw (lt-ltb before (pages_in a) h) at e in
     let same : record { area = k; before = before } ≡ s = cc in
     let none : k - k ≡ 0 = omega arith in
     rw (← same) (record { from_first = omega arith; to_last = omega arith; not_later = omega arith; own = rw none h }))
@@ -49,15 +49,15 @@ spot_within (a ∷ areas) k before s e =
 pub record Placed (p : Plan) (n : ℕ) (s : Spot) : Type 0 where
   pub from_one : 1 ≤ n
   pub to_count : n ≤ p.pages
-  pub is : spot_from 0 (n - 1) (plans_in p.areas) ≡ At s
+  pub is : spot_from 0 (n - 1) (plans_in p.areas) ≡ Some s
   pub within : Within (plans_in p.areas) 0 (n - 1) s
   pub area_is : area_of p s ≡ get_or (eight_plans p.areas) s.area no_plan
 
-pub placed : (p : Plan) (n : ℕ) (s : Spot) → spot_of p n ≡ At s → Placed p n s
+pub placed : (p : Plan) (n : ℕ) (s : Spot) → spot_of p n ≡ Some s → Placed p n s
 unfolding spot_of
 placed p n s e = go (leb 1 n && leb n p.pages) refl e
   where
-    go : (b : Bool) → (leb 1 n && leb n p.pages) ≡ b → cond b (spot_from 0 (n - 1) (plans_in p.areas)) Nothing ≡ At s → Placed p n s
+    go : (b : Bool) → (leb 1 n && leb n p.pages) ≡ b → cond b (spot_from 0 (n - 1) (plans_in p.areas)) None ≡ Some s → Placed p n s
     go false i j = no_spot s j
     go true i j =
         let asked = both (leb 1 n) (leb n p.pages) i in
@@ -72,9 +72,9 @@ placed p n s e = go (leb 1 n && leb n p.pages) refl e
         }
 
 -- an area's own page
-pub own_page : (p : Plan) (n : ℕ) (s : Spot) → spot_of p n ≡ At s → s.before < pages_in (area_of p s)
+pub own_page : (p : Plan) (n : ℕ) (s : Spot) → spot_of p n ≡ Some s → s.before < pages_in (area_of p s)
 own_page p n s e = let none : s.area - 0 ≡ s.area = omega arith in rw none at (placed p n s e).within.own
 
 -- one of eight
-pub spot_eight : (p : Plan) (n : ℕ) (s : Spot) → spot_of p n ≡ At s → s.area < 8
+pub spot_eight : (p : Plan) (n : ℕ) (s : Spot) → spot_of p n ≡ Some s → s.area < 8
 spot_eight p n s e = omega (arith, (placed p n s e).within.to_last, length-take p.areas.count (eight_plans p.areas))

@@ -13,8 +13,7 @@ use Rattle.planner_rules.specs.declared.pages.AreaPlan.{AreaPlan}
 use Rattle.planner_rules.specs.declared.pages.Page.{Page}
 use Rattle.planner_rules.specs.declared.pages.Plan.{Plan}
 use Rattle.planner_rules.specs.declared.pages.Spot.{Spot}
-use Rattle.planner_rules.specs.declared.pages.Found.{Found}
-use Rattle.planner_rules.specs.declared.pages.Found.TheVariants.{At, Nothing}
+use Rattle.std.specs.Prelude.{Option, Some, None, Ok}
 use Rattle.planner_rules.specs.Questions.{ask}
 use Rattle.planner_rules.specs.Areas.{plans_in, no_plan, over_areas}
 use Rattle.planner_rules.specs.Pages.{area_pages, pages_in, holds_area, spot_from, spot_of}
@@ -22,7 +21,6 @@ use Rattle.io.specs.Counts.{IsPrefixLen}
 use Rattle.planner_rules.proofs.Laws.{split}
 use Rattle.planner_rules.proofs.NoTen.{not_given}
 use Rattle.job_report.specs.declared.blocks.Block.{Block}
-use Rattle.job_report.specs.declared.blocks.BlockAnswer.TheVariants.{Value}
 use Rattle.job_report.specs.Lines.{head_lines}
 use Rattle.job_report.specs.Blocks.{lines_from, held, block_lines, block_of, area_of, pages_on, pages_at, block_pages, BlockPut}
 use Rattle.job_report.specs.Report.{line_before, areas_lines, report_lines}
@@ -42,7 +40,7 @@ pub record Got (p : Plan) (rows columns : List ℕ) (n : ℕ) (s : Spot) (b : Bl
   pub lines_are : take b.bytes new ≡ lines_from n (take b.pages (drop s.before (area_pages p.order (area_of p s) rows columns)))
 
 module _ (p : Plan) (rows columns : List ℕ) (n : ℕ) (b : Block) (old new : List ℕ) where
-  module _ (s : Spot) (found : spot_of p n ≡ At s) where
+  module _ (s : Spot) (found : spot_of p n ≡ Some s) where
     abbrev own : List Page
     own = area_pages p.order (area_of p s) rows columns
 
@@ -70,11 +68,11 @@ module _ (p : Plan) (rows columns : List ℕ) (n : ℕ) (b : Block) (old new : L
     unfolding pages_on
     on_take k h = take-take k (p.pages + 1 - n) (drop s.before own) h
 
-    pub block_got : BlockPut (block_pages p rows columns n) n (Value b) old new → Got p rows columns n s b new
+    pub block_got : BlockPut (block_pages p rows columns n) n (Ok b) old new → Got p rows columns n s b new
     unfolding block_pages block_lines
     block_got v = go (holds_area (area_of p s) rows columns) (rw found at v)
       where
-        go : (holds : Bool) → BlockPut (ask 11 holds (given pages)) n (Value b) old new → Got p rows columns n s b new
+        go : (holds : Bool) → BlockPut (ask 11 holds (given pages)) n (Ok b) old new → Got p rows columns n s b new
         go false w = absurd (not_given b 11 w.answer)
         go true w =
             let is : b ≡ block_of n pages = let e : given b ≡ given (block_of n pages) = w.answer in cc in
@@ -97,13 +95,13 @@ module _ (p : Plan) (rows columns : List ℕ) (n : ℕ) (b : Block) (old new : L
             }
 
   -- its first page has a spot
-  pub block_told : BlockPut (block_pages p rows columns n) n (Value b) old new → (s : Spot) × Got p rows columns n s b new
+  pub block_told : BlockPut (block_pages p rows columns n) n (Ok b) old new → (s : Spot) × Got p rows columns n s b new
   unfolding block_pages
   block_told v = go (spot_of p n) refl v
     where
-      go : (f : Found) → spot_of p n ≡ f → BlockPut (pages_at p rows columns n f) n (Value b) old new → (s : Spot) × Got p rows columns n s b new
-      go Nothing i w = absurd (not_given b 14 w.answer)
-      go (At s) i w = (s, block_got s i v)
+      go : (f : Option Spot) → spot_of p n ≡ f → BlockPut (pages_at p rows columns n f) n (Ok b) old new → (s : Spot) × Got p rows columns n s b new
+      go None i w = absurd (not_given b 14 w.answer)
+      go (Some s) i w = (s, block_got s i v)
 
 -- ---- blocks up to the last page
 
@@ -121,8 +119,8 @@ module _ (p : Plan) (rows columns : ℕ → List ℕ) where
   -- its runs at the front
   pub data Printed : ℕ → ℕ → List ℕ → Type 0 where
     none : {n : ℕ} → Printed n n []
-    another : {from next : ℕ} {bytes : List ℕ} (s : Spot) (b : Block) (old new : List ℕ) → spot_of p from ≡ At s
-        → BlockPut (block_pages p (rows s.area) (columns s.area) from) from (Value b) old new
+    another : {from next : ℕ} {bytes : List ℕ} (s : Spot) (b : Block) (old new : List ℕ) → spot_of p from ≡ Some s
+        → BlockPut (block_pages p (rows s.area) (columns s.area) from) from (Ok b) old new
         → Printed (from + b.pages) next bytes → Printed from next (line_at s ++ (take b.bytes new ++ bytes))
 
   abbrev pages_of : ℕ → AreaPlan → List Page
@@ -211,7 +209,7 @@ module _ (p : Plan) (rows columns : ℕ → List ℕ) where
             (append_assoc (lines_from n (take m (drop before (pages_of k a)))) (lines_from (n + m) (drop m (drop before (pages_of k a)))) _))
             (λ l. rw (after_it (omega arith), take_all m (drop before (pages_of k a)) (omega (arith, own_count))))
 
-    tail_step : (k before n : ℕ) (areas : List AreaPlan) (s : Spot) → Each areas → spot_from k before areas ≡ At s
+    tail_step : (k before n : ℕ) (areas : List AreaPlan) (s : Spot) → Each areas → spot_from k before areas ≡ Some s
         → s.before + m ≤ pages_in (get_or areas (s.area - k) no_plan)
         → tail_lines k before n areas
         ≡ cond (ltb 0 s.before) [] (line_before s.area (get_or areas (s.area - k) no_plan))
@@ -221,7 +219,7 @@ module _ (p : Plan) (rows columns : ℕ → List ℕ) where
     tail_step k before n (a ∷ areas) s e f h =
         split (suc before) (pages_in a)
         (λ l.
-        let is : At (record { area = k; before = before }) ≡ At s = rw (lt-ltb before (pages_in a) l) at f in
+        let is : Some (record { area = k; before = before }) ≡ Some s = rw (lt-ltb before (pages_in a) l) at f in
         let same : record { area = k; before = before } ≡ s = cc in
         let none_before : k - k ≡ 0 = omega arith in
         let few : before + m ≤ pages_in a = rw (← same, none_before) at h in

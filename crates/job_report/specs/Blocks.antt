@@ -1,19 +1,17 @@
 -- A block of page lines of an area: document 01, sections "Pages" and "Jobs", and document 02, T-02. Assumes nothing.
-use Rattle.std.specs.Prelude.{◌≡◌, true, cond, List, [], ◌∷◌, ◌++◌, ℕ, suc, ◌+◌, ◌-◌, leb, length, get_or, take, drop}
+use Rattle.std.specs.Prelude.{◌≡◌, true, cond, List, [], ◌∷◌, ◌++◌, ℕ, suc, ◌+◌, ◌-◌, leb, length, get_or, take, drop, Option, Some, None, Result}
 use Rattle.units.specs.Outcome.{Outcome, given, refused, and_then}
+use Rattle.units.specs.Refusals.{outcome}
+use Rattle.units.specs.declared.refusal.Refusal.{Refusal}
 use Rattle.planner_rules.specs.declared.pages.AreaPlan.{AreaPlan}
 use Rattle.planner_rules.specs.declared.pages.Page.{Page}
 use Rattle.planner_rules.specs.declared.pages.Plan.{Plan}
 use Rattle.planner_rules.specs.declared.pages.Spot.{Spot}
-use Rattle.planner_rules.specs.declared.pages.Found.{Found}
-use Rattle.planner_rules.specs.declared.pages.Found.TheVariants.{At, Nothing}
 use Rattle.planner_rules.specs.Slots.{written}
 use Rattle.planner_rules.specs.Questions.{ask}
 use Rattle.planner_rules.specs.Areas.{plans_in, no_plan}
 use Rattle.planner_rules.specs.Pages.{area_pages, holds_area, spot_of}
 use Rattle.job_report.specs.declared.blocks.Block.{Block}
-use Rattle.job_report.specs.declared.blocks.BlockAnswer.{BlockAnswer}
-use Rattle.job_report.specs.declared.blocks.BlockAnswer.TheVariants.{Value, Refused}
 use Rattle.job_report.specs.Lines.{page_line}
 
 -- ---- lines of pages
@@ -50,9 +48,9 @@ unfolding area_pages
 pages_on p rows columns n s = take (p.pages + 1 - n) (drop s.before (area_pages p.order (area_of p s) rows columns))
 
 -- 14: "Page number from 1 to the count?"; then 11 of the area's runs
-abbrev pub pages_at : Plan → List ℕ → List ℕ → ℕ → Found → Outcome (List Page)
-pages_at p rows columns n Nothing = refused 14
-pages_at p rows columns n (At s) = ask 11 (holds_area (area_of p s) rows columns) (given (pages_on p rows columns n s))
+abbrev pub pages_at : Plan → List ℕ → List ℕ → ℕ → Option Spot → Outcome (List Page)
+pages_at p rows columns n None = refused 14
+pages_at p rows columns n (Some s) = ask 11 (holds_area (area_of p s) rows columns) (given (pages_on p rows columns n s))
 
 -- of a block from the number n on
 unfoldable pub block_pages : Plan → List ℕ → List ℕ → ℕ → Outcome (List Page)
@@ -61,26 +59,21 @@ block_pages p rows columns n = pages_at p rows columns n (spot_of p n)
 
 -- ---- the call
 
--- the block or the number that each case of `BlockAnswer` stands for
-abbrev pub block_outcome : BlockAnswer → Outcome Block
-block_outcome (Value b) = given b
-block_outcome (Refused n) = refused n
-
 -- the array of a block call, which was `old`: the lines followed by what stood there before, or, where the call is refused, as it was
 abbrev pub lines_lent : ℕ → Outcome (List Page) → List ℕ → List ℕ
 lines_lent n (given pages) old = written (block_lines n pages) old
 lines_lent n (refused k) old = old
 
 -- the answer r of a block call from the number n on that may hold these pages, and its array, which was `old`
-pub record BlockPut (o : Outcome (List Page)) (n : ℕ) (r : BlockAnswer) (old new : List ℕ) : Type 0 where
-  pub answer : block_outcome r ≡ and_then o (λ (pages : List Page). given (block_of n pages))
+pub record BlockPut (o : Outcome (List Page)) (n : ℕ) (r : Result Block Refusal) (old new : List ℕ) : Type 0 where
+  pub answer : outcome r ≡ and_then o (λ (pages : List Page). given (block_of n pages))
   pub array_is : new ≡ lines_lent n o old
 
 -- ---- for the private functions
 
 -- a page that is there, at a spot of a plan, in lists that hold the runs of its area
 pub record There (p : Plan) (n : ℕ) (s : Spot) (rows columns : List ℕ) : Type 0 where
-  pub found : spot_of p n ≡ At s
+  pub found : spot_of p n ≡ Some s
   pub holds : holds_area (area_of p s) rows columns ≡ true
 
 -- a block whose first page is there, and its array, which was `old`

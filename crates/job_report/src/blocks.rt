@@ -4,7 +4,8 @@ ghost use Rattle.job_report.specs.Blocks as section;
 use crate::lines::page_at;
 use planner_areas::plan_at;
 use planner_pages::{area_page, page_spot};
-use planner_rules::{Found, PageAnswer, Plan, Spot};
+use planner_rules::{Plan, Spot};
+use units::Refusal;
 
 // The last place at which 256 bytes of a block are left.
 const LAST: usize = 65_280;
@@ -15,13 +16,6 @@ const LAST: usize = 65_280;
 pub struct Block {
     pub pages: u64,
     pub bytes: usize,
-}
-
-// What `area_block` answers: the block, or a refusal with its number.
-#[derive(Clone, Copy)]
-pub enum BlockAnswer {
-    Value(Block),
-    Refused(u8),
 }
 
 // Puts the lines of an area's pages from one that is there on. No number goes past the plan's count.
@@ -45,7 +39,7 @@ fn lines_held(
     while (bytes <= LAST) & (pages <= most) {
         let own = spot.before as u64 + pages + 1;
         let answer = area_page(order, area, own, row_runs, column_runs);
-        let PageAnswer::Value(page) = answer else {
+        let Ok(page) = answer else {
             return Block { pages, bytes };
         };
         bytes = page_at(out, bytes, from + pages, page);
@@ -62,26 +56,14 @@ pub fn area_block(
     row_runs: &[u64],
     column_runs: &[u64],
     out: &mut [u8; 65536],
-) -> BlockAnswer
+) -> Result<Block, Refusal>
     ensures { section.BlockPut (section.block_pages plan row_runs.now column_runs.now from) from result
         out.old out.new }
 {
-    let found = page_spot(plan, from);
-    let Found::At(spot) = found else {
-        return BlockAnswer::Refused(14);
+    let Some(spot) = page_spot(plan, from) else {
+        return Err(Refusal::NoSuchNumber);
     };
-    let order = plan.order;
     let area = plan_at(plan.areas, spot.area);
-    let first = area_page(order, area, 1, row_runs, column_runs);
-    match first {
-        PageAnswer::Value(_) => BlockAnswer::Value(lines_held(
-            plan,
-            from,
-            spot,
-            row_runs,
-            column_runs,
-            out,
-        )),
-        PageAnswer::Refused(number) => BlockAnswer::Refused(number),
-    }
+    let _first = area_page(plan.order, area, 1, row_runs, column_runs)?;
+    Ok(lines_held(plan, from, spot, row_runs, column_runs, out))
 }

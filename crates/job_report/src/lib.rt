@@ -5,5 +5,5 @@ mod blocks;
 mod lines;
 mod text;
 
-pub use blocks::{Block, BlockAnswer, area_block};
+pub use blocks::{Block, area_block};
 pub use lines::{area_line, head_lines, page_line};

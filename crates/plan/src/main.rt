@@ -7,10 +7,10 @@ ghost use Rattle.std.specs.Prelude.{◌+◌, ◌≤◌, ◌<◌, IfSome};
 
 use job::{count_job, write_job_area};
 use job_questions::MOST_BYTES;
-use job_report::{BlockAnswer, area_block, area_line, head_lines};
+use job_report::{area_block, area_line, head_lines};
 use planner_areas::plan_at;
 use planner_pages::page_spot;
-use planner_rules::{Found, Plan, Planning, RUN_NUMBERS, Writing};
+use planner_rules::{Plan, Planning, RUN_NUMBERS, Writing};
 use std::io::Read;
 use std::process::ExitCode;
 
@@ -114,7 +114,7 @@ fn print_block(
 {
     let mut out = [0u8; 65536];
     let answer = area_block(plan, from, row_runs, column_runs, &mut out);
-    let BlockAnswer::Value(block) = answer else {
+    let Ok(block) = answer else {
         return 0;
     };
     let end = block.bytes;
@@ -132,7 +132,7 @@ fn print_pages(bytes: &[u8], plan: Plan) -> bool {
     let mut done = 0;
     while done < plan.pages {
         let found = page_spot(plan, done + 1);
-        let Found::At(spot) = found else {
+        let Some(spot) = found else {
             return false;
         };
         if spot.before == 0

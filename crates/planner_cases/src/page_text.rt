@@ -5,9 +5,8 @@
 use crate::answer::{LINE, byte, list, number, refusal, text};
 use crate::widths::wide;
 use planner_areas::{at_most_eight, plan_at};
-use planner_rules::{
-    AreaPlan, AreaPlans, Notes, Page, PageAnswer, PageOrder, PageRun, Plan, Planning,
-};
+use planner_rules::{AreaPlan, AreaPlans, Notes, Page, PageOrder, PageRun, Plan, Planning};
+use units::Refusal;
 
 // The most pages of which each is asked for.
 const FEW: u64 = 12;
@@ -90,10 +89,10 @@ fn page(out: &mut [u8; LINE], at: usize, p: Page) -> usize {
     run(out, d, columns)
 }
 
-pub(crate) fn paged(out: &mut [u8; LINE], at: usize, answer: PageAnswer) -> usize {
+pub(crate) fn paged(out: &mut [u8; LINE], at: usize, answer: Result<Page, Refusal>) -> usize {
     match answer {
-        PageAnswer::Value(p) => page(out, at, p),
-        PageAnswer::Refused(n) => refusal(out, at, n),
+        Ok(p) => page(out, at, p),
+        Err(no) => refusal(out, at, no.number()),
     }
 }
 
@@ -142,7 +141,7 @@ fn each_page(
 }
 
 // A page after its number.
-fn numbered(out: &mut [u8; LINE], at: usize, n: u64, answer: PageAnswer) -> usize {
+fn numbered(out: &mut [u8; LINE], at: usize, n: u64, answer: Result<Page, Refusal>) -> usize {
     let a = byte(out, at, b';');
     let b = number(out, a, n);
     let c = byte(out, b, b' ');

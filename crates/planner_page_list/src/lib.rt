@@ -3,18 +3,20 @@
 #![tactic(auto)]
 
 ghost use Rattle.std.specs.Prelude.{◌≡◌};
+ghost use Rattle.units.specs.Refusals.{outcome};
 ghost use Rattle.planner_rules.specs.Pages as section;
 
-use planner_rules::{Listing, Page, Plan};
+use planner_rules::{Page, Plan};
+use units::Refusal;
 
 // The list as the call left it, and what was answered.
 #[derive(Clone, Copy)]
 pub struct Four {
     pub pages: [Page; 4],
-    pub answer: Listing,
+    pub answer: Result<u64, Refusal>,
 }
 
-fn both(pages: [Page; 4], answer: Listing) -> Four
+fn both(pages: [Page; 4], answer: Result<u64, Refusal>) -> Four
     ensures { (result.pages ≡ pages) × (result.answer ≡ answer) }
 {
     Four { pages, answer }
@@ -25,8 +27,8 @@ fn both(pages: [Page; 4], answer: Listing) -> Four
 pub fn list_four(mut list: [Page; 4], plan: Plan, row_runs: &[u64], column_runs: &[u64]) -> Four
     ensures { let rows = row_runs.now in
         let columns = column_runs.now in
-        let outcome = section.list_pages plan rows columns 4 in
-        (section.list_outcome result.answer ≡ outcome) × (result.pages ≡ section.pages_lent outcome (section.pages_of plan rows columns) list) }
+        let listed = section.list_pages plan rows columns 4 in
+        (outcome result.answer ≡ listed) × (result.pages ≡ section.pages_lent listed (section.pages_of plan rows columns) list) }
 {
     let answer = planner_pages::list_pages(&mut list, plan, row_runs, column_runs);
     both(list, answer)

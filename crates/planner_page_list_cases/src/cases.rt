@@ -1,9 +1,10 @@
 // Plans whose pages are listed. Slots are 400,000 each, on Letter.
 use crate::{places, text};
 use planner_rules::{
-    Areas, AxisLists, Listing, MergeList, PageOrder, Plan, Planning, PrintRange,
-    RUN_NUMBERS, Request, Settings, SheetLists, SlotList, Title,
+    Areas, AxisLists, CellLimit, MergeList, PageOrder, Plan, Planning, PrintRange, RUN_NUMBERS,
+    Request, Settings, SheetLists, SlotList, Title,
 };
+use units::Refusal;
 
 // The most runs of these plans.
 const ROW_RUNS: usize = 5;
@@ -56,17 +57,17 @@ fn one_area(range: PrintRange) -> Areas {
 }
 
 // Says what is answered, and how many pages are written.
-fn answered(answer: Listing) -> u64 {
+fn answered(answer: Result<u64, Refusal>) -> u64 {
     match answer {
-        Listing::Value(n) => {
+        Ok(n) => {
             text::word(b"pages");
             text::number(n);
             text::word(b"\n");
             n
         }
-        Listing::Refused(n) => {
+        Err(no) => {
             text::word(b"no");
-            text::number(n as u64);
+            text::number(no.number() as u64);
             text::word(b"\n");
             0
         }

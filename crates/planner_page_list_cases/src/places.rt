@@ -1,6 +1,7 @@
 // The places of a list after the call, compared with the pages by number and with what stood there before.
 use crate::text;
-use planner_rules::{Page, PageAnswer, PageRun, Plan};
+use planner_rules::{Page, PageRun, Plan};
+use units::Refusal;
 
 fn same_run(a: PageRun, b: PageRun) -> bool {
     (a.first == b.first)
@@ -39,13 +40,13 @@ pub(crate) fn blank() -> Page {
 }
 
 // A place that was written, and whether the page by its number is the same.
-fn say_page(number: u64, page: Page, by_number: PageAnswer) {
+fn say_page(number: u64, page: Page, by_number: Result<Page, Refusal>) {
     text::page_line(number, page);
     text::word(b"by number");
     text::number(number);
     match by_number {
-        PageAnswer::Value(other) => text::verdict(same_page(page, other)),
-        PageAnswer::Refused(_) => text::verdict(false),
+        Ok(other) => text::verdict(same_page(page, other)),
+        Err(_) => text::verdict(false),
     }
 }
 

@@ -4,6 +4,7 @@
 mod areas;
 
 ghost use Rattle.std.specs.Prelude.{◌≡◌, ◌+◌, ◌≤◌, ◌<◌, length};
+ghost use Rattle.units.specs.Refusals.{outcome};
 ghost use Rattle.planner_rules.specs.Areas.{plans_in, over_areas};
 ghost use Rattle.planner_rules.specs.Lent.{room_in};
 ghost use Rattle.planner_rules.specs.Pages as section;
@@ -13,9 +14,9 @@ use planner_areas::{at_most_eight, plan_at};
 use planner_compare::index_of;
 use planner_questions::room_in;
 use planner_rules::{
-    AreaPlan, Found, Listing, Page, PageAnswer, PageOrder, PageRun, Place, Plan, RUN_NUMBERS,
-    RunCounts, Spot,
+    AreaPlan, Page, PageOrder, PageRun, Place, Plan, RUN_NUMBERS, RunCounts, Spot,
 };
+use units::Refusal;
 
 // The place of the page of an area that has so many of its pages before it.
 fn place_of(order: PageOrder, row_runs: usize, column_runs: usize, before: usize) -> Place
@@ -95,22 +96,22 @@ fn spot_page(plan: Plan, spot: Spot, row_runs: &[u64], column_runs: &[u64]) -> P
 }
 
 // Where the page with a number stands.
-pub fn page_spot(plan: Plan, number: u64) -> Found
+pub fn page_spot(plan: Plan, number: u64) -> Option<Spot>
     ensures { result ≡ section.spot_of plan number }
 {
     if number == 0 {
-        return Found::Nothing;
+        return None;
     }
     let before = number - 1;
     if before >= plan.pages {
-        return Found::Nothing;
+        return None;
     }
     let areas = plan.areas;
     let spot = walk(areas, before as usize);
     if spot.area < at_most_eight(areas.count) {
-        Found::At(spot)
+        Some(spot)
     } else {
-        Found::Nothing
+        None
     }
 }
 
@@ -121,42 +122,46 @@ pub fn area_page(
     number: u64,
     row_runs: &[u64],
     column_runs: &[u64],
-) -> PageAnswer
-    ensures { section.page_outcome result ≡ section.area_numbered order area row_runs.now column_runs.now number }
+) -> Result<Page, Refusal>
+    ensures { outcome result ≡ section.area_numbered order area row_runs.now column_runs.now number }
 {
     if area.row_runs > room_in(row_runs.len()) {
-        return PageAnswer::Refused(11);
+        return Err(Refusal::ListTooShort);
     }
     if area.column_runs > room_in(column_runs.len()) {
-        return PageAnswer::Refused(11);
+        return Err(Refusal::ListTooShort);
     }
     if number == 0 {
-        return PageAnswer::Refused(14);
+        return Err(Refusal::NoSuchNumber);
     }
     let before = (number - 1) as usize;
     if !has_more(area, before) {
-        return PageAnswer::Refused(14);
+        return Err(Refusal::NoSuchNumber);
     }
     let none = RunCounts {
         rows: 0,
         columns: 0,
     };
-    PageAnswer::Value(page_at(order, area, none, before, row_runs, column_runs))
+    Ok(page_at(order, area, none, before, row_runs, column_runs))
 }
 
 // The page of a plan with a number from 1 to its count, over the lists of runs that were lent to the plan.
-pub fn page_numbered(plan: Plan, number: u64, row_runs: &[u64], column_runs: &[u64]) -> PageAnswer
-    ensures { section.page_outcome result ≡ section.page_numbered plan row_runs.now column_runs.now number }
+pub fn page_numbered(
+    plan: Plan,
+    number: u64,
+    row_runs: &[u64],
+    column_runs: &[u64],
+) -> Result<Page, Refusal>
+    ensures { outcome result ≡ section.page_numbered plan row_runs.now column_runs.now number }
 {
     let areas = plan.areas;
     if !runs_fit(areas, room_in(row_runs.len()), room_in(column_runs.len())) {
-        return PageAnswer::Refused(11);
+        return Err(Refusal::ListTooShort);
     }
-    let found = page_spot(plan, number);
-    match found {
-        Found::At(spot) => PageAnswer::Value(spot_page(plan, spot, row_runs, column_runs)),
-        Found::Nothing => PageAnswer::Refused(14),
-    }
+    let Some(spot) = page_spot(plan, number) else {
+        return Err(Refusal::NoSuchNumber);
+    };
+    Ok(spot_page(plan, spot, row_runs, column_runs))
 }
 
 // The page of a plan that has so many pages before it.
@@ -184,38 +189,43 @@ fn page_count(plan: Plan) -> u64
 }
 
 // What `list_pages` answers where so many pages have room.
-fn listing(room: usize, plan: Plan, row_runs: &[u64], column_runs: &[u64]) -> Listing
-    ensures { section.list_outcome result ≡ section.list_pages plan row_runs.now column_runs.now room }
+fn listing(room: usize, plan: Plan, row_runs: &[u64], column_runs: &[u64]) -> Result<u64, Refusal>
+    ensures { outcome result ≡ section.list_pages plan row_runs.now column_runs.now room }
 {
     let areas = plan.areas;
     if !runs_fit(areas, room_in(row_runs.len()), room_in(column_runs.len())) {
-        return Listing::Refused(11);
+        return Err(Refusal::ListTooShort);
     }
     let count = page_count(plan);
     if count > room as u64 {
-        return Listing::Refused(13);
+        return Err(Refusal::PageListTooShort);
     }
-    Listing::Value(count)
+    Ok(count)
 }
 
 // How many pages are written.
-fn count_in(answer: Listing) -> usize
-    ensures { result ≡ section.count_in (section.list_outcome answer) }
+fn count_in(answer: Result<u64, Refusal>) -> usize
+    ensures { result ≡ section.count_in (outcome answer) }
 {
     match answer {
-        Listing::Value(n) => n as usize,
-        Listing::Refused(_) => 0,
+        Ok(n) => n as usize,
+        Err(_) => 0,
     }
 }
 
 // Writes the pages of a plan, in order, to the front of a lent list, over the lists of runs that were lent to the plan. It answers how many,
 // or refuses and writes nothing.
-pub fn list_pages(pages: &mut [Page], plan: Plan, row_runs: &[u64], column_runs: &[u64]) -> Listing
+pub fn list_pages(
+    pages: &mut [Page],
+    plan: Plan,
+    row_runs: &[u64],
+    column_runs: &[u64],
+) -> Result<u64, Refusal>
     ensures { let rows = row_runs.now in
         let columns = column_runs.now in
         let old = pages.old in
-        let outcome = section.list_pages plan rows columns (length old) in
-        (section.list_outcome result ≡ outcome) × (pages.new ≡ section.pages_lent outcome (section.pages_of plan rows columns) old) }
+        let listed = section.list_pages plan rows columns (length old) in
+        (outcome result ≡ listed) × (pages.new ≡ section.pages_lent listed (section.pages_of plan rows columns) old) }
 {
     let answer = listing(pages.len(), plan, row_runs, column_runs);
     let count = count_in(answer);

@@ -14,7 +14,7 @@ use Rattle.planner_rules.specs.declared.pages.PageOrder.{PageOrder}
 use Rattle.planner_rules.specs.declared.pages.AreaPlan.{AreaPlan}
 use Rattle.planner_rules.specs.declared.pages.AreaPlans.{AreaPlans}
 use Rattle.planner_rules.specs.declared.pages.Spot.{Spot}
-use Rattle.planner_rules.specs.declared.pages.Found.TheVariants.{At, Nothing}
+use Rattle.std.specs.Prelude.{Some, None}
 use Rattle.planner_rules.specs.Lent.{run_numbers}
 use Rattle.planner_rules.specs.Areas.{eight_plans, plans_in, no_plan, over_areas}
 use Rattle.planner_rules.specs.Pages.{page_at, numbered, pages_in, area_pages, after_runs, areas_pages, row_runs, column_runs, area_page_after}
@@ -125,8 +125,8 @@ record Walked (k before : ℕ) (areas : List AreaPlan) (s : Spot) (steps : ℕ) 
   among : steps ≤ length areas
   passed : over_areas pages_in (take steps areas) + s.before ≡ before
   in_area : steps < length areas → s.before < pages_in (get_or areas steps no_plan)
-  found : steps < length areas → spot_from k before areas ≡ At s
-  missing : length areas ≤ steps → spot_from k before areas ≡ Nothing
+  found : steps < length areas → spot_from k before areas ≡ Some s
+  missing : length areas ≤ steps → spot_from k before areas ≡ None
 
 spot_on : (k before : ℕ) (a : AreaPlan) (areas : List AreaPlan) → pages_in a ≤ before
     → spot_from k before (a ∷ areas) ≡ spot_from (k + 1) (before - pages_in a) areas
@@ -180,8 +180,8 @@ pub record Ends (before : ℕ) (areas : List AreaPlan) : Type 0 where
   pub passed : over_areas pages_in (take (walk_from 0 before areas).area areas) + (walk_from 0 before areas).before ≡ before
   pub among : (walk_from 0 before areas).area ≤ length areas
   pub in_area : (walk_from 0 before areas).area < length areas → Stands areas (walk_from 0 before areas)
-  pub found : (walk_from 0 before areas).area < length areas → spot_from 0 before areas ≡ At (walk_from 0 before areas)
-  pub missing : length areas ≤ (walk_from 0 before areas).area → spot_from 0 before areas ≡ Nothing
+  pub found : (walk_from 0 before areas).area < length areas → spot_from 0 before areas ≡ Some (walk_from 0 before areas)
+  pub missing : length areas ≤ (walk_from 0 before areas).area → spot_from 0 before areas ≡ None
 
 pub walk_ends : (before : ℕ) (areas : List AreaPlan) → Ends before areas
 walk_ends before areas =

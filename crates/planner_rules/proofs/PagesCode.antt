@@ -11,8 +11,7 @@ use lib.Seq.{get_or-drop}
 use borrow.Author.Tests.{lt-ltb, le-ltb, le-leb, lt-leb, leb-true}
 use Rattle.units.specs.Outcome.{given, refused}
 use Rattle.planner_rules.specs.declared.pages.AreaPlan.{AreaPlan}
-use Rattle.planner_rules.specs.declared.pages.Found.{Found}
-use Rattle.planner_rules.specs.declared.pages.Found.TheVariants.{At, Nothing}
+use Rattle.std.specs.Prelude.{Option, Some, None}
 use Rattle.planner_rules.specs.declared.pages.PageOrder.{PageOrder}
 use Rattle.planner_rules.specs.declared.pages.PageRun.{PageRun}
 use Rattle.planner_rules.specs.declared.pages.Place.{Place}
@@ -110,11 +109,11 @@ module _ (p : Plan) (n : ℕ) where
   abbrev end : Spot
   end = walk_from 0 (n - 1) areas
 
-  pub spot_zero : n ≡ 0 → Nothing ≡ spot_of p n
+  pub spot_zero : n ≡ 0 → None ≡ spot_of p n
   unfolding spot_of
   spot_zero e = let l : n < 1 = omega arith in rw (lt-leb 1 n l)
 
-  pub spot_past : p.pages < n → Nothing ≡ spot_of p n
+  pub spot_past : p.pages < n → None ≡ spot_of p n
   unfolding spot_of
   spot_past h = rw (lt-leb n p.pages h, and-false (leb 1 n))
 
@@ -123,10 +122,10 @@ module _ (p : Plan) (n : ℕ) where
     unfolding spot_of
     spot_in_lem = rw (le-leb 1 n low, le-leb n p.pages high)
 
-    pub spot_found : end.area < length areas → At end ≡ spot_of p n
+    pub spot_found : end.area < length areas → Some end ≡ spot_of p n
     spot_found h = sym ((walk_ends (n - 1) areas).found h) ∙ spot_in_lem
 
-    pub spot_missing : length areas ≤ end.area → Nothing ≡ spot_of p n
+    pub spot_missing : length areas ≤ end.area → None ≡ spot_of p n
     spot_missing h = sym ((walk_ends (n - 1) areas).missing h) ∙ spot_in_lem
 
 -- ---- one page of a plan by its number
@@ -148,26 +147,26 @@ Answered p rows columns n s =
     Stands areas s × (numbered (pages_of p rows columns) n ≡ given (spot_page p.order areas rows columns s))
 
 -- what a spot, or that there is none, says of that page
-record Answers (p : Plan) (rows columns : List ℕ) (n : ℕ) (f : Found) : Type 0 where
-  found : (s : Spot) → f ≡ At s → Answered p rows columns n s
-  missing : f ≡ Nothing → numbered (pages_of p rows columns) n ≡ refused 14
+record Answers (p : Plan) (rows columns : List ℕ) (n : ℕ) (f : Option Spot) : Type 0 where
+  found : (s : Spot) → f ≡ Some s → Answered p rows columns n s
+  missing : f ≡ None → numbered (pages_of p rows columns) n ≡ refused 14
 
-abbrev is_at : Found → ℕ
-is_at (At s) = 1
-is_at Nothing = 0
+abbrev is_at : Option Spot → ℕ
+is_at (Some s) = 1
+is_at None = 0
 
-abbrev spot_in : Spot → Found → Spot
-spot_in d (At s) = s
-spot_in d Nothing = d
+abbrev spot_in : Spot → Option Spot → Spot
+spot_in d (Some s) = s
+spot_in d None = d
 
 module _ (p : Plan) (rows columns : List ℕ) (n : ℕ) where
-  abbrev there : Found → Type 0
+  abbrev there : Option Spot → Type 0
   there = Answers p rows columns n
 
-  none : numbered (pages_of p rows columns) n ≡ refused 14 → there Nothing
+  none : numbered (pages_of p rows columns) n ≡ refused 14 → there None
   none e = record { found = λ s q. let z : ◌≡◌ {A = ℕ} 0 1 = ap is_at q in absurd (omega arith); missing = λ q. e }
 
-  one : Answered p rows columns n (end p n) → there (At (end p n))
+  one : Answered p rows columns n (end p n) → there (Some (end p n))
   one h = record {
     found = λ s q. subst (Answered p rows columns n) (ap (spot_in (end p n)) q) h;
     missing = λ q. let z : ◌≡◌ {A = ℕ} 1 0 = ap is_at q in absurd (omega arith);
@@ -195,15 +194,15 @@ module _ (p : Plan) (rows columns : List ℕ) (n : ℕ) where
   unfolding page_numbered
   page_few h = rw h
 
-  module _ (h : holds_runs p rows columns ≡ true) (f : Found) (e : f ≡ spot_of p n) where
+  module _ (h : holds_runs p rows columns ≡ true) (f : Option Spot) (e : f ≡ spot_of p n) where
     asked : numbered (pages_of p rows columns) n ≡ page_numbered p rows columns n
     unfolding page_numbered
     asked = rw h
 
-    pub page_missing : f ≡ Nothing → refused 14 ≡ page_numbered p rows columns n
+    pub page_missing : f ≡ None → refused 14 ≡ page_numbered p rows columns n
     page_missing q = sym (answers.missing (sym e ∙ q)) ∙ asked
 
-    module _ (s : Spot) (q : f ≡ At s) where
+    module _ (s : Spot) (q : f ≡ Some s) where
       pub page_stands : Stands (plans_in p.areas) s
       page_stands = (answers.found s (sym e ∙ q)).0
 

@@ -1,6 +1,6 @@
 -- Document 01, section "Pages", and document 02, T-02: the pages of each area, one area after another. Assumes nothing.
 use Rattle.std.specs.Prelude.{Bool, true, false, cond, ◌&&◌, List, [], ◌∷◌, ◌++◌, map, ℕ, zero, suc, ◌+◌, ◌-◌, ◌*◌, ◌/◌, ◌%◌, ◌<◌, min, leb, ltb}
-use Rattle.std.specs.Prelude.{length, get_or, take, drop}
+use Rattle.std.specs.Prelude.{length, get_or, take, drop, Option, Some, None}
 use Rattle.units.specs.Outcome.{Outcome, given, refused}
 use Rattle.planner_rules.specs.declared.titles.Title.{Title}
 use Rattle.planner_rules.specs.declared.pages.PageOrder.{PageOrder}
@@ -11,12 +11,6 @@ use Rattle.planner_rules.specs.declared.pages.Place.{Place}
 use Rattle.planner_rules.specs.declared.pages.AreaPlan.{AreaPlan}
 use Rattle.planner_rules.specs.declared.pages.Plan.{Plan}
 use Rattle.planner_rules.specs.declared.pages.Spot.{Spot}
-use Rattle.planner_rules.specs.declared.pages.Found.{Found}
-use Rattle.planner_rules.specs.declared.pages.Found.TheVariants.{At, Nothing}
-use Rattle.planner_rules.specs.declared.pages.PageAnswer.{PageAnswer}
-use Rattle.planner_rules.specs.declared.pages.PageAnswer.TheVariants.{Value, Refused}
-use Rattle.planner_rules.specs.declared.pages.Listing.{Listing}
-use Rattle.planner_rules.specs.declared.pages.Listing.TheVariants as listing
 use Rattle.planner_rules.specs.Questions.{ask}
 use Rattle.planner_rules.specs.Runs.{Run}
 use Rattle.planner_rules.specs.Areas.{plans_in, no_plan, over_areas}
@@ -144,11 +138,6 @@ unfoldable pub page_numbered : Plan → List ℕ → List ℕ → ℕ → Outcom
 unfolding pages_of numbered runs_held
 page_numbered p rows columns n = ask 11 (holds_runs p rows columns) (numbered (pages_of p rows columns) n)
 
--- the value or the number that each case of `PageAnswer` stands for
-abbrev pub page_outcome : PageAnswer → Outcome Page
-page_outcome (Value p) = given p
-page_outcome (Refused n) = refused n
-
 -- ---- the whole list
 
 -- 11, and 13: "Pages fit the lent list of page records?", of which there is so much room; and how many they are
@@ -156,11 +145,6 @@ unfoldable pub list_pages : Plan → List ℕ → List ℕ → ℕ → Outcome �
 unfolding pages_of runs_held
 list_pages p rows columns room =
     ask 11 (holds_runs p rows columns) (ask 13 (leb (length (pages_of p rows columns)) room) (given (length (pages_of p rows columns))))
-
--- the number that each case of `Listing` stands for
-abbrev pub list_outcome : Listing → Outcome ℕ
-list_outcome (listing.Value n) = given n
-list_outcome (listing.Refused n) = refused n
 
 -- "The whole list can be written to a lent list": the pages, followed by what stood there before; and "A "no" returns the number and changes nothing lent."
 abbrev pub pages_lent : Outcome ℕ → List Page → List Page → List Page
@@ -170,15 +154,15 @@ pages_lent (refused n) pages old = old
 -- ---- where a page stands
 
 -- the spot of the page that has so many pages before it; the areas' first is the k-th, from 0
-unfoldable pub spot_from : ℕ → ℕ → List AreaPlan → Found
-spot_from k before [] = Nothing
+unfoldable pub spot_from : ℕ → ℕ → List AreaPlan → Option Spot
+spot_from k before [] = None
 spot_from k before (a ∷ areas) =
-    cond (ltb before (pages_in a)) (At (record { area = k; before = before })) (spot_from (k + 1) (before - pages_in a) areas)
+    cond (ltb before (pages_in a)) (Some (record { area = k; before = before })) (spot_from (k + 1) (before - pages_in a) areas)
 
 -- the spot of the page with a number: "Page number from 1 to the count?"
-unfoldable pub spot_of : Plan → ℕ → Found
+unfoldable pub spot_of : Plan → ℕ → Option Spot
 unfolding spot_from
-spot_of p n = cond (leb 1 n && leb n p.pages) (spot_from 0 (n - 1) (plans_in p.areas)) Nothing
+spot_of p n = cond (leb 1 n && leb n p.pages) (spot_from 0 (n - 1) (plans_in p.areas)) None
 
 -- ---- an area's own pages, over lists that hold its runs at the front
 

@@ -10,10 +10,7 @@ mod scale;
 mod titles;
 
 pub use lists::{AxisLists, MergeList, SheetLists, SlotList};
-pub use pages::{
-    AreaPlan, AreaPlans, Found, Listing, Notes, Page, PageAnswer, PageOrder, PageRun, Place, Plan,
-    Spot,
-};
+pub use pages::{AreaPlan, AreaPlans, Notes, Page, PageOrder, PageRun, Place, Plan, Spot};
 pub use partition::AxisSetup;
 pub use planning::{
     AreaNotes, Areas, AxisRange, ContentSides, CountedArea, CountedAreas, FinalCut,

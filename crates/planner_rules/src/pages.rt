@@ -74,20 +74,6 @@ pub struct Page {
     pub columns: PageRun,
 }
 
-// What `page_numbered` answers: the page, or a refusal with its number.
-#[derive(Clone, Copy)]
-pub enum PageAnswer {
-    Value(Page),
-    Refused(u8),
-}
-
-// What `list_pages` answers: how many pages were written, or a refusal with its number.
-#[derive(Clone, Copy)]
-pub enum Listing {
-    Value(u64),
-    Refused(u8),
-}
-
 // Where a page stands in its area: the numbers of its two runs, from 0.
 #[derive(Clone, Copy)]
 pub struct Place {
@@ -100,11 +86,4 @@ pub struct Place {
 pub struct Spot {
     pub area: usize,
     pub before: usize,
-}
-
-// The spot of a page, or that there is no such page.
-#[derive(Clone, Copy)]
-pub enum Found {
-    At(Spot),
-    Nothing,
 }

@@ -5,22 +5,24 @@ use mathlib.Core.List.{List}
 use Prim.Native.Nat.{ℕ, zero, suc}
 use native.Mathlib.Omega.{arith}
 use Rattle.units.specs.Outcome.{Outcome, given, refused, and_then}
-use Rattle.planner_rules.specs.declared.pages.PageAnswer.{PageAnswer}
+use Rattle.std.specs.Prelude.{Result}
+use Rattle.units.specs.Refusals.{outcome}
+use Rattle.units.specs.declared.refusal.Refusal.{Refusal}
+use Rattle.planner_rules.specs.declared.pages.Page.{Page}
 use Rattle.planner_rules.specs.declared.pages.Plan.{Plan}
 use Rattle.planner_rules.specs.declared.planning.Areas.{Areas}
 use Rattle.planner_rules.specs.declared.planning.RunCounts.{RunCounts}
 use Rattle.planner_rules.specs.declared.planning.Planning.{Planning}
 use Rattle.planner_rules.specs.declared.planning.Planning.TheVariants.{Value, Refused}
 use Rattle.planner_rules.specs.declared.planning.Writing.{Writing}
-use Rattle.planner_rules.specs.Pages.{page_numbered, page_outcome}
+use Rattle.planner_rules.specs.Pages.{page_numbered}
 use Rattle.planner_rules.specs.Plan.{Sheet, Layout, AreaLayout, Planned, Counted, AreaWrote, sheet_of, planned, plan_outcome, writing_outcome, counts_of}
 use Rattle.planner_rules.specs.Demand.{CoversPairs, FewestPlan, LargestPlan}
 use Rattle.planner_rules.proofs.NoTen.{among, not_given, plan_numbers_lem}
 use Rattle.job.specs.PlanJob.{plan_job, count_job}
 use Rattle.job.proofs.Refusals.{plan_refuses, count_refuses}
 use Rattle.job_report.specs.declared.blocks.Block.{Block}
-use Rattle.job_report.specs.declared.blocks.BlockAnswer.{BlockAnswer}
-use Rattle.job_report.specs.Blocks.{block_of, block_pages, block_outcome, BlockPut}
+use Rattle.job_report.specs.Blocks.{block_of, block_pages, BlockPut}
 use Rattle.yuzhbani_answers.specs.Numbers.{plan_numbers, told}
 use Rattle.yuzhbani_answers.specs.Answers.{answer_to, answer_of, numbers_of, HadBack, PageHanded}
 use Rattle.planner_rules.specs.declared.planning.Request.{Request}
@@ -134,14 +136,14 @@ area_handed o w rows₀ columns₀ rows columns v r counts₀ counts i j = recor
 
 -- ---- the page and the block of the plan that numbers stand for
 
-pub page_handed : {p q : Plan} → p ≡ q → (rows columns : List ℕ) (n : ℕ) (a : PageAnswer) → page_outcome a ≡ page_numbered p rows columns n
-    → (r : ℕ) (old ns : List ℕ) → PageHanded (page_outcome a) r old ns → PageHanded (page_numbered q rows columns n) r old ns
+pub page_handed : {p q : Plan} → p ≡ q → (rows columns : List ℕ) (n : ℕ) (a : Result Page Refusal) → outcome a ≡ page_numbered p rows columns n
+    → (r : ℕ) (old ns : List ℕ) → PageHanded (outcome a) r old ns → PageHanded (page_numbered q rows columns n) r old ns
 page_handed e rows columns n a i r old ns w = rw (← e, ← i) w
 
-pub block_handed : {p q : Plan} → p ≡ q → (rows columns : List ℕ) (from : ℕ) (a : BlockAnswer) (out₀ out : List ℕ)
+pub block_handed : {p q : Plan} → p ≡ q → (rows columns : List ℕ) (from : ℕ) (a : Result Block Refusal) (out₀ out : List ℕ)
     → BlockPut (block_pages p rows columns from) from a out₀ out
-    → (r : ℕ) (block₀ block : List ℕ) → r ≡ answer_to (block_outcome a)
-    → block ≡ pair_in (λ (b : Block). b.pages) (λ (b : Block). b.bytes) (block_outcome a) block₀
+    → (r : ℕ) (block₀ block : List ℕ) → r ≡ answer_to (outcome a)
+    → block ≡ pair_in (λ (b : Block). b.pages) (λ (b : Block). b.bytes) (outcome a) block₀
     → BlockHanded (block_pages q rows columns from) from r block₀ out₀ block out
 block_handed {p} e rows columns from a out₀ out v r block₀ block i j =
     let o = block_pages p rows columns from in

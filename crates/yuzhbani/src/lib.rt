@@ -4,6 +4,7 @@
 #![tactic(auto)]
 
 ghost use Rattle.std.specs.Prelude.{◌≡◌};
+ghost use Rattle.units.specs.Refusals.{outcome};
 ghost use Rattle.planner_rules.specs.Questions.{ask};
 ghost use Rattle.planner_rules.specs.Pages.{page_numbered};
 ghost use Rattle.planner_rules.specs.Plan.{planned, plan_outcome, writing_outcome};
@@ -12,17 +13,18 @@ ghost use Rattle.planner_rules.specs.declared.planning.RunCounts.{RunCounts};
 ghost use Rattle.job.specs.PlanJob as job;
 ghost use Rattle.job_report.specs.Lines.{head_lines, area_line, LinesPut};
 ghost use Rattle.job_report.specs.declared.blocks.Block.{Block};
-ghost use Rattle.job_report.specs.Blocks.{block_pages, block_outcome};
+ghost use Rattle.job_report.specs.Blocks.{block_pages};
 ghost use Rattle.yuzhbani_answers.specs.Numbers as section;
 ghost use Rattle.yuzhbani_answers.specs.Answers.{answer_to, PageHanded};
 ghost use Rattle.yuzhbani_request.specs.Request.{sheet_requested, areas_from, areas_counted, flags_hold};
 ghost use Rattle.yuzhbani.specs.Calls as calls;
 
 use job::{count_job, plan_job, write_job_area};
-use job_report::{BlockAnswer, area_block, area_line, head_lines};
+use job_report::{Block, area_block, area_line, head_lines};
 use planner::plan_pages;
 use planner_pages::page_numbered;
 use planner_rules::{AxisLists, MergeList, SheetLists, SlotList, Writing};
+use units::Refusal;
 use yuzhbani_answers::{plan_from, put_page, put_planning, told};
 use yuzhbani_request::{areas_counted, flags_hold, request_from};
 
@@ -214,16 +216,16 @@ pub extern "C" fn yuzhbani_area_line(number: u64, permille: u16, out: &mut [u8; 
 }
 
 // Puts the two numbers of a block, or nothing, and answers 0, or the number of the refusal.
-fn put_block(answer: BlockAnswer, block: &mut [u64; 2]) -> u8
-    ensures value { result ≡ answer_to (block_outcome answer) }
-    ensures block_after { block.new ≡ calls.pair_in (λ (b : Block). b.pages) (λ (b : Block). b.bytes) (block_outcome answer) block.old }
+fn put_block(answer: Result<Block, Refusal>, block: &mut [u64; 2]) -> u8
+    ensures value { result ≡ answer_to (outcome answer) }
+    ensures block_after { block.new ≡ calls.pair_in (λ (b : Block). b.pages) (λ (b : Block). b.bytes) (outcome answer) block.old }
 {
     match answer {
-        BlockAnswer::Value(held) => {
+        Ok(held) => {
             *block = [held.pages, held.bytes as u64];
             0
         }
-        BlockAnswer::Refused(number) => number,
+        Err(refusal) => refusal.number(),
     }
 }
 

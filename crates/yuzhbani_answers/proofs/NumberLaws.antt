@@ -9,8 +9,9 @@ use lib.ListN.{get_or, replicate}
 use borrow.Author.Tests.{lt-ltb, le-ltb}
 use mir.Val.{bool_byte}
 use Rattle.planner_rules.specs.declared.pages.Page.{Page}
-use Rattle.planner_rules.specs.declared.pages.PageAnswer.{PageAnswer}
-use Rattle.planner_rules.specs.declared.pages.PageAnswer.TheVariants as page
+use Rattle.std.specs.Prelude.{Result, Ok, Err}
+use Rattle.units.specs.Refusals.{number_of, outcome}
+use Rattle.units.specs.declared.refusal.Refusal.{Refusal}
 use Rattle.planner_rules.specs.declared.pages.PageOrder.{PageOrder}
 use Rattle.planner_rules.specs.declared.pages.PageOrder.TheVariants.{DownThenOver, OverThenDown}
 use Rattle.planner_rules.specs.declared.pages.AreaPlan.{AreaPlan}
@@ -18,7 +19,6 @@ use Rattle.planner_rules.specs.declared.pages.AreaPlans.{AreaPlans}
 use Rattle.planner_rules.specs.declared.pages.Plan.{Plan}
 use Rattle.planner_rules.specs.declared.planning.Planning.TheVariants.{Value, Refused}
 use Rattle.planner_rules.specs.Areas.{eight_plans, no_plan}
-use Rattle.planner_rules.specs.Pages.{page_outcome}
 use Rattle.yuzhbani_answers.specs.Numbers.{
   bit,
   order_number,
@@ -109,8 +109,8 @@ told_plan zero ns p h e = ap Value e
 told_plan (suc n) ns p h e = absurd (omega arith)
 
 -- the two answers of a page call
-pub page_put : (a : PageAnswer) (p : Page) (old ns : List ℕ) → a ≡ page.Value p → ns ≡ page_numbers p → PageHanded (page_outcome a) 0 old ns
+pub page_put : (a : Result Page Refusal) (p : Page) (old ns : List ℕ) → a ≡ Ok p → ns ≡ page_numbers p → PageHanded (outcome a) 0 old ns
 page_put a p old ns e i = rw e (record { answer = refl; numbers_are = i })
 
-pub page_refused : (a : PageAnswer) (k : ℕ) (old : List ℕ) → a ≡ page.Refused k → PageHanded (page_outcome a) k old old
+pub page_refused : (a : Result Page Refusal) (k : Refusal) (old : List ℕ) → a ≡ Err k → PageHanded (outcome a) (number_of k) old old
 page_refused a k old e = rw e (record { answer = refl; numbers_are = refl })

@@ -2,12 +2,13 @@
 #![tactic(auto)]
 
 ghost use Rattle.std.specs.Prelude.{◌≡◌, ◌≤◌, min};
-ghost use Rattle.planner_rules.specs.Pages.{page_outcome};
+ghost use Rattle.units.specs.Refusals.{outcome};
 ghost use Rattle.yuzhbani_answers.specs.Numbers as section;
 ghost use Rattle.yuzhbani_answers.specs.Answers.{answer_of, numbers_of, HadBack, PageHanded};
 
 use planner_areas::plan_at;
-use planner_rules::{AreaPlan, AreaPlans, Notes, PageAnswer, PageOrder, Plan, Planning};
+use planner_rules::{AreaPlan, AreaPlans, Notes, Page, PageOrder, Plan, Planning};
+use units::Refusal;
 
 fn order_number(order: PageOrder) -> u64
     ensures { result ≡ section.order_number order }
@@ -170,11 +171,11 @@ pub fn told(answer: u8, numbers: &[u64; 60]) -> Planning
 }
 
 // The answer of a page call; the numbers of its page are put, or nothing.
-pub fn put_page(answer: PageAnswer, numbers: &mut [u64; 12]) -> u8
-    ensures { PageHanded (page_outcome answer) result numbers.old numbers.new }
+pub fn put_page(answer: Result<Page, Refusal>, numbers: &mut [u64; 12]) -> u8
+    ensures { PageHanded (outcome answer) result numbers.old numbers.new }
 {
     match answer {
-        PageAnswer::Value(page) => {
+        Ok(page) => {
             let rows = page.rows;
             let columns = page.columns;
             *numbers = [
@@ -193,6 +194,6 @@ pub fn put_page(answer: PageAnswer, numbers: &mut [u64; 12]) -> u8
             ];
             0
         }
-        PageAnswer::Refused(number) => number,
+        Err(refusal) => refusal.number(),
     }
 }

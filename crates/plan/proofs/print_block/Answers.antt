@@ -5,5 +5,5 @@ use Rattle.plan.proofs.print_block.Goals as goal
 
 pub returns : goal.returns
 returns c =
-    let got = block_told _ _ _ _ _ _ _ (rw c.in-Value.is at c.area_block-answer.ensures) in
+    let got = block_told _ _ _ _ _ _ _ (rw c.in-Ok.is at c.area_block-answer.ensures) in
     omega (arith, got.1.to_count)

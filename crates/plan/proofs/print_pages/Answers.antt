@@ -4,4 +4,4 @@ use Rattle.job_report.proofs.SpotLaws.{spot_eight}
 use Rattle.plan.proofs.print_pages.Goals as goal
 
 pub begin_area-requires : goal.begin_area-requires
-begin_area-requires c = spot_eight _ _ _ (sym c.page_spot-found.ensures ∙ c.in-At.is)
+begin_area-requires c = spot_eight _ _ _ (sym c.page_spot-found.ensures ∙ c.in-Some.is)

@@ -27,20 +27,20 @@ pub spot_page-requires-clause-stands : goal.spot_page-requires-clause-stands
 spot_page-requires-clause-stands c =
     let a = c.args in
     let asked : c.runs_fit.result ≡ holds_runs a.plan a.row_runs.now a.column_runs.now = rw (c.room_in.ensures, c.room_in-2.ensures) at c.runs_fit.ensures in
-    page_stands a.plan a.row_runs.now a.column_runs.now a.number (sym asked ∙ c.if-not-runs_fit.false) c.page_spot-found.result c.page_spot-found.ensures
-    c.in-At.spot c.in-At.is
+    page_stands a.plan a.row_runs.now a.column_runs.now a.number (sym asked ∙ c.if-not-runs_fit.false) c.page_spot.result c.page_spot.ensures
+    c.in-Some.spot c.in-Some.is
 
-pub returns-in-At : goal.returns-in-At
-returns-in-At c =
+pub returns : goal.returns
+returns c =
     let a = c.args in
     let asked : c.runs_fit.result ≡ holds_runs a.plan a.row_runs.now a.column_runs.now = rw (c.room_in.ensures, c.room_in-2.ensures) at c.runs_fit.ensures in
     ap given c.spot_page.ensures
-    ∙ page_found a.plan a.row_runs.now a.column_runs.now a.number (sym asked ∙ c.if-not-runs_fit.false) c.page_spot-found.result
-    c.page_spot-found.ensures c.in-At.spot c.in-At.is
+    ∙ page_found a.plan a.row_runs.now a.column_runs.now a.number (sym asked ∙ c.if-not-runs_fit.false) c.page_spot.result
+    c.page_spot.ensures c.in-Some.spot c.in-Some.is
 
-pub returns-in-Nothing : goal.returns-in-Nothing
-returns-in-Nothing c =
+pub returns-in_default : goal.returns-in_default
+returns-in_default c =
     let a = c.args in
     let asked : c.runs_fit.result ≡ holds_runs a.plan a.row_runs.now a.column_runs.now = rw (c.room_in.ensures, c.room_in-2.ensures) at c.runs_fit.ensures in
-    page_missing a.plan a.row_runs.now a.column_runs.now a.number (sym asked ∙ c.if-not-runs_fit.false) c.page_spot-found.result c.page_spot-found.ensures
-    c.in-Nothing.is
+    page_missing a.plan a.row_runs.now a.column_runs.now a.number (sym asked ∙ c.if-not-runs_fit.false) c.page_spot.result c.page_spot.ensures
+    c.in_default.is

@@ -1,7 +1,7 @@
 -- The walk ends at the page, or past the areas.
 use Rattle.std.proofs.Common.{ap, ◌∙◌, arith}
 use Rattle.planner_rules.specs.declared.pages.Spot.{Spot}
-use Rattle.planner_rules.specs.declared.pages.Found.TheVariants.{At}
+use Rattle.std.specs.Prelude.{Some}
 use Rattle.planner_rules.proofs.AreaPages.{plans_count}
 use Rattle.planner_rules.proofs.PagesCode.{spot_zero, spot_past, spot_found, spot_missing}
 use Rattle.planner_pages.proofs.page_spot.Goals as goal
@@ -15,7 +15,7 @@ returns-then-before-plan c = spot_past c.args.plan c.args.number (omega arith)
 pub returns-then-spot-at_most_eight : goal.returns-then-spot-at_most_eight
 returns-then-spot-at_most_eight c =
     let a = c.args in
-    ap At c.walk-spot.ensures
+    ap Some c.walk-spot.ensures
     ∙ spot_found a.plan a.number (omega arith) (omega arith)
     (omega (arith, ap (λ (s : Spot). s.area) c.walk-spot.ensures, plans_count a.plan.areas))
 

@@ -1,6 +1,6 @@
 -- The first page is there, so that its number is from 1 to the plan's count; a turn that goes on has room for a line, and a number up to that count.
 use Rattle.std.proofs.Common.{◌-◌, sym, ap, ◌∙◌, arith}
-use Rattle.planner_rules.specs.Pages.{page_outcome}
+use Rattle.units.specs.Refusals.{outcome}
 use Rattle.job_report.proofs.SpotLaws.{placed}
 use Rattle.job_report.proofs.BlockLaws.{holding_none, holding_more, holding_refused, holding_full, open_told, shut_told}
 use Rattle.job_report.proofs.BlockLaws.{part_last, part_asked, area_holds, held_on}
@@ -29,7 +29,7 @@ returns-in_default c =
     let goes_on = open_told _ _ _ _ c.loop-bytes-test.true in
     let asked = part_asked _ _ _ _ _ _ (area_holds _ _ _ _ _ c.requires _ c.plan_at-area.ensures) _ goes_on.1 in
     held_on _ _ _ _ _ c.requires _ c.plan_at-area.ensures _ _ _
-    (holding_refused _ _ _ _ _ _ c.loop-bytes.invariant _ (sym asked ∙ sym c.area_page-answer.ensures ∙ ap page_outcome c.in_default.is))
+    (holding_refused _ _ _ _ _ _ c.loop-bytes.invariant _ (sym asked ∙ sym c.area_page-answer.ensures ∙ ap outcome c.in_default.is))
 
 pub overflow_add-pages : goal.overflow_add-pages
 overflow_add-pages c =
@@ -41,7 +41,7 @@ pub loop-bytes-preserved : goal.loop-bytes-preserved
 loop-bytes-preserved c =
     let goes_on = open_told c.loop-bytes.bytes 65280 c.loop-bytes.pages (c.args.plan.pages - c.args.from) c.loop-bytes-test.true in
     let asked = part_asked _ _ _ _ _ _ (area_holds _ _ _ _ _ c.requires _ c.plan_at-area.ensures) _ goes_on.1 in
-    holding_more _ _ _ _ _ _ c.loop-bytes.invariant _ _ _ (sym asked ∙ sym c.area_page-answer.ensures ∙ ap page_outcome c.in-Value.is)
+    holding_more _ _ _ _ _ _ c.loop-bytes.invariant _ _ _ (sym asked ∙ sym c.area_page-answer.ensures ∙ ap outcome c.in-Ok.is)
     goes_on.0 (omega (arith, goes_on.0)) c.page_at-bytes.ensures.put_at c.page_at-bytes.auto.out
 
 pub returns : goal.returns
