@@ -1,4 +1,5 @@
-// Plans a job and prints the plan, as program `plan` does: counted first, then area by area in the same lists.
+// Plans a job and prints the plan, as program `plan` does: counted first, then area by area in the same lists; but page by page, by the calls
+// for one page, and not in blocks.
 use job::{count_job, write_job_area};
 use job_report::{area_line, head_lines, page_line};
 use planner_areas::plan_at;

@@ -1,6 +1,6 @@
 // Plans the job on standard input and prints the plan, or `no` and the number of a refusal: document 01, section "Jobs", and document 02, T-02.
 // It counts all pages first, then plans area by area in the same lists. What could not be read or written is said on standard error, and
-// the status is then 2; else it is 0.
+// that memory ran out; the status is then 2, else it is 0.
 #![tactic(auto)]
 
 mod printed;

@@ -6,7 +6,7 @@ use std::alloc::{AllocError, Global};
 const RUNS: u8 = 48;
 
 // The most numbers of a list: so many runs, and three numbers that make up none.
-const NUMBERS: u8 = 195;
+const NUMBERS: u8 = RUN_NUMBERS as u8 * RUNS + 3;
 
 // The numbers that the lists start with.
 pub(crate) const ROWS: u64 = 2_000_000;

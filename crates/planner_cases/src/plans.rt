@@ -324,8 +324,8 @@ fn areas_of(ranges: &[PrintRange]) -> Areas {
     }
 }
 
-// The numbers of the pages that are asked for: all of a few and those before and after them; else the first six and the one before them, two in the middle, and
-// the last six and the one after them.
+// The numbers of the pages that are asked for: all of a few and those before and after them; of more, 0 to 6, two in the middle, and the last
+// six with the one after them, which is 0 after the last number that there is.
 fn page_numbers(alloc: Global, pages: u64) -> Result<Vec<u64>, AllocError> {
     if pages <= FEW {
         return (0..pages + 2).collect(alloc);
