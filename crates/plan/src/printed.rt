@@ -108,6 +108,7 @@ impl Counted<'_> {
     fn print_pages<W: Write>(&mut self, out: &mut W) -> Result<()> {
         let pages = self.plan.pages;
         let mut done = 0;
+        // No `for`: a block has as many pages as fit.
         while done < pages {
             let spot = self.spot(done + 1)?;
             if spot.before == 0 {
