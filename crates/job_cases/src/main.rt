@@ -2,10 +2,15 @@
 // Rust's answers to the list in `stdin`.
 #![tactic(auto)]
 
-mod block;
 mod planned;
 mod replay;
 
-fn main() {
-    replay::answer_all();
+use std::io::{self, BufReader, BufWriter, Write};
+
+fn main(rt: HostRuntime) -> io::Result<()> {
+    let alloc = rt.alloc();
+    let mut lines = BufReader::new(alloc, rt.reader())?;
+    let mut out = BufWriter::new(alloc, io::writer(&rt))?;
+    replay::answer_all(alloc, &mut lines, &mut out)?;
+    out.flush()
 }

@@ -1,129 +1,116 @@
-// Plans a job and prints the plan, as program `plan` does: counted first, then area by area in the same lists.
-use crate::block;
-use crate::block::{BLOCK, LINE};
+// Plans a job and prints the plan, as program `plan` does: counted first, then area by area in the same lists; but page by page, by the calls
+// for one page, and not in blocks.
 use job::{count_job, write_job_area};
 use job_report::{area_line, head_lines, page_line};
 use planner_areas::plan_at;
 use planner_pages::{area_page, page_spot};
-use planner_rules::{Page, Plan, Planning, RUN_NUMBERS, Spot};
-use units::Refusal;
+use planner_rules::{AreaPlan, Page, Plan, Planning, RUN_NUMBERS, Spot};
+use std::alloc::{AllocError, Global};
+use std::io::{self, Write};
 
 // The runs that a list has room for, and its numbers.
 const RUNS: usize = 5000;
 
 const NUMBERS: usize = RUN_NUMBERS * RUNS;
 
-// The first lines of an answer, and the place after them.
-fn put_head(block: &mut [u8; BLOCK], planning: Planning) -> usize {
-    let mut line = [0u8; LINE];
-    let n = head_lines(planning, &mut line);
-    block::line(block, 0, &line, n)
+// The most bytes of a line, or of the first lines.
+const LINE: usize = 256;
+
+// The first lines of an answer.
+fn print_head<W: Write>(planning: Planning, out: &mut W) -> io::Result<()> {
+    let mut line = [0; LINE];
+    let end = head_lines(planning, &mut line);
+    out.write_all(&line[..end])
 }
 
-// The line of a page, and the place after it.
-fn put_page(
-    block: &mut [u8; BLOCK],
-    at: usize,
-    number: u64,
-    answer: Result<Page, Refusal>,
-) -> usize {
-    let Ok(page) = answer else {
-        return at;
-    };
-    let mut line = [0u8; LINE];
-    let n = page_line(number, page, &mut line);
-    let from = block::room(block, at);
-    block::line(block, from, &line, n)
-}
-
-// The line of a later area, and the place after it; the first area has none.
-fn put_area(block: &mut [u8; BLOCK], at: usize, number: u64, permille: u16) -> usize {
+// The line of an area; the first has none.
+fn print_area<W: Write>(number: u64, area: AreaPlan, out: &mut W) -> io::Result<()> {
     if number < 2 {
-        return at;
+        return Ok(());
     }
-    let mut line = [0u8; LINE];
-    let n = area_line(number, permille, &mut line);
-    let from = block::room(block, at);
-    block::line(block, from, &line, n)
+    let mut line = [0; LINE];
+    let end = area_line(number, area.permille, &mut line);
+    out.write_all(&line[..end])
 }
 
-// Where a page is its area's first: the area's line, and its runs.
-fn begin_area(
-    block: &mut [u8; BLOCK],
-    at: usize,
-    bytes: &[u8],
-    plan: Plan,
-    spot: Spot,
-    row_runs: &mut [u64; NUMBERS],
-    column_runs: &mut [u64; NUMBERS],
-) -> usize {
-    if spot.before > 0 {
-        return at;
+fn print_page<W: Write>(number: u64, page: Page, out: &mut W) -> io::Result<()> {
+    let mut line = [0; LINE];
+    let end = page_line(number, page, &mut line);
+    out.write_all(&line[..end])
+}
+
+fn plan_of(planning: Planning) -> Option<Plan> {
+    match planning {
+        Planning::Value(plan) => Some(plan),
+        Planning::Refused(_) => None,
     }
-    let area = plan_at(plan.areas, spot.area);
-    let permille = area.permille;
-    let number = std::num::wrapping_add_u64(spot.area as u64, 1);
-    let next = put_area(block, at, number, permille);
-    write_job_area(bytes, number, permille, row_runs, column_runs);
-    next
 }
 
-// The line of the page at a spot, and the place after it.
-fn put_spot(
-    block: &mut [u8; BLOCK],
-    at: usize,
-    plan: Plan,
-    number: u64,
-    spot: Spot,
-    row_runs: &[u64; NUMBERS],
-    column_runs: &[u64; NUMBERS],
-) -> usize {
-    let order = plan.order;
-    let area = plan_at(plan.areas, spot.area);
-    let own = std::num::wrapping_add_u64(spot.before as u64, 1);
-    let answer = area_page(order, area, own, row_runs, column_runs);
-    put_page(block, at, number, answer)
+// The lists that the runs of each area are written to in turn.
+#[derive(Drop)]
+pub(crate) struct RunLists {
+    rows: Vec<u64>,
+    columns: Vec<u64>,
 }
 
-// The lines of all areas and pages, and the place after them.
-fn put_pages(block: &mut [u8; BLOCK], at: usize, bytes: &[u8], plan: Plan) -> usize {
-    let mut row_runs = [0u64; NUMBERS];
-    let mut column_runs = [0u64; NUMBERS];
-    let mut next = at;
-    for before in 0..plan.pages {
-        let number = before + 1;
-        let found = page_spot(plan, number);
-        let Some(spot) = found else {
-            return next;
-        };
-        next = begin_area(
-            block,
-            next,
-            bytes,
-            plan,
-            spot,
-            &mut row_runs,
-            &mut column_runs,
+impl RunLists {
+    pub(crate) fn new(alloc: Global) -> Result<Self, AllocError> {
+        Ok(Self {
+            rows: vec![in alloc; 0; NUMBERS]?,
+            columns: vec![in alloc; 0; NUMBERS]?,
+        })
+    }
+
+    // Writes the line of the area of a page, and its runs to the lists.
+    fn begin_area<W: Write>(
+        &mut self,
+        job: &[u8],
+        spot: Spot,
+        area: AreaPlan,
+        out: &mut W,
+    ) -> io::Result<()> {
+        let number = (spot.area as u64).wrapping_add(1);
+        print_area(number, area, out)?;
+        write_job_area(
+            job,
+            number,
+            area.permille,
+            &mut self.rows,
+            &mut self.columns,
         );
-        next = put_spot(block, next, plan, number, spot, &row_runs, &column_runs);
+        Ok(())
     }
-    next
-}
 
-// The lines of an answer, and the place after them.
-fn put_answer(block: &mut [u8; BLOCK], bytes: &[u8], planning: Planning) -> usize {
-    let head = put_head(block, planning);
-    let Planning::Value(plan) = planning else {
-        return head;
-    };
-    put_pages(block, head, bytes, plan)
-}
+    // The page at a spot, by the runs of its area.
+    fn page_at(&self, plan: &Plan, spot: Spot, area: AreaPlan) -> Option<Page> {
+        let number = (spot.before as u64).wrapping_add(1);
+        area_page(plan.order, area, number, &self.rows, &self.columns).ok()
+    }
 
-// Prints what `plan` prints for a job's bytes, and an empty line.
-pub(crate) fn print_plan(bytes: &[u8]) {
-    let planning = count_job(bytes);
-    let mut lines = [0u8; BLOCK];
-    let end = put_answer(&mut lines, bytes, planning);
-    let after = block::text(&mut lines, end, b"\n");
-    block::write(&lines, after);
+    // Prints the lines of all areas and pages.
+    fn print_pages<W: Write>(&mut self, job: &[u8], plan: &Plan, out: &mut W) -> io::Result<()> {
+        for number in 1..=plan.pages {
+            let Some(spot) = page_spot(*plan, number) else {
+                break;
+            };
+            let area = plan_at(plan.areas, spot.area);
+            if spot.before == 0 {
+                self.begin_area(job, spot, area, out)?;
+            }
+            if let Some(page) = self.page_at(plan, spot, area) {
+                print_page(number, page, out)?;
+            }
+        }
+        Ok(())
+    }
+
+    // Prints what `plan` prints for a job's bytes, and an empty line.
+    pub(crate) fn print_plan<W: Write>(&mut self, job: &[u8], out: &mut W) -> io::Result<()> {
+        let planning = count_job(job);
+        print_head(planning, out)?;
+        if let Some(plan) = plan_of(planning) {
+            self.print_pages(job, &plan, out)?;
+        }
+        writeln!(out)
+    }
 }

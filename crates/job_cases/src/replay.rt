@@ -1,98 +1,49 @@
 // Answers lines of input. A line is the number of a job's bytes as eight hexadecimal digits, the bytes as two digits each, and a line end.
-ghost use Rattle.std.specs.Prelude.{◌<◌, ◌≤◌};
-
-use crate::planned::print_plan;
+use crate::planned::RunLists;
 use hexadecimal::bits;
-
-// Standard input.
-const STDIN: i32 = 0;
-
-// Standard output.
-pub(crate) const STDOUT: i32 = 1;
+use std::alloc::{AllocError, Global};
+use std::io::{self, BufRead, Write};
 
 // The most bytes that are read: one more than a job may have.
-const MOST: usize = 60_001;
+const MOST: u64 = 60_001;
 
-// Two digits for each byte, and a line end.
-const TEXT: usize = 2 * MOST + 1;
-
-// The byte with the number i.
-fn byte(text: &[u8; TEXT], i: usize) -> u8
-    requires { i < 60001 }
-{
-    let digits = &text[..];
-    let start = 2 * i;
-    let end = start + 2;
-    (bits(&digits[start..end]) % 256) as u8
-}
-
-fn decode(text: &[u8; TEXT], n: usize, out: &mut [u8; MOST])
-    requires { n ≤ 60001 }
-{
-    for i in 0..n {
-        out[i] = byte(text, i);
+// The bytes of the job that a line has, if it has one.
+fn job_in(alloc: Global, line: &[u8]) -> Result<Option<Vec<u8>>, AllocError> {
+    let Some(line) = line.strip_suffix(b"\n") else {
+        return Ok(None);
+    };
+    let Some((count, digits)) = line.split_at_checked(8) else {
+        return Ok(None);
+    };
+    let count = bits(count);
+    if count > MOST || digits.len() as u64 != 2 * count {
+        return Ok(None);
     }
+    let bytes = digits
+        .chunks_exact(2)
+        .map(|pair| (bits(pair) & 0xff) as u8)
+        .collect(alloc)?;
+    Ok(Some(bytes))
 }
 
-// Whether a line end stands after the digits of n bytes.
-fn line_ends(text: &[u8; TEXT], n: usize) -> bool
-    requires { n ≤ 60001 }
-{
-    let at = 2 * n;
-    text[at] == b'\n'
-}
-
-// Answers the job of the first n bytes.
-fn answer_job(bytes: &[u8; MOST], n: usize)
-    requires { n ≤ 60001 }
-{
-    let all = &bytes[..];
-    print_plan(&all[0..n]);
-}
-
-// Reads the rest of a line, answers it, and says whether it ended where it had to.
-fn answered(n: usize) -> bool
-    requires { n ≤ 60001 }
-{
-    let mut text = [b'0'; TEXT];
-    let rest = 2 * n + 1;
-    io::read_full(STDIN, &mut text[0..rest]);
-    if !line_ends(&text, n) {
-        return false;
-    }
-    let mut bytes = [0u8; MOST];
-    decode(&text, n, &mut bytes);
-    answer_job(&bytes, n);
-    true
-}
-
-// Answers the line whose number of bytes was read.
-fn answered_line(head: &[u8; 8]) -> bool {
-    let n = bits(head) as usize;
-    if n > MOST {
-        return false;
-    }
-    answered(n)
-}
-
-// Reads a line, answers it, and says whether there was one.
-fn answer_next() -> bool {
-    let mut head = [0u8; 8];
-    if io::read_full(STDIN, &mut head) < 1 {
-        return false;
-    }
-    if !answered_line(&head) {
-        io::write_all(STDOUT, b"bad line\n");
-        return false;
-    }
-    true
-}
-
-// Nothing says that the input ends, so the loop counts its turns, up to a number that no run reaches.
-pub(crate) fn answer_all() {
+// Answers line after line, up to the first that is none.
+pub(crate) fn answer_all<R: BufRead, W: Write>(
+    alloc: Global,
+    lines: &mut R,
+    out: &mut W,
+) -> io::Result<()> {
+    let mut lists = RunLists::new(alloc)?;
+    let mut line = Vec::new(alloc);
+    // Nothing says that the input ends, so the loop counts its turns, up to a number that no run reaches.
     for _ in 0..u64::MAX {
-        if !answer_next() {
-            return;
+        line.clear();
+        if lines.read_until(b'\n', &mut line)? == 0 {
+            break;
         }
+        let Some(job) = job_in(alloc, &line)? else {
+            return writeln!(out, "bad line");
+        };
+        lists.print_plan(&job, out)?;
     }
+    Ok(())
 }

@@ -1,59 +1,148 @@
-// Answers axes. After its head an axis has the indexes (8 digits each), the sizes (16), the merges' firsts, the merges' lasts and the
-// breaks (8).
-use crate::answer::LINE;
-use crate::axis_head::{HEAD, length};
-use crate::fields::{TEXT, capped};
-use crate::lists::{NUMBERS, ROWS, numbers, numbers_from, read_numbers, read_sizes, runs, sizes};
-use crate::{answer, axis_head as head, fields};
-use planner_rules::{AxisLists, MergeList, SlotList};
+// Axes: a title that merges widen, and the runs of an axis. The head of an axis is
+//
+//     2   axis, 0 rows or 1 columns; title, 0 absent or 1 given
+//     2   six lengths: indexes, sizes, merges' firsts, merges' lasts, breaks, and the numbers of the lent list of runs
+//     8   the range's first and last, the title's first and last
+//     16  capacity untitled, capacity titled
+//
+// digits for each field. After it come the indexes (8 digits each), the sizes (16), the merges' firsts, the merges' lasts and the breaks (8).
+use crate::fields::{Fault, Fields};
+use crate::lent;
+use crate::lists::Lists;
+use crate::text::{Answer, Numbers, RunCount, WidenedTitle};
+use planner::partition_axis_with_breaks;
+use planner_rules::{Axis, AxisSetup, MergeList, Title};
+use planner_titles::widen_title;
+use std::alloc::Global;
+use std::io::{self, Write};
 
-// Reads a title and its merges, and answers it.
-pub(crate) fn read_title(out: &mut [u8; LINE]) -> usize {
-    let line = fields::read(HEAD);
-    let firsts = read_numbers(length(&line, 2));
-    let lasts = read_numbers(length(&line, 3));
-    let widening = planner_titles::widen_title(
-        head::axis(&line),
-        head::title(&line),
-        MergeList {
-            firsts: numbers(&firsts, length(&line, 2)),
-            lasts: numbers(&lasts, length(&line, 3)),
-        },
-    );
-    answer::widening(out, widening)
+#[derive(Clone, Copy)]
+struct Lengths {
+    indexes: u8,
+    sizes: u8,
+    merge_firsts: u8,
+    merge_lasts: u8,
+    breaks: u8,
+    runs: u8,
 }
 
-// Lends a list for the runs, cuts, and answers what the list holds then.
-fn cut(line: &[u8; TEXT], lists: AxisLists, out: &mut [u8; LINE]) -> usize {
-    let room = capped(length(line, 5), NUMBERS);
-    let mut list = numbers_from(ROWS);
-    let partition = planner::partition_axis_with_breaks(
-        head::axis(line),
-        head::setup(line),
-        lists,
-        &mut list[0..room],
-    );
-    answer::axis(out, partition, runs(&list, room))
+impl Lengths {
+    fn read(fields: &mut Fields) -> Result<Self, Fault> {
+        Ok(Self {
+            indexes: fields.next()?,
+            sizes: fields.next()?,
+            merge_firsts: fields.next()?,
+            merge_lasts: fields.next()?,
+            breaks: fields.next()?,
+            runs: fields.next()?,
+        })
+    }
 }
 
-// Reads an axis and its lists, and answers it.
-pub(crate) fn read_runs(out: &mut [u8; LINE]) -> usize {
-    let line = fields::read(HEAD);
-    let indexes = read_numbers(length(&line, 0));
-    let measured = read_sizes(length(&line, 1));
-    let firsts = read_numbers(length(&line, 2));
-    let lasts = read_numbers(length(&line, 3));
-    let breaks = read_numbers(length(&line, 4));
-    let lists = AxisLists {
-        slots: SlotList {
-            indexes: numbers(&indexes, length(&line, 0)),
-            sizes: sizes(&measured, length(&line, 1)),
-        },
-        merges: MergeList {
-            firsts: numbers(&firsts, length(&line, 2)),
-            lasts: numbers(&lasts, length(&line, 3)),
-        },
-        breaks: numbers(&breaks, length(&line, 4)),
-    };
-    cut(&line, lists, out)
+#[derive(Clone, Copy)]
+struct Head {
+    axis: Axis,
+    lengths: Lengths,
+    setup: AxisSetup,
+}
+
+impl Head {
+    fn read(fields: &mut Fields) -> Result<Self, Fault> {
+        let axis = if fields.next()? {
+            Axis::Columns
+        } else {
+            Axis::Rows
+        };
+        let titled = fields.next()?;
+        let lengths = Lengths::read(fields)?;
+        let (first, last) = (fields.next()?, fields.next()?);
+        let title = read_title(fields, titled)?;
+        let (untitled, titled) = (fields.next()?, fields.next()?);
+        let setup = AxisSetup {
+            first,
+            last,
+            title,
+            untitled,
+            titled,
+        };
+        Ok(Self {
+            axis,
+            lengths,
+            setup,
+        })
+    }
+}
+
+// The title of two indexes, if one is given.
+pub(crate) fn read_title(fields: &mut Fields, given: bool) -> Result<Title, Fault> {
+    let (first, last) = (fields.next()?, fields.next()?);
+    Ok(if given {
+        Title::Pair(first, last)
+    } else {
+        Title::Absent
+    })
+}
+
+#[derive(Drop)]
+pub(crate) struct TitleCase {
+    axis: Axis,
+    title: Title,
+    merge_firsts: Vec<u32>,
+    merge_lasts: Vec<u32>,
+}
+
+impl TitleCase {
+    pub(crate) fn read(alloc: Global, fields: &mut Fields) -> Result<Self, Fault> {
+        let head = Head::read(fields)?;
+        Ok(Self {
+            axis: head.axis,
+            title: head.setup.title,
+            merge_firsts: fields.list(alloc, head.lengths.merge_firsts)?,
+            merge_lasts: fields.list(alloc, head.lengths.merge_lasts)?,
+        })
+    }
+
+    pub(crate) fn answer<W: Write>(&self, out: &mut W) -> io::Result<()> {
+        let merges = MergeList {
+            firsts: &self.merge_firsts,
+            lasts: &self.merge_lasts,
+        };
+        let widened = widen_title(self.axis, self.title, merges);
+        writeln!(out, "{}", Answer(widened.map(WidenedTitle)))
+    }
+}
+
+#[derive(Drop)]
+pub(crate) struct RunsCase {
+    axis: Axis,
+    setup: AxisSetup,
+    lists: Lists,
+    runs: Vec<u64>,
+}
+
+impl RunsCase {
+    pub(crate) fn read(alloc: Global, fields: &mut Fields) -> Result<Self, Fault> {
+        let head = Head::read(fields)?;
+        let lengths = head.lengths;
+        Ok(Self {
+            axis: head.axis,
+            setup: head.setup,
+            lists: Lists {
+                indexes: fields.list(alloc, lengths.indexes)?,
+                sizes: fields.list(alloc, lengths.sizes)?,
+                merge_firsts: fields.list(alloc, lengths.merge_firsts)?,
+                merge_lasts: fields.list(alloc, lengths.merge_lasts)?,
+                breaks: fields.list(alloc, lengths.breaks)?,
+            },
+            runs: lent::numbers_from(alloc, lent::ROWS, lengths.runs)?,
+        })
+    }
+
+    // Cuts, which writes the runs to the lent list, and answers that whole.
+    pub(crate) fn answer<W: Write>(&mut self, out: &mut W) -> io::Result<()> {
+        let lists = self.lists.lend();
+        let tally = partition_axis_with_breaks(self.axis, self.setup, lists, &mut self.runs);
+        let runs = Numbers(&self.runs);
+        writeln!(out, "{}{runs}", Answer(tally.map(RunCount)))
+    }
 }

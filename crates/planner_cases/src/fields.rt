@@ -1,34 +1,92 @@
 // Fields of a line, each a space and so many hexadecimal digits.
-ghost use Rattle.std.specs.Prelude.{◌+◌, ◌*◌, ◌<◌, ◌≤◌};
-
-use crate::text::STDIN;
 use hexadecimal::bits;
+use std::alloc::{AllocError, Global};
+use thiserror::Error;
 
-// The bytes of the longest part of a line that is read at once: a list of 24 fields of sixteen digits.
-pub const TEXT: usize = 408;
+// The most numbers of a list.
+const MOST: u8 = 24;
 
-// Reads so many bytes of a line.
-pub(crate) fn read(bytes: usize) -> [u8; TEXT]
-    requires { bytes ≤ 408 }
-{
-    let mut text = [b'0'; TEXT];
-    io::read_full(STDIN, &mut text[0..bytes]);
-    text
+// Why a line was not read.
+#[derive(Debug, Drop, Error)]
+pub(crate) enum Fault {
+    #[error("bad line")]
+    BadLine,
+    #[error(transparent)]
+    OutOfMemory(#[from(alloc)] AllocError),
 }
 
-// The field with the number k of those of so many digits that start at a place.
-pub(crate) fn field(text: &[u8; TEXT], start: usize, digits: usize, k: usize) -> u64
-    requires { start + k * (digits + 1) + digits < 408 }
-{
-    let whole = &text[..];
-    let at = start + k * (digits + 1) + 1;
-    let end = at + digits;
-    bits(&whole[at..end])
+// What a field stands for, by its digits.
+pub(crate) trait Field: Drop {
+    const DIGITS: usize;
+
+    fn from_bits(bits: u64) -> Self;
 }
 
-// A number, or the most that it may be.
-pub(crate) fn capped(n: usize, most: usize) -> usize
-    ensures { result ≤ most }
-{
-    if n < most { n } else { most }
+impl Field for bool {
+    const DIGITS: usize = 2;
+
+    fn from_bits(bits: u64) -> Self {
+        bits > 0
+    }
+}
+
+impl Field for u8 {
+    const DIGITS: usize = 2;
+
+    fn from_bits(bits: u64) -> Self {
+        (bits & 0xff) as u8
+    }
+}
+
+impl Field for u32 {
+    const DIGITS: usize = 8;
+
+    fn from_bits(bits: u64) -> Self {
+        (bits & 0xffff_ffff) as u32
+    }
+}
+
+impl Field for u64 {
+    const DIGITS: usize = 16;
+
+    fn from_bits(bits: u64) -> Self {
+        bits
+    }
+}
+
+// What is left of a line.
+#[derive(Drop)]
+pub(crate) struct Fields<'a> {
+    rest: &'a [u8],
+}
+
+impl<'a> Fields<'a> {
+    pub(crate) fn new(rest: &'a [u8]) -> Self {
+        Self { rest }
+    }
+
+    pub(crate) fn next<T: Field>(&mut self) -> Result<T, Fault> {
+        let (_space, rest) = self.rest.split_first().ok_or(Fault::BadLine)?;
+        let (digits, rest) = rest.split_at_checked(T::DIGITS).ok_or(Fault::BadLine)?;
+        self.rest = rest;
+        Ok(T::from_bits(bits(digits)))
+    }
+
+    // So many fields, as far as a list may have them.
+    pub(crate) fn list<T: Field>(&mut self, alloc: Global, count: u8) -> Result<Vec<T>, Fault> {
+        let mut list = Vec::new(alloc);
+        for _ in 0..count.min(MOST) {
+            list.push(self.next()?)?;
+        }
+        Ok(list)
+    }
+
+    // Nothing is left.
+    pub(crate) fn end(self) -> Result<(), Fault> {
+        if self.rest.is_empty() {
+            Ok(())
+        } else {
+            Err(Fault::BadLine)
+        }
+    }
 }

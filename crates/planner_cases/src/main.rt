@@ -2,24 +2,22 @@
 // document 01's worked cases of titles, runs and percents stand among the limits of each call.
 #![tactic(auto)]
 
-mod answer;
-mod areas;
 mod axes;
-mod axis_head;
 mod fields;
+mod lent;
 mod lists;
 mod numbered;
-mod page_head;
-mod page_text;
-mod plan_head;
 mod plans;
 mod replay;
 mod text;
-mod widths;
 
-use text::word;
+use std::io::{self, BufReader, BufWriter, Write};
 
-fn main() {
-    word(b"list\n");
-    replay::answer_all();
+fn main(rt: HostRuntime) -> io::Result<()> {
+    let alloc = rt.alloc();
+    let mut lines = BufReader::new(alloc, rt.reader())?;
+    let mut out = BufWriter::new(alloc, io::writer(&rt))?;
+    writeln!(out, "list")?;
+    replay::answer_all(alloc, &mut lines, &mut out)?;
+    out.flush()
 }

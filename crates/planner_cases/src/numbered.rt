@@ -1,20 +1,112 @@
-// Answers pages by their number, of plans that are not as they were answered.
-use crate::answer::LINE;
-use crate::lists::runs;
-use crate::page_head::HEAD;
-use crate::{fields, page_head as head, page_text};
+// Pages by their number, of plans that are not as they were answered. The head of such a plan is
+//
+//     2   a flag, 0 or 1: over then down
+//     2   how many runs stand between two whose mark is 0, of rows and of columns; the first run has the mark 0
+//     2   how many numbers the lists of row runs and of column runs have, and how many areas follow the head, up to eight
+//     16  the numbers that the two lists start with, from which each place has one more, but for the marks of 0
+//     16  the plan's count of areas, pages, and the number of the page
+//
+// digits for each field. After it each area has 2 rows empty, columns empty, and 16 row runs, column runs; what is not there is 0.
+use crate::fields::{Fault, Fields};
+use crate::lent;
+use crate::plans::page_order;
+use crate::text::numbered_page;
+use planner_rules::{AreaPlan, AreaPlans, Notes, Plan};
+use std::alloc::Global;
+use std::io::{self, Write};
 
-// Reads a plan and a number, and answers the page.
-pub(crate) fn read_page(out: &mut [u8; LINE]) -> usize {
-    let line = fields::read(HEAD);
-    let plan = head::read_plan(&line);
-    let rows = head::list(&line, 0);
-    let columns = head::list(&line, 1);
-    let answer = planner_pages::page_numbered(
-        plan,
-        head::number(&line),
-        runs(&rows, head::length(&line, 0)),
-        runs(&columns, head::length(&line, 1)),
-    );
-    page_text::paged(out, 0, answer)
+// The most areas that are read.
+const AREAS: u8 = 8;
+
+const NO_AREA: AreaPlan = AreaPlan {
+    permille: 1000,
+    unreachable: 0,
+    row_runs: 0,
+    column_runs: 0,
+    rows_empty: false,
+    columns_empty: false,
+};
+
+const NOTHING_NOTED: Notes = Notes {
+    unknown_paper: 0,
+    invalid_margins: 0,
+    scale_clamped: 0,
+    fit_unreachable: 0,
+    titles_ignored: 0,
+    titles_expanded: 0,
+    merge_expansions: 0,
+    break_shifts: 0,
+    overflowing_runs: 0,
+};
+
+fn read_area(fields: &mut Fields) -> Result<AreaPlan, Fault> {
+    let (rows_empty, columns_empty) = (fields.next()?, fields.next()?);
+    let (row_runs, column_runs): (u64, u64) = (fields.next()?, fields.next()?);
+    Ok(AreaPlan {
+        row_runs: row_runs as usize,
+        column_runs: column_runs as usize,
+        rows_empty,
+        columns_empty,
+        ..NO_AREA
+    })
+}
+
+fn read_areas(alloc: Global, fields: &mut Fields, count: u8) -> Result<Vec<AreaPlan>, Fault> {
+    let mut areas = Vec::new(alloc);
+    for _ in 0..count.min(AREAS) {
+        areas.push(read_area(fields)?)?;
+    }
+    Ok(areas)
+}
+
+// What so many areas came to, by those that were read.
+fn area_plans(count: u64, areas: &[AreaPlan]) -> AreaPlans {
+    let area = |at: usize| areas.get(at).copied().unwrap_or(NO_AREA);
+    AreaPlans {
+        count: count as usize,
+        first: area(0),
+        second: area(1),
+        third: area(2),
+        fourth: area(3),
+        fifth: area(4),
+        sixth: area(5),
+        seventh: area(6),
+        eighth: area(7),
+    }
+}
+
+#[derive(Drop)]
+pub(crate) struct PageCase {
+    plan: Plan,
+    number: u64,
+    row_runs: Vec<u64>,
+    column_runs: Vec<u64>,
+}
+
+impl PageCase {
+    pub(crate) fn read(alloc: Global, fields: &mut Fields) -> Result<Self, Fault> {
+        let order = page_order(fields.next()?);
+        let (row_others, column_others) = (fields.next()?, fields.next()?);
+        let (row_numbers, column_numbers) = (fields.next()?, fields.next()?);
+        let areas_read = fields.next()?;
+        let (first_row, first_column) = (fields.next()?, fields.next()?);
+        let (count, pages, number) = (fields.next()?, fields.next()?, fields.next()?);
+        let areas = read_areas(alloc, fields, areas_read)?;
+        Ok(Self {
+            plan: Plan {
+                areas: area_plans(count, &areas),
+                pages,
+                order,
+                notes: NOTHING_NOTED,
+            },
+            number,
+            row_runs: lent::marked_from(alloc, first_row, row_numbers, row_others)?,
+            column_runs: lent::marked_from(alloc, first_column, column_numbers, column_others)?,
+        })
+    }
+
+    pub(crate) fn answer<W: Write>(&self, out: &mut W) -> io::Result<()> {
+        let page = numbered_page(&self.plan, self.number, &self.row_runs, &self.column_runs);
+        writeln!(out, "{page}")
+    }
 }

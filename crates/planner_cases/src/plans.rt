@@ -1,93 +1,322 @@
-// Answers plans. After its head a plan has the margins if they are given (16 digits each), the areas (8), the row indexes (8) and sizes (16), the
-// column indexes and sizes, the merges' first rows, first columns, last rows and last columns (8), the row breaks and the column breaks (8).
-use crate::answer::LINE;
-use crate::areas::read_areas;
-use crate::fields::{TEXT, capped};
-use crate::lists::{
-    COLUMNS, NUMBERS, ROWS, numbers, numbers_from, read_numbers, read_sizes, runs, sizes,
-};
-use crate::plan_head::{HEAD, length};
-use crate::{fields, page_text, plan_head as head};
+// Plans. The head of a plan is
+//
+//     2   twelve flags, 0 or 1: paper given, landscape, percent given, fit, width's target given, height's target given, over then down,
+//         headings, row title given, column title given, margins given, cell limit given
+//     2   thirteen lengths: row indexes and sizes, column indexes and sizes, the merges' first rows, first columns, last rows and last
+//         columns, row breaks, column breaks, the numbers of the lent lists of row runs and of column runs, and the areas
+//     8   paper, percent, width's target, height's target; the row title's first and last, the column title's first and last
+//     16  the page limit, the cell limit
+//
+// digits for each field. After it come the margins if they are given (16 digits each); of the areas the first rows, the first columns, the last
+// rows and the last columns (8); the row indexes (8) and sizes (16), the column indexes and sizes, the merges' first rows, first columns, last
+// rows and last columns (8), the row breaks and the column breaks (8).
+use crate::axes::read_title;
+use crate::fields::{Fault, Fields};
+use crate::lent;
+use crate::lists::Lists;
+use crate::text::{Answer, Numbers, PlanText, numbered_page};
 use geometry::Margins;
 use job_records::float;
-use planner_rules::{AxisLists, MergeList, Request, Settings, SheetLists, SlotList};
+use planner::plan_pages;
+use planner_rules::{
+    Areas, PageOrder, Plan, Planning, PrintRange, Request, Settings, SheetLists, Title,
+};
+use std::alloc::{AllocError, Global};
+use std::io::{self, Write};
 
-// Reads the margins, if they are given.
-fn read_settings(line: &[u8; TEXT]) -> Settings {
-    if !head::margins_given(line) {
-        return head::settings(line, None);
+// The most pages of which each is asked for.
+const FEW: u64 = 12;
+
+#[derive(Clone, Copy)]
+struct Flags {
+    paper: bool,
+    landscape: bool,
+    percent: bool,
+    fit: bool,
+    fit_width: bool,
+    fit_height: bool,
+    over_then_down: bool,
+    headings: bool,
+    row_title: bool,
+    column_title: bool,
+    margins: bool,
+    cell_limit: bool,
+}
+
+impl Flags {
+    fn read(fields: &mut Fields) -> Result<Self, Fault> {
+        Ok(Self {
+            paper: fields.next()?,
+            landscape: fields.next()?,
+            percent: fields.next()?,
+            fit: fields.next()?,
+            fit_width: fields.next()?,
+            fit_height: fields.next()?,
+            over_then_down: fields.next()?,
+            headings: fields.next()?,
+            row_title: fields.next()?,
+            column_title: fields.next()?,
+            margins: fields.next()?,
+            cell_limit: fields.next()?,
+        })
     }
-    let read = read_sizes(6);
-    let margins = Margins {
-        left: float(read[0]),
-        right: float(read[1]),
-        top: float(read[2]),
-        bottom: float(read[3]),
-        header: float(read[4]),
-        footer: float(read[5]),
-    };
-    head::settings(line, Some(margins))
 }
 
-// Lends two lists for the runs, plans, and answers what the lists hold then, and pages.
-fn planned(
-    line: &[u8; TEXT],
-    request: &Request,
-    lists: &SheetLists,
-    out: &mut [u8; LINE],
-) -> usize {
-    let mut rows = numbers_from(ROWS);
-    let mut columns = numbers_from(COLUMNS);
-    let n = capped(length(line, 10), NUMBERS);
-    let m = capped(length(line, 11), NUMBERS);
-    let planning = planner::plan_pages(request, lists, &mut rows[0..n], &mut columns[0..m]);
-    page_text::answered(out, planning, runs(&rows, n), runs(&columns, m))
+#[derive(Clone, Copy)]
+struct Lengths {
+    row_indexes: u8,
+    row_sizes: u8,
+    column_indexes: u8,
+    column_sizes: u8,
+    merge_first_rows: u8,
+    merge_first_columns: u8,
+    merge_last_rows: u8,
+    merge_last_columns: u8,
+    row_breaks: u8,
+    column_breaks: u8,
+    row_runs: u8,
+    column_runs: u8,
+    areas: u8,
 }
 
-// Reads a plan and its lists, and answers it.
-pub(crate) fn read_plan(out: &mut [u8; LINE]) -> usize {
-    let line = fields::read(HEAD);
-    let settings = read_settings(&line);
-    let areas = read_areas(length(&line, 12));
-    let row_indexes = read_numbers(length(&line, 0));
-    let row_sizes = read_sizes(length(&line, 1));
-    let column_indexes = read_numbers(length(&line, 2));
-    let column_sizes = read_sizes(length(&line, 3));
-    let first_rows = read_numbers(length(&line, 4));
-    let first_columns = read_numbers(length(&line, 5));
-    let last_rows = read_numbers(length(&line, 6));
-    let last_columns = read_numbers(length(&line, 7));
-    let row_breaks = read_numbers(length(&line, 8));
-    let column_breaks = read_numbers(length(&line, 9));
-    let request = Request {
-        settings,
-        areas,
-        row_title: head::row_title(&line),
-        column_title: head::column_title(&line),
+impl Lengths {
+    fn read(fields: &mut Fields) -> Result<Self, Fault> {
+        Ok(Self {
+            row_indexes: fields.next()?,
+            row_sizes: fields.next()?,
+            column_indexes: fields.next()?,
+            column_sizes: fields.next()?,
+            merge_first_rows: fields.next()?,
+            merge_first_columns: fields.next()?,
+            merge_last_rows: fields.next()?,
+            merge_last_columns: fields.next()?,
+            row_breaks: fields.next()?,
+            column_breaks: fields.next()?,
+            row_runs: fields.next()?,
+            column_runs: fields.next()?,
+            areas: fields.next()?,
+        })
+    }
+}
+
+// A setting of the last 16 bits of a field, if it is given.
+fn read_setting(fields: &mut Fields, given: bool) -> Result<Option<u16>, Fault> {
+    let bits: u32 = fields.next()?;
+    Ok(given.then_some((bits & 0xffff) as u16))
+}
+
+fn read_cell_limit(fields: &mut Fields, given: bool) -> Result<Option<u64>, Fault> {
+    let limit = fields.next()?;
+    Ok(given.then_some(limit))
+}
+
+// The margins stand in the line only if they are given.
+fn read_margins(fields: &mut Fields, given: bool) -> Result<Option<Margins>, Fault> {
+    if !given {
+        return Ok(None);
+    }
+    Ok(Some(Margins {
+        left: float(fields.next()?),
+        right: float(fields.next()?),
+        top: float(fields.next()?),
+        bottom: float(fields.next()?),
+        header: float(fields.next()?),
+        footer: float(fields.next()?),
+    }))
+}
+
+// What a plan is asked for beside its areas and lists: its settings and both titles.
+#[derive(Clone, Copy)]
+struct Asked {
+    settings: Settings,
+    row_title: Title,
+    column_title: Title,
+}
+
+impl Asked {
+    fn read(fields: &mut Fields, flags: &Flags) -> Result<(Self, Lengths), Fault> {
+        let lengths = Lengths::read(fields)?;
+        let paper = read_setting(fields, flags.paper)?;
+        let percent = read_setting(fields, flags.percent)?;
+        let fit_width = read_setting(fields, flags.fit_width)?;
+        let fit_height = read_setting(fields, flags.fit_height)?;
+        let row_title = read_title(fields, flags.row_title)?;
+        let column_title = read_title(fields, flags.column_title)?;
+        let page_limit = fields.next()?;
+        let cell_limit = read_cell_limit(fields, flags.cell_limit)?;
+        let settings = Settings {
+            paper,
+            landscape: flags.landscape,
+            margins: read_margins(fields, flags.margins)?,
+            percent,
+            fit: flags.fit,
+            fit_width,
+            fit_height,
+            order: page_order(flags.over_then_down),
+            headings: flags.headings,
+            page_limit,
+            cell_limit,
+        };
+        let asked = Self {
+            settings,
+            row_title,
+            column_title,
+        };
+        Ok((asked, lengths))
+    }
+}
+
+pub(crate) fn page_order(over_then_down: bool) -> PageOrder {
+    if over_then_down {
+        PageOrder::OverThenDown
+    } else {
+        PageOrder::DownThenOver
+    }
+}
+
+fn read_ranges(alloc: Global, fields: &mut Fields, count: u8) -> Result<Vec<PrintRange>, Fault> {
+    let first_rows = fields.list(alloc, count)?;
+    let first_columns = fields.list(alloc, count)?;
+    let last_rows = fields.list(alloc, count)?;
+    let last_columns = fields.list(alloc, count)?;
+    let firsts = first_rows.into_iter().zip(first_columns);
+    let lasts = last_rows.into_iter().zip(last_columns);
+    let mut ranges = Vec::new(alloc);
+    for ((first_row, first_column), (last_row, last_column)) in firsts.zip(lasts) {
+        ranges.push(PrintRange {
+            first_row,
+            first_column,
+            last_row,
+            last_column,
+        })?;
+    }
+    Ok(ranges)
+}
+
+// The lists of rows and of columns, which stand in turns.
+fn read_lists(alloc: Global, fields: &mut Fields, n: &Lengths) -> Result<(Lists, Lists), Fault> {
+    let row_indexes = fields.list(alloc, n.row_indexes)?;
+    let row_sizes = fields.list(alloc, n.row_sizes)?;
+    let column_indexes = fields.list(alloc, n.column_indexes)?;
+    let column_sizes = fields.list(alloc, n.column_sizes)?;
+    let merge_first_rows = fields.list(alloc, n.merge_first_rows)?;
+    let merge_first_columns = fields.list(alloc, n.merge_first_columns)?;
+    let merge_last_rows = fields.list(alloc, n.merge_last_rows)?;
+    let merge_last_columns = fields.list(alloc, n.merge_last_columns)?;
+    let rows = Lists {
+        indexes: row_indexes,
+        sizes: row_sizes,
+        merge_firsts: merge_first_rows,
+        merge_lasts: merge_last_rows,
+        breaks: fields.list(alloc, n.row_breaks)?,
     };
-    let lists = SheetLists {
-        rows: AxisLists {
-            slots: SlotList {
-                indexes: numbers(&row_indexes, length(&line, 0)),
-                sizes: sizes(&row_sizes, length(&line, 1)),
-            },
-            merges: MergeList {
-                firsts: numbers(&first_rows, length(&line, 4)),
-                lasts: numbers(&last_rows, length(&line, 6)),
-            },
-            breaks: numbers(&row_breaks, length(&line, 8)),
-        },
-        columns: AxisLists {
-            slots: SlotList {
-                indexes: numbers(&column_indexes, length(&line, 2)),
-                sizes: sizes(&column_sizes, length(&line, 3)),
-            },
-            merges: MergeList {
-                firsts: numbers(&first_columns, length(&line, 5)),
-                lasts: numbers(&last_columns, length(&line, 7)),
-            },
-            breaks: numbers(&column_breaks, length(&line, 9)),
-        },
+    let columns = Lists {
+        indexes: column_indexes,
+        sizes: column_sizes,
+        merge_firsts: merge_first_columns,
+        merge_lasts: merge_last_columns,
+        breaks: fields.list(alloc, n.column_breaks)?,
     };
-    planned(&line, &request, &lists, out)
+    Ok((rows, columns))
+}
+
+#[derive(Drop)]
+pub(crate) struct PlanCase {
+    settings: Settings,
+    row_title: Title,
+    column_title: Title,
+    ranges: Vec<PrintRange>,
+    rows: Lists,
+    columns: Lists,
+    row_runs: Vec<u64>,
+    column_runs: Vec<u64>,
+}
+
+impl PlanCase {
+    pub(crate) fn read(alloc: Global, fields: &mut Fields) -> Result<Self, Fault> {
+        let flags = Flags::read(fields)?;
+        let (asked, lengths) = Asked::read(fields, &flags)?;
+        let ranges = read_ranges(alloc, fields, lengths.areas)?;
+        let (rows, columns) = read_lists(alloc, fields, &lengths)?;
+        Ok(Self {
+            settings: asked.settings,
+            row_title: asked.row_title,
+            column_title: asked.column_title,
+            ranges,
+            rows,
+            columns,
+            row_runs: lent::numbers_from(alloc, lent::ROWS, lengths.row_runs)?,
+            column_runs: lent::numbers_from(alloc, lent::COLUMNS, lengths.column_runs)?,
+        })
+    }
+
+    // Plans, which writes the runs to the lent lists.
+    fn plan(&mut self) -> Result<Plan, u8> {
+        let request = Request {
+            settings: self.settings,
+            areas: areas_of(&self.ranges),
+            row_title: self.row_title,
+            column_title: self.column_title,
+        };
+        let lists = SheetLists {
+            rows: self.rows.lend(),
+            columns: self.columns.lend(),
+        };
+        let planning = plan_pages(&request, &lists, &mut self.row_runs, &mut self.column_runs);
+        match planning {
+            Planning::Value(plan) => Ok(plan),
+            Planning::Refused(number) => Err(number),
+        }
+    }
+
+    // Plans, and answers what the lent lists hold then, and pages.
+    pub(crate) fn answer<W: Write>(&mut self, alloc: Global, out: &mut W) -> io::Result<()> {
+        let planned = self.plan();
+        let rows = Numbers(&self.row_runs);
+        let columns = Numbers(&self.column_runs);
+        write!(out, "{}{rows}{columns}", Answer(planned.map(PlanText)))?;
+        if let Ok(plan) = planned {
+            for number in page_numbers(alloc, plan.pages)? {
+                let page = numbered_page(&plan, number, &self.row_runs, &self.column_runs);
+                write!(out, "; {number} {page}")?;
+            }
+        }
+        writeln!(out)
+    }
+}
+
+// The areas of ranges; where there are fewer than eight, the places of the others hold none.
+fn areas_of(ranges: &[PrintRange]) -> Areas {
+    let no_range = PrintRange {
+        first_row: 0,
+        first_column: 0,
+        last_row: 0,
+        last_column: 0,
+    };
+    let range = |at: usize| ranges.get(at).copied().unwrap_or(no_range);
+    Areas {
+        count: ranges.len(),
+        first: range(0),
+        second: range(1),
+        third: range(2),
+        fourth: range(3),
+        fifth: range(4),
+        sixth: range(5),
+        seventh: range(6),
+        eighth: range(7),
+    }
+}
+
+// The numbers of the pages that are asked for: all of a few and those before and after them; of more, 0 to 6, two in the middle, and the last
+// six with the one after them, which is 0 after the last number that there is.
+fn page_numbers(alloc: Global, pages: u64) -> Result<Vec<u64>, AllocError> {
+    if pages <= FEW {
+        return (0..pages + 2).collect(alloc);
+    }
+    let middle = pages / 2;
+    (0..7)
+        .chain(middle..middle + 2)
+        .chain(pages - 5..pages)
+        .chain([pages, pages.wrapping_add(1)])
+        .collect(alloc)
 }

@@ -1,15 +1,123 @@
 // Plans whose pages are listed. Slots are 400,000 each, on Letter.
-use crate::{places, text};
+use crate::listed::Planned;
+use planner::plan_pages;
 use planner_rules::{
-    Areas, AxisLists, CellLimit, MergeList, PageOrder, Plan, Planning, PrintRange, RUN_NUMBERS,
-    Request, Settings, SheetLists, SlotList, Title,
+    Areas, AxisLists, MergeList, PageOrder, Plan, Planning, PrintRange, RUN_NUMBERS, Request,
+    Settings, SheetLists, SlotList, Title,
 };
-use units::Refusal;
+use std::alloc::Global;
+use std::io::{self, Write};
 
-// The most runs of these plans.
-const ROW_RUNS: usize = 5;
+// The size of each slot.
+const SIZE: u64 = 400_000;
 
-const COLUMN_RUNS: usize = 3;
+// The numbers of the lists of runs: these plans have at most five runs of rows and three of columns.
+const ROW_NUMBERS: usize = 5 * RUN_NUMBERS;
+
+const COLUMN_NUMBERS: usize = 3 * RUN_NUMBERS;
+
+// A sheet by its slots, and how its areas are printed.
+#[derive(Clone, Copy)]
+struct Case<'a> {
+    name: &'a str,
+    percent: Option<u16>,
+    order: PageOrder,
+    ranges: &'a [PrintRange],
+    rows: &'a [u32],
+    columns: &'a [u32],
+    row_breaks: &'a [u32],
+}
+
+// The example of document 01, section "Jobs": three rows and two columns.
+const EXAMPLE: Case<'static> = Case {
+    name: "three rows and two columns, down then over",
+    percent: None,
+    order: PageOrder::DownThenOver,
+    ranges: &[WHOLE],
+    rows: &[0, 1, 2],
+    columns: &[0, 1],
+    row_breaks: &[],
+};
+
+const WHOLE: PrintRange = PrintRange {
+    first_row: 0,
+    first_column: 0,
+    last_row: 2,
+    last_column: 1,
+};
+
+const FIRST_COLUMN: PrintRange = PrintRange {
+    last_column: 0,
+    ..WHOLE
+};
+
+const FIVE_ROWS: PrintRange = PrintRange {
+    last_row: 4,
+    last_column: 0,
+    ..WHOLE
+};
+
+const TWO_ROWS: PrintRange = PrintRange {
+    last_row: 1,
+    ..WHOLE
+};
+
+const FIRST_CELL: PrintRange = PrintRange {
+    last_row: 0,
+    last_column: 0,
+    ..WHOLE
+};
+
+const LAST_CELL: PrintRange = PrintRange {
+    first_row: 2,
+    first_column: 1,
+    ..WHOLE
+};
+
+const OUTSIDE: PrintRange = PrintRange {
+    first_row: 3,
+    first_column: 5,
+    last_row: 4,
+    last_column: 6,
+};
+
+const CASES: [Case<'static>; 6] = [
+    EXAMPLE,
+    Case {
+        name: "three rows and two columns, over then down",
+        order: PageOrder::OverThenDown,
+        ..EXAMPLE
+    },
+    // Three rows with a break before the second: both pages carry marks.
+    Case {
+        name: "a manual break, and no columns",
+        ranges: &[FIRST_COLUMN],
+        columns: &[],
+        row_breaks: &[1],
+        ..EXAMPLE
+    },
+    // Five rows, each on a page of its own.
+    Case {
+        name: "five pages, four places",
+        percent: Some(200),
+        ranges: &[FIVE_ROWS],
+        rows: &[0, 1, 2, 3, 4],
+        columns: &[0],
+        ..EXAMPLE
+    },
+    // Two areas that overlap: three rows of a column, then two rows of two columns.
+    Case {
+        name: "two areas",
+        ranges: &[FIRST_COLUMN, TWO_ROWS],
+        ..EXAMPLE
+    },
+    // Three areas of a page each, in job order: the last cell, the first one, and one without a slot.
+    Case {
+        name: "three areas",
+        ranges: &[LAST_CELL, FIRST_CELL, OUTSIDE],
+        ..EXAMPLE
+    },
+];
 
 fn settings(percent: Option<u16>, order: PageOrder) -> Settings {
     Settings {
@@ -22,179 +130,88 @@ fn settings(percent: Option<u16>, order: PageOrder) -> Settings {
         fit_height: None,
         order,
         headings: false,
-        page_limit: 10000,
+        page_limit: 10_000,
         cell_limit: None,
     }
 }
 
-// From the first row and column on.
-fn range(last_row: u32, last_column: u32) -> PrintRange {
-    PrintRange {
-        first_row: 0,
-        first_column: 0,
-        last_row,
-        last_column,
-    }
-}
-
-// So many areas, of at most three.
-fn areas_of(count: usize, first: PrintRange, second: PrintRange, third: PrintRange) -> Areas {
+// The areas of ranges; where there are fewer than eight, the whole sheet stands in the places of the others.
+fn areas_of(ranges: &[PrintRange]) -> Areas {
+    let range = |at: usize| ranges.get(at).copied().unwrap_or(WHOLE);
     Areas {
-        count,
-        first,
-        second,
-        third,
-        fourth: third,
-        fifth: third,
-        sixth: third,
-        seventh: third,
-        eighth: third,
+        count: ranges.len(),
+        first: range(0),
+        second: range(1),
+        third: range(2),
+        fourth: range(3),
+        fifth: range(4),
+        sixth: range(5),
+        seventh: range(6),
+        eighth: range(7),
     }
 }
 
-fn one_area(range: PrintRange) -> Areas {
-    areas_of(1, range, range, range)
-}
-
-// Says what is answered, and how many pages are written.
-fn answered(answer: Result<u64, Refusal>) -> u64 {
-    match answer {
-        Ok(n) => {
-            text::word(b"pages");
-            text::number(n);
-            text::word(b"\n");
-            n
-        }
-        Err(no) => {
-            text::word(b"no");
-            text::number(no.number() as u64);
-            text::word(b"\n");
-            0
-        }
-    }
-}
-
-// Lists the pages of a plan, and says them.
-fn listed(plan: Plan, row_runs: &[u64], column_runs: &[u64]) {
-    let four = planner_page_list::list_four([places::blank(); 4], plan, row_runs, column_runs);
-    let answer = four.answer;
-    let list = four.pages;
-    places::say_places(list, answered(answer), plan, row_runs, column_runs)
-}
-
-// No merge.
-const NONE: MergeList<'static> = MergeList {
-    firsts: &[],
-    lasts: &[],
-};
-
-// The slots of an axis, and its breaks.
+// The slots of an axis that has no merges, and its breaks.
 fn axis<'a>(indexes: &'a [u32], sizes: &'a [u64], breaks: &'a [u32]) -> AxisLists<'a> {
     AxisLists {
         slots: SlotList { indexes, sizes },
-        merges: NONE,
+        merges: MergeList {
+            firsts: &[],
+            lasts: &[],
+        },
         breaks,
     }
 }
 
-// Plans slots, and lists the pages.
-fn planned(settings: Settings, areas: Areas, rows: AxisLists, columns: AxisLists) {
-    let mut row_runs = [0u64; ROW_RUNS * RUN_NUMBERS];
-    let mut column_runs = [0u64; COLUMN_RUNS * RUN_NUMBERS];
-    let request = Request {
-        settings,
-        areas,
-        row_title: Title::Absent,
-        column_title: Title::Absent,
-    };
-    let lists = SheetLists { rows, columns };
-    let planning = planner::plan_pages(&request, &lists, &mut row_runs, &mut column_runs);
-    let Planning::Value(plan) = planning else {
-        text::word(b"no plan\n");
-        return;
-    };
-    listed(plan, &row_runs, &column_runs)
+impl Case<'_> {
+    // Plans, which writes the runs to the lists.
+    fn plan(
+        &self,
+        alloc: Global,
+        row_runs: &mut [u64],
+        column_runs: &mut [u64],
+    ) -> io::Result<Option<Plan>> {
+        let row_sizes = vec![in alloc; SIZE; self.rows.len()]?;
+        let column_sizes = vec![in alloc; SIZE; self.columns.len()]?;
+        let request = Request {
+            settings: settings(self.percent, self.order),
+            areas: areas_of(self.ranges),
+            row_title: Title::Absent,
+            column_title: Title::Absent,
+        };
+        let lists = SheetLists {
+            rows: axis(self.rows, &row_sizes, self.row_breaks),
+            columns: axis(self.columns, &column_sizes, &[]),
+        };
+        let planning = plan_pages(&request, &lists, row_runs, column_runs);
+        Ok(match planning {
+            Planning::Value(plan) => Some(plan),
+            Planning::Refused(_) => None,
+        })
+    }
+
+    // Plans, and lists the pages.
+    fn say<W: Write>(&self, alloc: Global, out: &mut W) -> io::Result<()> {
+        writeln!(out, "{}", self.name)?;
+        let mut row_runs = [0; ROW_NUMBERS];
+        let mut column_runs = [0; COLUMN_NUMBERS];
+        match self.plan(alloc, &mut row_runs, &mut column_runs)? {
+            Some(plan) => {
+                let planned = Planned {
+                    plan,
+                    row_runs: &row_runs,
+                    column_runs: &column_runs,
+                };
+                planned.say(out)
+            }
+            None => writeln!(out, "no plan"),
+        }
+    }
 }
 
-// The example of document 01, section "Jobs": three rows and two columns.
-fn example(order: PageOrder) {
-    planned(
-        settings(None, order),
-        one_area(range(2, 1)),
-        axis(&[0, 1, 2], &[400000, 400000, 400000], &[]),
-        axis(&[0, 1], &[400000, 400000], &[]),
-    )
-}
-
-// Three rows with a break before the second, and no column: both pages carry marks.
-fn break_case() {
-    planned(
-        settings(None, PageOrder::DownThenOver),
-        one_area(range(2, 0)),
-        axis(&[0, 1, 2], &[400000, 400000, 400000], &[1]),
-        axis(&[], &[], &[]),
-    )
-}
-
-// Five rows, each on a page of its own.
-fn five_case() {
-    planned(
-        settings(Some(200), PageOrder::DownThenOver),
-        one_area(range(4, 0)),
-        axis(
-            &[0, 1, 2, 3, 4],
-            &[400000, 400000, 400000, 400000, 400000],
-            &[],
-        ),
-        axis(&[0], &[400000], &[]),
-    )
-}
-
-// Two areas that overlap: three rows of a column, then two rows of two columns.
-fn two_areas() {
-    let rows = range(2, 0);
-    let columns = range(1, 1);
-    planned(
-        settings(None, PageOrder::DownThenOver),
-        areas_of(2, rows, columns, columns),
-        axis(&[0, 1, 2], &[400000, 400000, 400000], &[]),
-        axis(&[0, 1], &[400000, 400000], &[]),
-    )
-}
-
-// Three areas of a page each, in job order: the last cell, the first one, and one without a slot.
-fn three_areas() {
-    let last = PrintRange {
-        first_row: 2,
-        first_column: 1,
-        last_row: 2,
-        last_column: 1,
-    };
-    let outside = PrintRange {
-        first_row: 3,
-        first_column: 5,
-        last_row: 4,
-        last_column: 6,
-    };
-    planned(
-        settings(None, PageOrder::DownThenOver),
-        areas_of(3, last, range(0, 0), outside),
-        axis(&[0, 1, 2], &[400000, 400000, 400000], &[]),
-        axis(&[0, 1], &[400000, 400000], &[]),
-    )
-}
-
-pub(crate) fn all_cases() {
-    text::word(b"three rows and two columns, down then over\n");
-    example(PageOrder::DownThenOver);
-    text::word(b"three rows and two columns, over then down\n");
-    example(PageOrder::OverThenDown);
-    text::word(b"a manual break, and no columns\n");
-    break_case();
-    text::word(b"five pages, four places\n");
-    five_case();
-    text::word(b"two areas\n");
-    two_areas();
-    text::word(b"three areas\n");
-    three_areas();
+pub(crate) fn say_all<W: Write>(alloc: Global, out: &mut W) -> io::Result<()> {
+    for case in &CASES {
+        case.say(alloc, out)?;
+    }
+    Ok(())
 }

@@ -3,9 +3,14 @@
 #![tactic(auto)]
 
 mod cases;
-mod places;
+mod listed;
 mod text;
 
-fn main() {
-    cases::all_cases();
+use std::io::{self, BufWriter, Write};
+
+fn main(rt: HostRuntime) -> io::Result<()> {
+    let alloc = rt.alloc();
+    let mut out = BufWriter::new(alloc, io::writer(&rt))?;
+    cases::say_all(alloc, &mut out)?;
+    out.flush()
 }

@@ -1,41 +1,29 @@
-// Words and pages on standard output.
+// Pages and verdicts as text.
 use planner_rules::Page;
+use std::fmt;
 
-// Standard output.
-const STDOUT: i32 = 1;
+// "page number, vertical, horizontal, first and last row, first and last column, row size, column size"
+#[derive(Drop)]
+pub(crate) struct PageLine(pub(crate) u64, pub(crate) Page);
 
-pub(crate) fn word(bytes: &[u8]) {
-    io::write_all(STDOUT, bytes);
-}
-
-// A space and a number.
-pub(crate) fn number(n: u64) {
-    word(b" ");
-    io::print_decimal(STDOUT, n);
-}
-
-// The end of a line that says whether something holds.
-pub(crate) fn verdict(ok: bool) {
-    if ok {
-        word(b" ok\n");
-    } else {
-        word(b" bad\n");
+impl fmt::Display for PageLine {
+    fn fmt<W: fmt::Write>(&self, f: &mut fmt::Formatter<W>) -> fmt::Result {
+        let Self(number, page) = self;
+        let rows = &page.rows;
+        let columns = &page.columns;
+        write!(f, "page {number} {} {}", page.vertical, page.horizontal)?;
+        write!(f, " {} {}", rows.first, rows.last)?;
+        write!(f, " {} {}", columns.first, columns.last)?;
+        write!(f, " {} {}", rows.size, columns.size)
     }
 }
 
-// "page number, vertical, horizontal, first and last row, first and last column, row size, column size"
-pub(crate) fn page_line(n: u64, page: Page) {
-    let rows = page.rows;
-    let columns = page.columns;
-    word(b"page");
-    number(n);
-    number(page.vertical as u64);
-    number(page.horizontal as u64);
-    number(rows.first as u64);
-    number(rows.last as u64);
-    number(columns.first as u64);
-    number(columns.last as u64);
-    number(rows.size);
-    number(columns.size);
-    word(b"\n");
+// Whether something holds.
+#[derive(Drop)]
+pub(crate) struct Verdict(pub(crate) bool);
+
+impl fmt::Display for Verdict {
+    fn fmt<W: fmt::Write>(&self, f: &mut fmt::Formatter<W>) -> fmt::Result {
+        write!(f, "{}", if self.0 { "ok" } else { "bad" })
+    }
 }

@@ -56,7 +56,7 @@ pub struct Plan {
 }
 
 // A run of rows or columns of a page.
-#[derive(Clone, Copy)]
+#[derive(Clone, Copy, Debug, PartialEq, Eq)]
 pub struct PageRun {
     pub first: u32,
     pub last: u32,
@@ -66,7 +66,7 @@ pub struct PageRun {
 }
 
 // A page: the numbers of its two runs, from 0 in each area, and the runs.
-#[derive(Clone, Copy)]
+#[derive(Clone, Copy, Debug, PartialEq, Eq)]
 pub struct Page {
     pub vertical: usize,
     pub horizontal: usize,

@@ -1,0 +1,136 @@
+// The plan of a job's bytes, as it is printed.
+ghost use Rattle.std.specs.Prelude.{◌+◌, ◌≡◌, ◌≤◌, ◌<◌, IfOk};
+
+use anyhow::{Context, Result, anyhow};
+use job::{count_job, write_job_area};
+use job_report::{Block, area_block, area_line, head_lines};
+use planner_areas::plan_at;
+use planner_pages::page_spot;
+use planner_rules::{Plan, Planning, RUN_NUMBERS, Spot, Writing};
+use std::alloc::Global;
+use std::io::Write;
+
+// "Its run lists hold 5,000 entries an axis".
+const RUNS: usize = 5000;
+
+const NUMBERS: usize = RUN_NUMBERS * RUNS;
+
+// Writes to standard output.
+fn write<W: Write>(out: &mut W, bytes: &[u8]) -> Result<()> {
+    out.write_all(bytes).context("standard output could not be written: the plan is cut short")
+}
+
+// Writes the first lines, or that of a refusal.
+fn print_head<W: Write>(out: &mut W, planning: Planning) -> Result<()> {
+    let mut head = [0; 256];
+    let end = head_lines(planning, &mut head);
+    write(out, &head[..end])
+}
+
+// Writes the line of the area with a number, from 1, if it is a later one.
+fn print_area<W: Write>(out: &mut W, number: u64, permille: u16) -> Result<()> {
+    if number < 2 {
+        return Ok(());
+    }
+    let mut line = [0; 256];
+    let end = area_line(number, permille, &mut line);
+    write(out, &line[..end])
+}
+
+// What is said where a call refuses a plan that was counted, which none does: each area of it is taken, and each block.
+fn refused() -> anyhow::Error {
+    anyhow!("the plan that was counted is refused")
+}
+
+// A job that was counted, and the lists that the runs of each of its areas are written to in turn.
+#[derive(Drop)]
+struct Counted<'a> {
+    job: &'a [u8],
+    plan: Plan,
+    row_runs: Vec<u64>,
+    column_runs: Vec<u64>,
+}
+
+impl Counted<'_> {
+    fn spot(&self, number: u64) -> Result<Spot>
+        ensures { IfOk result (λ spot. spot.area < 8) }
+    {
+        page_spot(self.plan, number).ok_or(refused())
+    }
+
+    // Writes the line of an area, by its number from 0, and its runs to the lists.
+    fn begin_area<W: Write>(&mut self, out: &mut W, at: usize) -> Result<()>
+        requires { at < 8 }
+        ensures { self.new.plan ≡ self.old.plan }
+    {
+        let permille = plan_at(self.plan.areas, at).permille;
+        let number = at as u64 + 1;
+        print_area(out, number, permille)?;
+        match write_job_area(
+            self.job,
+            number,
+            permille,
+            &mut self.row_runs,
+            &mut self.column_runs,
+        ) {
+            Writing::Value(_) => Ok(()),
+            Writing::Refused(_) => Err(refused()),
+        }
+    }
+
+    // Writes a block of page lines from a number on, and answers how many.
+    fn print_block<W: Write>(&self, out: &mut W, from: u64) -> Result<u64>
+        requires { from ≤ self.now.plan.pages }
+        ensures some { IfOk result (λ pages. 1 ≤ pages) }
+        ensures to_count { IfOk result (λ pages. from + pages ≤ self.now.plan.pages + 1) }
+    {
+        let mut lines = [0; 65536];
+        let answer = area_block(
+            self.plan,
+            from,
+            &self.row_runs,
+            &self.column_runs,
+            &mut lines,
+        );
+        match answer {
+            Ok(Block { pages, bytes }) => {
+                write(out, &lines[..bytes])?;
+                Ok(pages)
+            }
+            Err(_) => Err(refused()),
+        }
+    }
+
+    // Writes the lines of all areas and pages, a block at a time; where a block is an area's first, its line before it.
+    fn print_pages<W: Write>(&mut self, out: &mut W) -> Result<()> {
+        let pages = self.plan.pages;
+        let mut done = 0;
+        // No `for`: a block has as many pages as fit.
+        while done < pages {
+            let spot = self.spot(done + 1)?;
+            if spot.before == 0 {
+                self.begin_area(out, spot.area)?;
+            }
+            done += self.print_block(out, done + 1)?;
+        }
+        Ok(())
+    }
+}
+
+// Writes what the job's bytes come to.
+pub(crate) fn print_plan<W: Write>(alloc: Global, job: &[u8], out: &mut W) -> Result<()> {
+    let planning = count_job(job);
+    print_head(out, planning)?;
+    match planning {
+        Planning::Value(plan) => {
+            let mut counted = Counted {
+                job,
+                plan,
+                row_runs: vec![in alloc; 0; NUMBERS]?,
+                column_runs: vec![in alloc; 0; NUMBERS]?,
+            };
+            counted.print_pages(out)
+        }
+        Planning::Refused(_) => Ok(()),
+    }
+}
