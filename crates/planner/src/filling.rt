@@ -46,6 +46,7 @@ fn fill_by_eight(slots: Measured, capacity: u64) -> Filling
     let sizes = slots.sizes;
     let mut sum = sizes[0];
     let mut n = 1;
+    // The place is what is answered: `chunks_exact` would need a count beside it.
     while sizes.len() - n >= 8 {
         let next = sum + sum_of_eight(&sizes[n..n + 8]);
         if next > capacity {

@@ -2,22 +2,20 @@
 use mathlib.Core.Path.{◌≡◌, refl, sym, ap, ◌∙◌}
 use mathlib.Core.Bool.{Bool, true, false, ◌&&◌, and-true, and-false, and_assoc}
 use mathlib.Core.List.{List, [], ◌∷◌}
-use Prim.Native.Nat.{ℕ, zero, suc, ◌+◌, ◌-◌, ◌≤◌, ◌<◌, ◌^◌, min}
+use Prim.Native.Nat.{ℕ, zero, suc, ◌+◌, ◌-◌, ◌≤◌, ◌<◌, ◌^◌}
 use native.Mathlib.Nat.{lt_of_not-le}
 use native.Mathlib.Decide.{dec_le}
-use native.Mathlib.Numerals.{add-one}
 use native.Mathlib.Omega.{arith}
 use lib.Bits.{bit_or, or_lt, or_add_and, and_le_l, and_le_r}
 use lib.Dec.{leb, ltb}
 use Rattle.std.specs.Prelude.{fold}
 use Rattle.std.specs.List.{list_all, zip}
 use lib.ListN.{length, get_or, drop}
-use lib.Seq.{drop-cons}
 use borrow.Author.Tests.{le-leb, lt-leb, leb-true, ltb-true}
 use Rattle.planner_rules.specs.Slots.{Slots}
 use Rattle.units.specs.Outcome.{Outcome, refused}
 use Rattle.planner_rules.specs.Questions.{ask, no_or, all_ordered, all_within, rising, rising_within, all_small}
-use Rattle.planner_rules.proofs.Laws.{drop_back, run_out}
+use Rattle.planner_rules.proofs.Laws.{drop_back}
 
 -- ---- questions one after another, and the number of the first no
 

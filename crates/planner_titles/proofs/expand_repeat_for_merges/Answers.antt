@@ -1,5 +1,5 @@
 -- The parts of a pass make up the pass; after it the test says whether the pass changed the span, and by that the notes are counted or all ends.
-use Rattle.std.proofs.Common.{◌≡◌, ℕ, ◌-◌, ◌≤◌, true, false, Option, None, List, length, sym, ◌∙◌, ◌⊎◌, inl, inr, arith}
+use Rattle.std.proofs.Common.{◌≡◌, ℕ, ◌-◌, true, false, None, List, length, sym, ◌∙◌, ◌⊎◌, inl, inr, arith}
 use Rattle.std.specs.declared.iter.Zip.{Zip}
 use Rattle.std.specs.declared.slice.Chunks.{Chunks}
 use Rattle.std.specs.Iterator.Adapters.{zip_first, zip_second}

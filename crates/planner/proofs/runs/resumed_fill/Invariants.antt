@@ -1,5 +1,5 @@
 -- What is taken, and what the definition still takes from here, is the whole.
-use Rattle.std.proofs.Common.{◌≡◌, ◌+◌, ◌-◌, ◌*◌, ◌≤◌, length, drop}
+use Rattle.std.proofs.Common.{◌≡◌, ◌+◌, ◌*◌, ◌≤◌, length, drop}
 use Rattle.planner_rules.specs.Runs.{again, resumed}
 use Rattle.planner.proofs.runs.resumed_fill.Given as goal
 

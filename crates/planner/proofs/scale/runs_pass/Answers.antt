@@ -6,7 +6,7 @@ use Rattle.planner_rules.specs.declared.runs.Frame.{Frame}
 use Rattle.planner_rules.specs.Slots.{Slots, sum}
 use Rattle.planner_rules.specs.Runs.{ends, run_end, run, runs}
 use Rattle.planner_rules.specs.Scale.{Space, fits_side, printed, rendered, space_of, titled}
-use Rattle.planner_rules.proofs.Laws.{part, length_part, slots_part, small-take, turn, none, some}
+use Rattle.planner_rules.proofs.Laws.{part, length_part, small-take, turn, none, some}
 use Rattle.planner_rules.proofs.TitleLaws.{small-sum}
 use Rattle.planner_rules.proofs.ScaleLaws.{pass_from, too_many, one_out, one_in, all_in}
 use Rattle.planner.proofs.scale.runs_pass.Goals as goal

@@ -1,5 +1,5 @@
 -- A part of the merges makes of what was found behind it what all from its start on make; one in which none holds changes nothing.
-use Rattle.std.proofs.Common.{◌≡◌, List, [], ◌++◌, length, take, length-take, append-nil, refl, sym, ap, ◌∙◌, inl, inr, arith, rules}
+use Rattle.std.proofs.Common.{◌≡◌, [], ◌++◌, length, take, length-take, append-nil, refl, sym, ap, ◌∙◌, inl, inr, arith, rules}
 use Rattle.std.specs.Iterator.Adapters.{zip_first, zip_second}
 use Rattle.std.specs.Slice.Iter.{rchunks_rest}
 use Rattle.planner_rules.specs.Runs.{holding, holding_onto}

@@ -1,5 +1,5 @@
 -- What is counted, and what the axis has from the last kept cut on, is all.
-use Rattle.std.proofs.Common.{◌≡◌, false, ◌+◌, ◌-◌, ◌≤◌, length, drop}
+use Rattle.std.proofs.Common.{◌≡◌, false, ◌+◌, ◌≤◌, length, drop}
 use Rattle.planner_rules.specs.Runs.{axis_runs, expansions, shifts}
 use Rattle.planner_rules.specs.Scale.{space_of}
 use Rattle.planner_rules.specs.Pages.{overflowing}

@@ -1,5 +1,5 @@
 -- What is written, and the runs from the last kept cut on, are all.
-use Rattle.std.proofs.Common.{◌-◌, ◌≤◌, length, drop}
+use Rattle.std.proofs.Common.{◌≤◌, length, drop}
 use Rattle.planner_rules.specs.Runs.{axis_runs}
 use Rattle.planner_rules.proofs.Lent.{Writing}
 use Rattle.planner.proofs.runs.Cutter.write_axis.Given as goal

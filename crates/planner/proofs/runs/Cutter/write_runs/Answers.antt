@@ -4,7 +4,6 @@ use Rattle.planner_rules.specs.declared.runs.RunEnd.{RunEnd}
 use Rattle.planner_rules.specs.Slots.{sum}
 use Rattle.planner_rules.specs.Runs.{Run, run, runs, first_marked, with_mark}
 use Rattle.planner_rules.specs.Lent.{Room}
-use Rattle.planner_rules.proofs.Laws.{part}
 use Rattle.planner_rules.proofs.Lent.{Writing, writing_one, writing_done, flat-length}
 use Rattle.planner_rules.proofs.AxisLaws.{turn_marked, none_marked, some_marked}
 use Rattle.planner.proofs.runs.Cutter.write_runs.Goals as goal
