@@ -55,7 +55,10 @@ impl Counted<'_> {
     fn spot(&self, number: u64) -> Result<Spot>
         ensures { IfOk result (λ spot. spot.area < 8) }
     {
-        page_spot(self.plan, number).ok_or(refused())
+        match page_spot(self.plan, number) {
+            Some(spot) => Ok(spot),
+            None => Err(refused()),
+        }
     }
 
     // Writes the line of an area, by its number from 0, and its runs to the lists.

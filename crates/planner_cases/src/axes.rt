@@ -108,7 +108,12 @@ impl TitleCase {
             lasts: &self.merge_lasts,
         };
         let widened = widen_title(self.axis, self.title, merges);
-        writeln!(out, "{}", Answer(widened.map(WidenedTitle)))
+        let answer = widened.map(WidenedTitle);
+        writeln!(
+            out,
+            "{}",
+            Answer(answer.map_err(|refusal| refusal.number()))
+        )
     }
 }
 
@@ -143,6 +148,7 @@ impl RunsCase {
         let lists = self.lists.lend();
         let tally = partition_axis_with_breaks(self.axis, self.setup, lists, &mut self.runs);
         let runs = Numbers(&self.runs);
-        writeln!(out, "{}{runs}", Answer(tally.map(RunCount)))
+        let answer = tally.map(RunCount).map_err(|refusal| refusal.number());
+        writeln!(out, "{}{runs}", Answer(answer))
     }
 }

@@ -3,21 +3,18 @@
 // horizontal number, and both runs, with first, last, size, empty mark and manual mark.
 use planner_areas::{at_most_eight, plan_at};
 use planner_pages::page_numbered;
-use planner_rules::{
-    AreaPlan, Notes, Page, PageOrder, PageRun, Plan, Tally, Title, Widened,
-};
+use planner_rules::{AreaPlan, Notes, Page, PageOrder, PageRun, Plan, Tally, Title, Widened};
 use std::fmt;
-use units::Refusal;
 
 // An answer, or `no` and the number of the refusal.
 #[derive(Drop)]
-pub(crate) struct Answer<T>(pub(crate) Result<T, Refusal>);
+pub(crate) struct Answer<T>(pub(crate) Result<T, u8>);
 
 impl<T: fmt::Display> fmt::Display for Answer<T> {
     fn fmt<W: fmt::Write>(&self, f: &mut fmt::Formatter<W>) -> fmt::Result {
         match &self.0 {
             Ok(value) => write!(f, "{value}"),
-            Err(refusal) => write!(f, "no {}", refusal.number()),
+            Err(number) => write!(f, "no {number}"),
         }
     }
 }
@@ -152,5 +149,6 @@ pub(crate) fn numbered_page(
     row_runs: &[u64],
     column_runs: &[u64],
 ) -> Answer<PageText> {
-    Answer(page_numbered(*plan, number, row_runs, column_runs).map(PageText))
+    let page = page_numbered(*plan, number, row_runs, column_runs);
+    Answer(page.map(PageText).map_err(|refusal| refusal.number()))
 }

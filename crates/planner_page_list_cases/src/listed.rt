@@ -3,8 +3,8 @@ use crate::text::{PageLine, Verdict};
 use planner_page_list::list_four;
 use planner_pages::page_numbered;
 use planner_rules::{Page, PageRun, Plan};
-use units::Refusal;
 use std::io::{self, Write};
+use units::Refusal;
 
 // What stands in each place before the call: no page of a plan.
 const BLANK: Page = Page {

@@ -3,5 +3,5 @@ use Rattle.std.proofs.Common.{sym, ◌∙◌}
 use Rattle.job_report.proofs.SpotLaws.{spot_eight}
 use Rattle.plan.proofs.printed.Counted.spot.Goals as goal
 
-pub returns-in-At : goal.returns-in-At
-returns-in-At c = spot_eight _ _ _ (sym c.page_spot.ensures ∙ c.in-At.is)
+pub returns-in-Some : goal.returns-in-Some
+returns-in-Some c = spot_eight _ _ _ (sym c.page_spot.ensures ∙ c.in-Some.is)
