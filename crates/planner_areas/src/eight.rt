@@ -2,14 +2,13 @@
 ghost use Rattle.std.specs.Prelude.{◌≡◌, min, get_or, set};
 ghost use Rattle.planner_rules.specs.Areas as held;
 
-use planner_compare::shorter;
 use planner_rules::{AreaPlan, AreaPlans, Areas, PrintRange};
 
 #[inline(always)]
 pub fn at_most_eight(count: usize) -> usize
     ensures { result ≡ min count 8 }
 {
-    shorter(count, 8)
+    count.min(8)
 }
 
 // The eight ranges, from the first.

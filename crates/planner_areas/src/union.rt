@@ -6,7 +6,6 @@ ghost use Rattle.planner_rules.specs.Union as definition;
 ghost use Rattle.planner_areas.specs.Edges as edges;
 
 use crate::eight::{at_most_eight, eight_ranges};
-use planner_compare::wide;
 use planner_rules::{Areas, PrintRange};
 
 // How many rows and columns the grid has.
@@ -33,8 +32,8 @@ fn next_edge(ranges: &[PrintRange], from: u64) -> u64
 {
     let mut nearest = ROWS;
     for range in ranges {
-        let start = nearer(wide(range.first_row), from, nearest);
-        nearest = nearer(wide(range.last_row) + 1, from, start);
+        let start = nearer(u64::from(range.first_row), from, nearest);
+        nearest = nearer(u64::from(range.last_row) + 1, from, start);
     }
     nearest
 }
@@ -51,11 +50,11 @@ struct Stretch {
 fn grown(stretch: Stretch, range: PrintRange, row: u64) -> Stretch
     ensures { edges.Grown range row stretch result }
 {
-    if (row < wide(range.first_row)) | (wide(range.last_row) < row) {
+    if (row < u64::from(range.first_row)) | (u64::from(range.last_row) < row) {
         return stretch;
     }
     let Stretch { reach, start } = stretch;
-    let first = wide(range.first_column);
+    let first = u64::from(range.first_column);
     if reach < first {
         return Stretch {
             reach,
@@ -63,7 +62,7 @@ fn grown(stretch: Stretch, range: PrintRange, row: u64) -> Stretch
         };
     }
     Stretch {
-        reach: reach.max(wide(range.last_column) + 1),
+        reach: reach.max(u64::from(range.last_column) + 1),
         start,
     }
 }

@@ -13,9 +13,9 @@ pub use lists::{AxisLists, MergeList, SheetLists, SlotList};
 pub use pages::{AreaPlan, AreaPlans, Notes, Page, PageOrder, PageRun, Place, Plan, Spot};
 pub use partition::AxisSetup;
 pub use planning::{
-    AreaNotes, Areas, AxisRange, ContentSides, CountedArea, CountedAreas, FinalCut,
-    Frames, Planning, Prepared, PrintRange, Ready, ReadyArea, ReadyTitle, Request, RunCounts,
-    Settings, Shared, Writing,
+    AreaNotes, Areas, AxisRange, ContentSides, CountedArea, CountedAreas, FinalCut, Frames,
+    Planning, Prepared, PrintRange, Ready, ReadyArea, ReadyTitle, Request, RunCounts, Settings,
+    Shared, Writing,
 };
 pub use runs::{Cut, Frame, RUN_NUMBERS, RunEnd, Tally};
 pub use scale::{ChosenScale, Fit, PageSide, Stretch};

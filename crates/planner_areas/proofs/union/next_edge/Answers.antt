@@ -7,4 +7,4 @@ loop-range-preserved c =
     let a = c.args in
     let l = c.loop-range in
     one_more_lem a.ranges.now a.from l.range-index l.nearest c.nearer-start.result c.nearer-nearest.result l.invariant
-    (rw c.wide.ensures at c.nearer-start.ensures) (rw c.wide-in-loop-range.ensures at c.nearer-nearest.ensures)
+    (rw c.from.ensures at c.nearer-start.ensures) (rw c.from-in-loop-range.ensures at c.nearer-nearest.ensures)
