@@ -1,13 +1,12 @@
 // The plan of a job's bytes, as it is printed.
 ghost use Rattle.std.specs.Prelude.{◌+◌, ◌≡◌, ◌≤◌, ◌<◌, IfOk};
 
-use anyhow::{Context, Result, anyhow};
+use crate::failure::Failure;
 use job::{count_job, write_job_area};
 use job_report::{Block, area_block, area_line, head_lines};
 use planner_areas::plan_at;
 use planner_pages::page_spot;
 use planner_rules::{Plan, Planning, RUN_NUMBERS, Spot, Writing};
-use std::alloc::Global;
 use std::io::Write;
 
 // "Its run lists hold 5,000 entries an axis".
@@ -16,19 +15,22 @@ const RUNS: usize = 5000;
 const NUMBERS: usize = RUN_NUMBERS * RUNS;
 
 // Writes to standard output.
-fn write<W: Write>(out: &mut W, bytes: &[u8]) -> Result<()> {
-    out.write_all(bytes).context("standard output could not be written: the plan is cut short")
+fn write<W: Write>(out: &mut W, bytes: &[u8]) -> Result<(), Failure> {
+    match out.write_all(bytes) {
+        Ok(()) => Ok(()),
+        Err(_) => Err(Failure::Output),
+    }
 }
 
 // Writes the first lines, or that of a refusal.
-fn print_head<W: Write>(out: &mut W, planning: Planning) -> Result<()> {
+fn print_head<W: Write>(out: &mut W, planning: Planning) -> Result<(), Failure> {
     let mut head = [0; 256];
     let end = head_lines(planning, &mut head);
     write(out, &head[..end])
 }
 
 // Writes the line of the area with a number, from 1, if it is a later one.
-fn print_area<W: Write>(out: &mut W, number: u64, permille: u16) -> Result<()> {
+fn print_area<W: Write>(out: &mut W, number: u64, permille: u16) -> Result<(), Failure> {
     if number < 2 {
         return Ok(());
     }
@@ -37,32 +39,27 @@ fn print_area<W: Write>(out: &mut W, number: u64, permille: u16) -> Result<()> {
     write(out, &line[..end])
 }
 
-// What is said where a call refuses a plan that was counted, which none does: each area of it is taken, and each block.
-fn refused() -> anyhow::Error {
-    anyhow!("the plan that was counted is refused")
-}
-
 // A job that was counted, and the lists that the runs of each of its areas are written to in turn.
 #[derive(Drop)]
 struct Counted<'a> {
     job: &'a [u8],
     plan: Plan,
-    row_runs: Vec<u64>,
-    column_runs: Vec<u64>,
+    row_runs: [u64; NUMBERS],
+    column_runs: [u64; NUMBERS],
 }
 
 impl Counted<'_> {
-    fn spot(&self, number: u64) -> Result<Spot>
+    fn spot(&self, number: u64) -> Result<Spot, Failure>
         ensures { IfOk result (λ spot. spot.area < 8) }
     {
         match page_spot(self.plan, number) {
             Some(spot) => Ok(spot),
-            None => Err(refused()),
+            None => Err(Failure::Refused),
         }
     }
 
     // Writes the line of an area, by its number from 0, and its runs to the lists.
-    fn begin_area<W: Write>(&mut self, out: &mut W, at: usize) -> Result<()>
+    fn begin_area<W: Write>(&mut self, out: &mut W, at: usize) -> Result<(), Failure>
         requires { at < 8 }
         ensures { self.new.plan ≡ self.old.plan }
     {
@@ -77,12 +74,12 @@ impl Counted<'_> {
             &mut self.column_runs,
         ) {
             Writing::Value(_) => Ok(()),
-            Writing::Refused(_) => Err(refused()),
+            Writing::Refused(_) => Err(Failure::Refused),
         }
     }
 
     // Writes a block of page lines from a number on, and answers how many.
-    fn print_block<W: Write>(&self, out: &mut W, from: u64) -> Result<u64>
+    fn print_block<W: Write>(&self, out: &mut W, from: u64) -> Result<u64, Failure>
         requires { from ≤ self.now.plan.pages }
         ensures some { IfOk result (λ pages. 1 ≤ pages) }
         ensures to_count { IfOk result (λ pages. from + pages ≤ self.now.plan.pages + 1) }
@@ -100,12 +97,12 @@ impl Counted<'_> {
                 write(out, &lines[..bytes])?;
                 Ok(pages)
             }
-            Err(_) => Err(refused()),
+            Err(_) => Err(Failure::Refused),
         }
     }
 
     // Writes the lines of all areas and pages, a block at a time; where a block is an area's first, its line before it.
-    fn print_pages<W: Write>(&mut self, out: &mut W) -> Result<()> {
+    fn print_pages<W: Write>(&mut self, out: &mut W) -> Result<(), Failure> {
         let pages = self.plan.pages;
         let mut done = 0;
         // No `for`: a block has as many pages as fit.
@@ -121,7 +118,7 @@ impl Counted<'_> {
 }
 
 // Writes what the job's bytes come to.
-pub(crate) fn print_plan<W: Write>(alloc: Global, job: &[u8], out: &mut W) -> Result<()> {
+pub(crate) fn print_plan<W: Write>(job: &[u8], out: &mut W) -> Result<(), Failure> {
     let planning = count_job(job);
     print_head(out, planning)?;
     match planning {
@@ -129,8 +126,8 @@ pub(crate) fn print_plan<W: Write>(alloc: Global, job: &[u8], out: &mut W) -> Re
             let mut counted = Counted {
                 job,
                 plan,
-                row_runs: vec![in alloc; 0; NUMBERS]?,
-                column_runs: vec![in alloc; 0; NUMBERS]?,
+                row_runs: [0; NUMBERS],
+                column_runs: [0; NUMBERS],
             };
             counted.print_pages(out)
         }
