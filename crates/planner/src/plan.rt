@@ -95,7 +95,12 @@ fn plan_of(shared: &Shared, counted: CountedAreas) -> Plan
 impl SettledSheet<'_> {
     // Counts an area that stands alone and, where its runs have room and its pages are within the limit, writes it.
     #[inline(always)]
-    fn plan_one(&self, range: PrintRange, row_runs: &mut [u64], column_runs: &mut [u64]) -> Result<Plan, Refusal>
+    fn plan_one(
+        &self,
+        range: PrintRange,
+        row_runs: &mut [u64],
+        column_runs: &mut [u64],
+    ) -> Result<Plan, Refusal>
         requires fine_area { step.FineArea range }
         ensures { let shared = self.now.shared.now in
             let sheet = sheet_by shared self.now.lists.now in
@@ -123,7 +128,12 @@ impl SettledSheet<'_> {
 
     // The same of several areas, all counted before one is written.
     #[inline(never)]
-    fn plan_several(&self, areas: Areas, row_runs: &mut [u64], column_runs: &mut [u64]) -> Result<Plan, Refusal>
+    fn plan_several(
+        &self,
+        areas: Areas,
+        row_runs: &mut [u64],
+        column_runs: &mut [u64],
+    ) -> Result<Plan, Refusal>
         requires fine_areas { step.FineAreas areas }
         ensures { let shared = self.now.shared.now in
             let sheet = sheet_by shared self.now.lists.now in
@@ -146,7 +156,12 @@ impl SettledSheet<'_> {
 
     // The same of the areas of a plan.
     #[inline(always)]
-    fn plan_areas(&self, areas: Areas, row_runs: &mut [u64], column_runs: &mut [u64]) -> Result<Plan, Refusal>
+    fn plan_areas(
+        &self,
+        areas: Areas,
+        row_runs: &mut [u64],
+        column_runs: &mut [u64],
+    ) -> Result<Plan, Refusal>
         requires fine_areas { step.FineAreas areas }
         ensures { let shared = self.now.shared.now in
             let sheet = sheet_by shared self.now.lists.now in

@@ -1,5 +1,5 @@
 -- Each question in turn.
-use Rattle.std.proofs.Common.{◌≡◌, ℕ, Bool, true, false, ◌&&◌, leb, List, Result, Ok, Err, refl, ◌∙◌, arith, rules}
+use Rattle.std.proofs.Common.{◌≡◌, ℕ, Bool, true, false, ◌&&◌, leb, List, Err, refl, ◌∙◌, arith, rules}
 use Rattle.units.specs.declared.refusal.Refusal.{Refusal}
 use Rattle.units.specs.Refusals.{number_of}
 use Rattle.planner_rules.specs.declared.partition.AxisSetup.{AxisSetup}

@@ -1,5 +1,5 @@
 -- Each question in turn.
-use Rattle.std.proofs.Common.{◌≡◌, Bool, true, ◌&&◌, ℕ, Result, Ok, Err, ◌∙◌, arith, rules}
+use Rattle.std.proofs.Common.{◌≡◌, Bool, true, ◌&&◌, Err, ◌∙◌, arith, rules}
 use Rattle.units.specs.declared.refusal.Refusal.{Refusal}
 use Rattle.units.specs.Refusals.{number_of}
 use Rattle.planner_rules.specs.declared.titles.Axis.TheVariants.{Rows, Columns}

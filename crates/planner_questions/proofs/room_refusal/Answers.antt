@@ -1,5 +1,5 @@
 -- Each question in turn.
-use Rattle.std.proofs.Common.{◌≡◌, ◌&&◌, leb, Result, Ok, Err, ◌∙◌, arith, rules}
+use Rattle.std.proofs.Common.{◌≡◌, ◌&&◌, leb, Err, arith, rules}
 use Rattle.planner_rules.specs.Plan.{room_no}
 use Rattle.planner_rules.proofs.QuestionLaws.{said_no, said_yes}
 use Rattle.planner_questions.proofs.room_refusal.Goals as goal

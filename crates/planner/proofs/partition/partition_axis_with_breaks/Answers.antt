@@ -1,5 +1,5 @@
 -- A no refuses, and else the body is cut.
-use Rattle.std.proofs.Common.{ℕ, ◌≤◌, ◌<◌, ap, ◌∙◌, arith}
+use Rattle.std.proofs.Common.{ℕ, ◌≤◌, ap, ◌∙◌, arith}
 use Rattle.std.proofs.lemmas.Result.{err_from_is_err_and}
 use Rattle.planner_rules.specs.declared.titles.Axis.{Axis}
 use Rattle.planner_rules.specs.declared.titles.Axis.TheVariants.{Rows, Columns}
