@@ -112,7 +112,7 @@ impl TitleCase {
         writeln!(
             out,
             "{}",
-            Answer(answer.map_err(|refusal| refusal.number()))
+            Answer(answer)
         )
     }
 }
@@ -148,7 +148,7 @@ impl RunsCase {
         let lists = self.lists.lend();
         let tally = partition_axis_with_breaks(self.axis, self.setup, lists, &mut self.runs);
         let runs = Numbers(&self.runs);
-        let answer = tally.map(RunCount).map_err(|refusal| refusal.number());
+        let answer = tally.map(RunCount);
         writeln!(out, "{}{runs}", Answer(answer))
     }
 }

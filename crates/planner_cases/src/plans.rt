@@ -19,7 +19,7 @@ use geometry::Margins;
 use job_records::float;
 use planner::plan_pages;
 use planner_rules::{
-    Areas, PageOrder, Plan, Planning, PrintRange, Request, Settings, SheetLists, Title,
+    Areas, PageOrder, Plan, PrintRange, Request, Settings, SheetLists, Title,
 };
 use std::alloc::{AllocError, Global};
 use std::io::{self, Write};
@@ -262,11 +262,7 @@ impl PlanCase {
             rows: self.rows.lend(),
             columns: self.columns.lend(),
         };
-        let planning = plan_pages(&request, &lists, &mut self.row_runs, &mut self.column_runs);
-        match planning {
-            Planning::Value(plan) => Ok(plan),
-            Planning::Refused(number) => Err(number),
-        }
+        plan_pages(&request, &lists, &mut self.row_runs, &mut self.column_runs)
     }
 
     // Plans, and answers what the lent lists hold then, and pages.

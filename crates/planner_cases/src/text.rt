@@ -8,7 +8,7 @@ use std::fmt;
 
 // An answer, or `no` and the number of the refusal.
 #[derive(Drop)]
-pub(crate) struct Answer<T>(pub(crate) Result<T, u8>);
+pub(crate) struct Answer<T>(pub(crate) Result<T, Refusal>);
 
 impl<T: fmt::Display> fmt::Display for Answer<T> {
     fn fmt<W: fmt::Write>(&self, f: &mut fmt::Formatter<W>) -> fmt::Result {
@@ -150,5 +150,5 @@ pub(crate) fn numbered_page(
     column_runs: &[u64],
 ) -> Answer<PageText> {
     let page = page_numbered(*plan, number, row_runs, column_runs);
-    Answer(page.map(PageText).map_err(|refusal| refusal.number()))
+    Answer(page.map(PageText))
 }

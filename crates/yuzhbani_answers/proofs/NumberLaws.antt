@@ -99,15 +99,6 @@ when_set n a b h = rw (lt-ltb 0 n h)
 pub when_not : {A : Type 0} (n : ℕ) (a b : A) → n ≤ 0 → b ≡ cond (is_set n) a b
 when_not n a b h = rw (le-ltb 0 n h)
 
--- an answer above 0, and 0
-pub told_refused : (n : ℕ) (ns : List ℕ) → 0 < n → refused n ≡ told n ns
-told_refused zero ns h = absurd (omega arith)
-told_refused (suc n) ns h = refl
-
-pub told_plan : (n : ℕ) (ns : List ℕ) (p : Plan) → n ≤ 0 → p ≡ plan_from ns → given p ≡ told n ns
-told_plan zero ns p h e = ap (λ (q : Plan). given q) e
-told_plan (suc n) ns p h e = absurd (omega arith)
-
 -- the two answers of a page call
 pub page_put : (a : Result Page Refusal) (p : Page) (old ns : List ℕ) → a ≡ Ok p → ns ≡ page_numbers p → PageHanded (outcome a) 0 old ns
 page_put a p old ns e i = rw e (record { answer = refl; numbers_are = i })
