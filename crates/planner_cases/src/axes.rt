@@ -109,11 +109,7 @@ impl TitleCase {
         };
         let widened = widen_title(self.axis, self.title, merges);
         let answer = widened.map(WidenedTitle);
-        writeln!(
-            out,
-            "{}",
-            Answer(answer)
-        )
+        writeln!(out, "{}", Answer(answer))
     }
 }
 

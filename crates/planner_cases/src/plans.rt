@@ -18,11 +18,10 @@ use crate::text::{Answer, Numbers, PlanText, numbered_page};
 use geometry::Margins;
 use job_records::float;
 use planner::plan_pages;
-use planner_rules::{
-    Areas, PageOrder, Plan, PrintRange, Request, Settings, SheetLists, Title,
-};
+use planner_rules::{Areas, PageOrder, Plan, PrintRange, Request, Settings, SheetLists, Title};
 use std::alloc::{AllocError, Global};
 use std::io::{self, Write};
+use units::Refusal;
 
 // The most pages of which each is asked for.
 const FEW: u64 = 12;
@@ -251,7 +250,7 @@ impl PlanCase {
     }
 
     // Plans, which writes the runs to the lent lists.
-    fn plan(&mut self) -> Result<Plan, u8> {
+    fn plan(&mut self) -> Result<Plan, Refusal> {
         let request = Request {
             settings: self.settings,
             areas: areas_of(&self.ranges),

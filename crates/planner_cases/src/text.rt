@@ -5,6 +5,7 @@ use planner_areas::{at_most_eight, plan_at};
 use planner_pages::page_numbered;
 use planner_rules::{AreaPlan, Notes, Page, PageOrder, PageRun, Plan, Tally, Title, Widened};
 use std::fmt;
+use units::Refusal;
 
 // An answer, or `no` and the number of the refusal.
 #[derive(Drop)]
@@ -14,7 +15,7 @@ impl<T: fmt::Display> fmt::Display for Answer<T> {
     fn fmt<W: fmt::Write>(&self, f: &mut fmt::Formatter<W>) -> fmt::Result {
         match &self.0 {
             Ok(value) => write!(f, "{value}"),
-            Err(number) => write!(f, "no {number}"),
+            Err(refusal) => write!(f, "no {}", refusal.number()),
         }
     }
 }

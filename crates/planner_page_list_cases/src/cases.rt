@@ -2,8 +2,8 @@
 use crate::listed::Planned;
 use planner::plan_pages;
 use planner_rules::{
-    Areas, AxisLists, MergeList, PageOrder, Plan, PrintRange, RUN_NUMBERS, Request,
-    Settings, SheetLists, SlotList, Title,
+    Areas, AxisLists, MergeList, PageOrder, Plan, PrintRange, RUN_NUMBERS, Request, Settings,
+    SheetLists, SlotList, Title,
 };
 use std::alloc::Global;
 use std::io::{self, Write};
