@@ -52,6 +52,7 @@ fn resumed_fill(slots: Measured, capacity: u64, last: u32) -> usize
     ensures upper_bound { result ≤ length slots.entry.sizes.now }
 {
     let mut sum = slots.sizes[0];
+    // By number, which is what is answered: the two lists zipped, numbered and without their first would say no more.
     for n in 1..slots.sizes.len() {
         let size = slots.sizes[n];
         let next = sum + size;
@@ -211,6 +212,7 @@ impl Cutter<'_> {
         let mut runs = 0;
         let mut grown = 0;
         let mut overflows = 0;
+        // What is left says how far it is: an iterator over runs would hold this rest and that it shrinks in a contract of its own, for three loops.
         while rest.sizes.len() > 0 {
             let end = self.run_end(rest);
             runs += 1;
@@ -238,6 +240,7 @@ impl Cutter<'_> {
         let mut rest = slots;
         let mut manual = mark;
         let mut at = 0;
+        // What is left says how far it is, as where runs are counted.
         while rest.sizes.len() > 0 {
             let end = self.run_end(rest);
             let n = end.slots;
