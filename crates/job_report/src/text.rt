@@ -16,12 +16,9 @@ fn text(out: &mut [u8], at: usize, bytes: &[u8]) -> usize
     requires { at + length bytes.now ≤ length out.old }
     ensures { section.PutAt bytes.now at result out.old out.new }
 {
-    let mut i = 0;
-    while i < bytes.len() {
-        out[at + i] = bytes[i];
-        i += 1;
-    }
-    at + i
+    let end = at + bytes.len();
+    out[at..end].copy_from_slice(bytes);
+    end
 }
 
 // A number after a space.
@@ -43,10 +40,8 @@ fn numbers(out: &mut [u8], at: usize, list: &[u64]) -> usize
     ensures upper_bound { result ≤ at + 21 * length list.now }
 {
     let mut next = at;
-    let mut i = 0;
-    while i < list.len() {
-        next = number(out, next, list[i]);
-        i += 1;
+    for n in list {
+        next = number(out, next, *n);
     }
     next
 }
