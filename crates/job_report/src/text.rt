@@ -1,4 +1,5 @@
-// Text in ASCII. Each function puts its text from the place `at` on, and returns the place after it.
+// Text in ASCII. Each function puts its text from the place `at` on, and returns the place after it. No `Display`: it writes to a lent array, and
+// each byte there is proved.
 ghost use Rattle.std.specs.Prelude.{[], ◌∷◌, ◌+◌, ◌*◌, ◌≤◌, ◌<◌, length};
 ghost use Rattle.job_report.specs.Lines as section;
 

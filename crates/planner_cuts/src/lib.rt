@@ -99,7 +99,7 @@ pub fn title_holds(title: Title, b: u32) -> bool
 pub fn mark_of(cut: usize) -> u64
     ensures { result ≡ min cut 1 }
 {
-    if cut > 0 { 1 } else { 0 }
+    cut.min(1) as u64
 }
 
 // The final cut of an axis, of what was counted and so many overflowing runs: an axis without runs gets one.
