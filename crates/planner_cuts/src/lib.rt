@@ -31,9 +31,9 @@ fn slots_through(indexes: &[u32], last: u32) -> usize
     ensures value { result ≡ through last indexes.now }
     ensures upper_bound { result ≤ length indexes.now }
 {
-    for i in (0..indexes.len()).rev() {
-        if indexes[i] <= last {
-            return i + 1;
+    for (n, index) in indexes.iter().enumerate().rev() {
+        if *index <= last {
+            return n + 1;
         }
     }
     0
