@@ -45,8 +45,8 @@ fn strictly_rising(indexes: &[u32]) -> bool
     ensures { result ≡ rising indexes.now }
 {
     let mut rises = true;
-    for i in (1..indexes.len()).rev() {
-        rises = (indexes[i - 1] < indexes[i]) & rises;
+    for pair in indexes.windows(2) {
+        rises = (pair[0] < pair[1]) & rises;
     }
     rises
 }
