@@ -88,6 +88,7 @@ const DEFAULT_CODE: u16 = 1;
 fn resolved(code: u16) -> Paper
     ensures { given (Section.paper_found result) ≡ Section.upright (Section.resolved code Section.sheets) }
 {
+    // A loop that returns what it finds: tried with `find`, whose contract left the sheet found unproved.
     for (listed, width, height) in SHEETS {
         if listed == code {
             return upright(code, width, height, 0);

@@ -7,7 +7,6 @@ use Rattle.units.specs.Outcome.{Outcome, given, refused}
 use Rattle.planner_rules.specs.declared.pages.Plan.{Plan}
 use Rattle.planner_rules.specs.declared.planning.Areas.{Areas}
 use Rattle.planner_rules.specs.declared.planning.Settings.{Settings}
-use Rattle.planner_rules.specs.declared.planning.Planning.TheVariants.{Refused}
 use Rattle.planner_rules.specs.Plan.{Sheet, Layout, sheet_of}
 use Rattle.planner_rules.proofs.PlanLaws.{refuses_plan}
 use Rattle.job_questions.specs.declared.Items.{Items}
@@ -30,7 +29,7 @@ no_plan n plan e = let z : ◌≡◌ {A = ℕ} 0 1 = cc in absurd (omega arith)
 
 -- a refusal: nothing is found in it, and nothing was written
 pub refused_plan : (o : Outcome Layout) (s : Sheet) (areas : Areas) (n : ℕ) (rows columns : List ℕ) → o ≡ refused n
-    → PlanTold o s areas (Refused n) rows columns rows columns
+    → PlanTold o s areas (refused n) rows columns rows columns
 refused_plan o s areas n rows columns e = (
   refuses_plan o n rows columns e,
   (
@@ -42,11 +41,11 @@ refused_plan o s areas n rows columns e = (
   ),
 )
 
-pub refused_told : (w : Wanted) {v : Outcome Items} (n : ℕ) → v ≡ refused n → (s : Sheet) (areas : Areas) (rows columns : List ℕ)
-    → Told w v s areas (refused_to w n) rows columns rows columns
-refused_told ItsPlan n e s areas rows columns = rw e (refused_plan (refused n) s areas n rows columns refl)
-refused_told Count n e s areas rows columns = rw e
-refused_told (Area k p) n e s areas rows columns = rw e (record { answer = refl; rows_are = refl; columns_are = refl })
+pub refused_told : (w : Wanted) {v : Outcome Items} (x : Refusal) → v ≡ refused (number_of x) → (s : Sheet) (areas : Areas) (rows columns : List ℕ)
+    → Told w v s areas (refused_to w x) rows columns rows columns
+refused_told ItsPlan x e s areas rows columns = rw e (refused_plan (refused (number_of x)) s areas (number_of x) rows columns refl)
+refused_told Count x e s areas rows columns = rw e
+refused_told (Area k p) x e s areas rows columns = rw e (record { answer = refl; rows_are = refl; columns_are = refl })
 
 -- of the same job
 pub same_told : (w : Wanted) {v u : Outcome Items} {s t : Sheet} {a b : Areas} → v ≡ u → s ≡ t → a ≡ b → (r : Answer) (rows₀ columns₀ rows columns : List ℕ)
@@ -70,7 +69,7 @@ lists_told k j l e f r rows₀ columns₀ rows columns t items = rw (k, ← e, �
 -- ---- what was read
 
 -- a reading that is refused, and one that is answered
-pub read_no : (w : Wanted) {got : Result Job Refusal} {x : Refusal} → got ≡ Err x → (l : Lists) {r : Answer} → r ≡ refused_to w (number_of x) → (rows columns : List ℕ)
+pub read_no : (w : Wanted) {got : Result Job Refusal} {x : Refusal} → got ≡ Err x → (l : Lists) {r : Answer} → r ≡ refused_to w x → (rows columns : List ℕ)
     → ReadTold w got l r rows columns rows columns
 read_no w {x = x} k l e rows columns = record {
   no = λ m i. let same : x ≡ m = cc in (rw (← same) e, (refl, refl));

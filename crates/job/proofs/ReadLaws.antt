@@ -185,7 +185,7 @@ module _ {s : List ℕ} {before after : Lists} (holds : Holds s before) {got : R
       go (Err n) k =
           let told = t.no n k in
           rw (told.0, told.1.0, told.1.1)
-          (refused_told x (number_of n) (verdict_no s holds (number_of n) (sym (ap outcome k) ∙ w.answer)) (job_sheet s) (job_areas s) rows₀ columns₀)
+          (refused_told x n (verdict_no s holds (number_of n) (sym (ap outcome k) ∙ w.answer)) (job_sheet s) (job_areas s) rows₀ columns₀)
       go (Ok j) k =
           let y = yes_is j k in
           let m = y.0 in

@@ -5,16 +5,15 @@ use Rattle.planner_rules.specs.declared.lists.SheetLists.{SheetLists}
 use Rattle.planner_rules.specs.declared.planning.Areas.{Areas}
 use Rattle.planner_rules.specs.Plan.{Sheet, Layout, AreaLayout, Planned, Counted, AreaWrote, sheet_of, planned, counted, area_written}
 use Rattle.planner_rules.specs.Demand.{CoversPairs, FewestPlan, LargestPlan}
-use Rattle.planner_rules.specs.declared.planning.Planning.{Planning}
-use Rattle.planner_rules.specs.declared.planning.Planning.TheVariants.{Refused}
-use Rattle.planner_rules.specs.declared.planning.Writing.{Writing}
-use Rattle.planner_rules.specs.declared.planning.Writing.TheVariants as writing
+use Rattle.planner_rules.specs.declared.pages.Plan as pages
+use Rattle.planner_rules.specs.declared.planning.RunCounts.{RunCounts}
 use Rattle.job_records.specs.Records.{RW, CL, MR, BR, BC, records, values}
 use Rattle.job_questions.specs.Verdict.{verdict, question1, items_of}
 use Rattle.job_reader.specs.Reading.{Lists, lists, even_lists, room_in, fit_in}
 use Rattle.job_reader.specs.declared.lists.Job.{Job}
 use Rattle.units.specs.declared.refusal.Refusal.{Refusal}
-use Rattle.units.specs.Refusals.{number_of}
+use Rattle.units.specs.declared.refusal.Refusal.TheVariants as no
+use Rattle.units.specs.Refusals.{outcome}
 use Rattle.job_settings.specs.Meaning.{settings_for, areas_for}
 use Rattle.job_reader.specs.Settings.{settings_of}
 use Rattle.job_questions.specs.declared.Items.{Items}
@@ -73,22 +72,22 @@ write_job_area s n p rows columns = and_then (verdict s) (λ (items : Items). ar
 -- ---- for the private functions
 
 -- the planning and the writing of an answer; what it does not have is refused
-abbrev pub planning_in : Answer → Planning
+abbrev pub planning_in : Answer → Result pages.Plan Refusal
 planning_in (ToPlan r) = r
-planning_in (ToWrite r) = Refused 10
+planning_in (ToWrite r) = Err no.CoordinateOverflow
 
-abbrev pub writing_in : Answer → Writing
-writing_in (ToPlan r) = writing.Refused 10
+abbrev pub writing_in : Answer → Result RunCounts Refusal
+writing_in (ToPlan r) = Err no.CoordinateOverflow
 writing_in (ToWrite r) = r
 
--- the refusal with a number
-abbrev pub refused_to : Wanted → ℕ → Answer
-refused_to Plan n = ToPlan (Refused n)
-refused_to Count n = ToPlan (Refused n)
-refused_to (Area k p) n = ToWrite (writing.Refused n)
+-- the refusal of what is wanted
+abbrev pub refused_to : Wanted → Refusal → Answer
+refused_to Plan x = ToPlan (Err x)
+refused_to Count x = ToPlan (Err x)
+refused_to (Area k p) x = ToWrite (Err x)
 
 -- the four clauses: the answer r and the run lists, which were rows₀ and columns₀, where the outcome is o
-abbrev pub PlanTold : Outcome Layout → Sheet → Areas → Planning → List ℕ → List ℕ → List ℕ → List ℕ → Type 0
+abbrev pub PlanTold : Outcome Layout → Sheet → Areas → Outcome pages.Plan → List ℕ → List ℕ → List ℕ → List ℕ → Type 0
 PlanTold o s areas r rows₀ columns₀ rows columns =
     Planned o r rows₀ columns₀ rows columns
     × (CoversPairs r s areas rows columns × (FewestPlan r s areas rows columns × LargestPlan r s areas))
@@ -96,10 +95,10 @@ PlanTold o s areas r rows₀ columns₀ rows columns =
 -- the clauses of what is wanted, of a job whose questions come to v
 abbrev pub Told : Wanted → Outcome Items → Sheet → Areas → Answer → List ℕ → List ℕ → List ℕ → List ℕ → Type 0
 Told Plan v s areas r rows₀ columns₀ rows columns =
-    PlanTold (and_then v (λ (items : Items). planned s areas rows₀ columns₀)) s areas (planning_in r) rows₀ columns₀ rows columns
-Told Count v s areas r rows₀ columns₀ rows columns = Counted (and_then v (λ (items : Items). counted s areas)) (planning_in r)
+    PlanTold (and_then v (λ (items : Items). planned s areas rows₀ columns₀)) s areas (outcome (planning_in r)) rows₀ columns₀ rows columns
+Told Count v s areas r rows₀ columns₀ rows columns = Counted (and_then v (λ (items : Items). counted s areas)) (outcome (planning_in r))
 Told (Area n p) v s areas r rows₀ columns₀ rows columns =
-    AreaWrote (and_then v (λ (items : Items). area_written s areas n p rows₀ columns₀)) (writing_in r) rows₀ columns₀ rows columns
+    AreaWrote (and_then v (λ (items : Items). area_written s areas n p rows₀ columns₀)) (outcome (writing_in r)) rows₀ columns₀ rows columns
 
 -- the same of settings and ten lists, whatever the questions come to where a job was read
 abbrev pub ListsTold : Wanted → JobSettings → Lists → Answer → List ℕ → List ℕ → List ℕ → List ℕ → Type 0
@@ -132,7 +131,7 @@ pub record Filled (reading : Result Job Refusal) (l : Lists) : Type 0 where
 
 -- a refusal is handed on, and writes nothing; a job is answered
 pub record ReadTold (w : Wanted) (reading : Result Job Refusal) (l : Lists) (r : Answer) (rows₀ columns₀ rows columns : List ℕ) : Type 0 where
-  pub no : (x : Refusal) → reading ≡ Err x → (r ≡ refused_to w (number_of x)) × ((rows ≡ rows₀) × (columns ≡ columns₀))
+  pub no : (x : Refusal) → reading ≡ Err x → (r ≡ refused_to w x) × ((rows ≡ rows₀) × (columns ≡ columns₀))
   pub yes : (j : Job) → reading ≡ Ok j → ListsTold w j.settings (fronts j.items l) r rows₀ columns₀ rows columns
 
 -- room for all that a job's bytes bring where question 1 lets them pass: one item more of a kind has more bytes than those

@@ -1,6 +1,7 @@
 // The plan of a job's bytes: document 01, sections "Jobs" and "Questions in order", and document 02, T-02.
 ghost use Rattle.std.specs.Prelude.{◌≡◌, ◌≤◌, length};
 ghost use Rattle.units.specs.Outcome.{given};
+ghost use Rattle.units.specs.Refusals.{outcome};
 ghost use Rattle.planner_rules.specs.Plan as call;
 ghost use Rattle.planner_rules.specs.Demand.{CoversPairs, FewestPlan, LargestPlan};
 ghost use Rattle.job_reader.specs.Reading.{lists_in};
@@ -10,7 +11,7 @@ use job_questions::Items;
 use job_reader::{Job, JobLists, read_job};
 use job_settings::{JobSettings, areas_for, settings_for};
 use planner::{count_pages, plan_pages, write_area};
-use planner_rules::{AxisLists, MergeList, Planning, Request, SheetLists, SlotList, Writing};
+use planner_rules::{AxisLists, MergeList, Plan, Request, RunCounts, SheetLists, SlotList};
 use units::Refusal;
 
 // What is asked of a job: its plan, how many pages it has, or the runs of the area with a number, from 1, at a permille.
@@ -24,35 +25,35 @@ pub(crate) enum Wanted {
 // What is answered: the first two are answered with a planning, the third with a writing.
 #[derive(Clone, Copy)]
 pub(crate) enum Answer {
-    ToPlan(Planning),
-    ToWrite(Writing),
+    ToPlan(Result<Plan, Refusal>),
+    ToWrite(Result<RunCounts, Refusal>),
 }
 
-fn planning_in(answer: Answer) -> Planning
+fn planning_in(answer: Answer) -> Result<Plan, Refusal>
     ensures { result ≡ section.planning_in answer }
 {
     match answer {
         Answer::ToPlan(planning) => planning,
-        Answer::ToWrite(_) => Planning::Refused(10),
+        Answer::ToWrite(_) => Err(Refusal::CoordinateOverflow),
     }
 }
 
-fn writing_in(answer: Answer) -> Writing
+fn writing_in(answer: Answer) -> Result<RunCounts, Refusal>
     ensures { result ≡ section.writing_in answer }
 {
     match answer {
-        Answer::ToPlan(_) => Writing::Refused(10),
+        Answer::ToPlan(_) => Err(Refusal::CoordinateOverflow),
         Answer::ToWrite(writing) => writing,
     }
 }
 
-fn refused_to(wanted: Wanted, number: u8) -> Answer
-    ensures { result ≡ section.refused_to wanted number }
+fn refused_to(wanted: Wanted, refusal: Refusal) -> Answer
+    ensures { result ≡ section.refused_to wanted refusal }
 {
     match wanted {
-        Wanted::Plan => Answer::ToPlan(Planning::Refused(number)),
-        Wanted::Count => Answer::ToPlan(Planning::Refused(number)),
-        Wanted::Area(_, _) => Answer::ToWrite(Writing::Refused(number)),
+        Wanted::Plan => Answer::ToPlan(Err(refusal)),
+        Wanted::Count => Answer::ToPlan(Err(refusal)),
+        Wanted::Area(_, _) => Answer::ToWrite(Err(refusal)),
     }
 }
 
@@ -131,7 +132,7 @@ fn answer_read(
         result row_runs.old column_runs.old row_runs.new column_runs.new }
 {
     match reading {
-        Err(refusal) => refused_to(wanted, refusal.number()),
+        Err(refusal) => refused_to(wanted, refusal),
         Ok(job) => {
             let lists = fronts(job.items, lent);
             answer_lists(wanted, job.settings, &lists, row_runs, column_runs)
@@ -215,22 +216,26 @@ fn answer_job(wanted: Wanted, bytes: &[u8], row_runs: &mut [u64], column_runs: &
 
 // Plans the pages of a job, area by area: each one's scale and its runs of rows and columns, which go to the fronts of two lent lists, area
 // after area, and the notes.
-pub fn plan_job(bytes: &[u8], row_runs: &mut [u64], column_runs: &mut [u64]) -> Planning
-    ensures planned { call.Planned (section.plan_job bytes.now row_runs.old column_runs.old) result
+pub fn plan_job(
+    bytes: &[u8],
+    row_runs: &mut [u64],
+    column_runs: &mut [u64],
+) -> Result<Plan, Refusal>
+    ensures planned { call.Planned (section.plan_job bytes.now row_runs.old column_runs.old) (outcome result)
         row_runs.old column_runs.old row_runs.new column_runs.new }
     ensures covered { let s = bytes.now in
-        CoversPairs result (section.job_sheet s) (section.job_areas s) row_runs.new column_runs.new }
+        CoversPairs (outcome result) (section.job_sheet s) (section.job_areas s) row_runs.new column_runs.new }
     ensures fewest { let s = bytes.now in
-        FewestPlan result (section.job_sheet s) (section.job_areas s) row_runs.new column_runs.new }
-    ensures largest { let s = bytes.now in LargestPlan result (section.job_sheet s) (section.job_areas s) }
+        FewestPlan (outcome result) (section.job_sheet s) (section.job_areas s) row_runs.new column_runs.new }
+    ensures largest { let s = bytes.now in LargestPlan (outcome result) (section.job_sheet s) (section.job_areas s) }
 {
     let answer = answer_job(Wanted::Plan, bytes, row_runs, column_runs);
     planning_in(answer)
 }
 
 // The plan that `plan_job` answers where its lists are long enough, of a job whose runs are not written.
-pub fn count_job(bytes: &[u8]) -> Planning
-    ensures { call.Counted (section.count_job bytes.now) result }
+pub fn count_job(bytes: &[u8]) -> Result<Plan, Refusal>
+    ensures { call.Counted (section.count_job bytes.now) (outcome result) }
 {
     let mut rows = [0u64; 0];
     let mut columns = [0u64; 0];
@@ -245,8 +250,8 @@ pub fn write_job_area(
     permille: u16,
     row_runs: &mut [u64],
     column_runs: &mut [u64],
-) -> Writing
-    ensures { call.AreaWrote (section.write_job_area bytes.now number permille row_runs.old column_runs.old) result
+) -> Result<RunCounts, Refusal>
+    ensures { call.AreaWrote (section.write_job_area bytes.now number permille row_runs.old column_runs.old) (outcome result)
         row_runs.old column_runs.old row_runs.new column_runs.new }
 {
     let answer = answer_job(Wanted::Area(number, permille), bytes, row_runs, column_runs);

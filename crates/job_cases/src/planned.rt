@@ -4,9 +4,10 @@ use job::{count_job, write_job_area};
 use job_report::{area_line, head_lines, page_line};
 use planner_areas::plan_at;
 use planner_pages::{area_page, page_spot};
-use planner_rules::{AreaPlan, Page, Plan, Planning, RUN_NUMBERS, Spot};
+use planner_rules::{AreaPlan, Page, Plan, RUN_NUMBERS, Spot};
 use std::alloc::{AllocError, Global};
 use std::io::{self, Write};
+use units::Refusal;
 
 // The runs that a list has room for, and its numbers.
 const RUNS: usize = 5000;
@@ -17,7 +18,7 @@ const NUMBERS: usize = RUN_NUMBERS * RUNS;
 const LINE: usize = 256;
 
 // The first lines of an answer.
-fn print_head<W: Write>(planning: Planning, out: &mut W) -> io::Result<()> {
+fn print_head<W: Write>(planning: Result<Plan, Refusal>, out: &mut W) -> io::Result<()> {
     let mut line = [0; LINE];
     let end = head_lines(planning, &mut line);
     out.write_all(&line[..end])
@@ -37,13 +38,6 @@ fn print_page<W: Write>(number: u64, page: Page, out: &mut W) -> io::Result<()> 
     let mut line = [0; LINE];
     let end = page_line(number, page, &mut line);
     out.write_all(&line[..end])
-}
-
-fn plan_of(planning: Planning) -> Option<Plan> {
-    match planning {
-        Planning::Value(plan) => Some(plan),
-        Planning::Refused(_) => None,
-    }
 }
 
 // The lists that the runs of each area are written to in turn.
@@ -71,7 +65,8 @@ impl RunLists {
     ) -> io::Result<()> {
         let number = (spot.area as u64).wrapping_add(1);
         print_area(number, area, out)?;
-        write_job_area(
+        // A counted plan is not refused; if it were, its pages would tell.
+        let _ = write_job_area(
             job,
             number,
             area.permille,
@@ -108,7 +103,7 @@ impl RunLists {
     pub(crate) fn print_plan<W: Write>(&mut self, job: &[u8], out: &mut W) -> io::Result<()> {
         let planning = count_job(job);
         print_head(planning, out)?;
-        if let Some(plan) = plan_of(planning) {
+        if let Ok(plan) = planning {
             self.print_pages(job, &plan, out)?;
         }
         writeln!(out)

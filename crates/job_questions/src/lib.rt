@@ -14,6 +14,7 @@ use job_records::{Mark, Range, Record, Slot, read_record};
 use job_settings::areas_for;
 use job_walk::{areas_of, cell_limit_of};
 use planner_areas::cells_hold;
+use std::ops::BitAnd;
 use units::{LARGEST_SIZE, MAX_WORKSHEET_COLUMN, MAX_WORKSHEET_ROW, Refusal};
 
 // The most bytes of a job.
@@ -26,7 +27,7 @@ pub const MOST_AREAS: usize = 8;
 const BEYOND: u64 = 0x1_0000_0000;
 
 // How many records repeat of each kind.
-#[derive(Clone, Copy)]
+#[derive(Clone, Copy, Default)]
 pub struct Items {
     pub areas: usize,
     pub rows: usize,
@@ -160,6 +161,7 @@ fn place(last: u32, next: u64, index: u32) -> u64
     }
 }
 
+// Of each axis the slots are a case of their own, and so are its definitions: one function for both would ask again which axis a record is of.
 fn rows_after(next: u64, what: Asked) -> u64
     ensures { result ≡ rows_after next what }
 {
@@ -178,14 +180,19 @@ fn columns_after(next: u64, what: Asked) -> u64
     }
 }
 
-fn both(a: Fine, b: Fine) -> Fine
-    ensures { result ≡ both_fine a b }
-{
-    Fine {
-        flag: a.flag & b.flag,
-        first: a.first & b.first,
-        grid: a.grid & b.grid,
-        size: a.size & b.size,
+// What is fine of both.
+impl BitAnd for Fine {
+    type Output = Fine;
+
+    ghost bitand_gives = { λ a b r. r ≡ both_fine a b };
+
+    fn bitand(self, other: Fine) -> Fine {
+        Fine {
+            flag: self.flag & other.flag,
+            first: self.first & other.first,
+            grid: self.grid & other.grid,
+            size: self.size & other.size,
+        }
     }
 }
 
@@ -232,30 +239,26 @@ fn advance(t: State, found: Record) -> State
     State {
         last: Some(mark),
         ordered: t.ordered & follows_on(t.last, mark),
-        fine: both(t.fine, fine_of(what)),
+        fine: t.fine & fine_of(what),
         rows: rows_after(t.rows, what),
         columns: columns_after(t.columns, what),
         items: count(t.items, mark),
     }
 }
 
-fn beginning() -> State
-    ensures { result ≡ start }
-{
-    State {
-        last: None,
-        ordered: true,
-        fine: FINE,
-        rows: 0,
-        columns: 0,
-        items: Items {
-            areas: 0,
+// Before the first record.
+impl Default for State {
+    ghost is_default = { λ t. t ≡ start };
+
+    fn default() -> State {
+        State {
+            last: None,
+            ordered: true,
+            fine: FINE,
             rows: 0,
             columns: 0,
-            merges: 0,
-            row_breaks: 0,
-            column_breaks: 0,
-        },
+            items: Items::default(),
+        }
     }
 }
 
@@ -314,7 +317,7 @@ fn survey_job(bytes: &[u8]) -> Result<State, Refusal>
         return Err(Refusal::TooManyBytes);
     }
     let mut s = bytes;
-    let mut t = beginning();
+    let mut t = State::default();
     while let Some(head) = read_record(s) {
         if head.found.mark() == Mark::End {
             if s.len() != 2 {

@@ -1,7 +1,7 @@
 -- How the records of a job are walked once question 4 is answered yes: marks that never fall, so that the items of a kind stand together.
 -- For the private functions of `src/settings.rt` and `src/lists.rt`. Assumes nothing.
 use Rattle.std.specs.Prelude.{◌≡◌, Bool, cond, ◌||◌, List, ℕ, ◌≤◌, eqb, length, drop, Option, Some, None}
-use Rattle.job_records.specs.Records.{PC, SC, FW, FH, FT, OD, RW, CL, BR, BC, rank, field, marked, records}
+use Rattle.job_records.specs.Records.{PC, SC, FW, FH, FT, OD, TR, TC, RW, CL, BR, BC, rank, field, marked, records}
 use Rattle.job_records.specs.declared.records.Range.{Range}
 use Rattle.job_records.specs.declared.records.Record.{Record}
 use Rattle.job_records.specs.declared.records.Head.{Head}
@@ -30,6 +30,10 @@ is_number k = eqb k PC || (eqb k SC || (eqb k FW || eqb k FH))
 -- a kind of record that has a flag
 abbrev pub is_flag : ℕ → Bool
 is_flag k = eqb k FT || eqb k OD
+
+-- a kind of record that has a title
+abbrev pub is_title : ℕ → Bool
+is_title k = eqb k TR || eqb k TC
 
 -- the marks of slots, and of breaks
 abbrev pub is_slot : ℕ → Bool

@@ -116,6 +116,7 @@ fn write_slots(bytes: &[u8], wanted: Mark, indexes: &mut [u32], sizes: &mut [u64
     ensures indexes_after { indexes.new ≡ written (values (place wanted) 0 (records bytes.now)) indexes.old }
     ensures sizes_after { sizes.new ≡ written (values (place wanted) 1 (records bytes.now)) sizes.old }
 {
+    // The place goes by hand: it is one in each list, beside a walk that ends with the mark and not with a list.
     let mut s = bytes;
     let mut k: usize = 0;
     while let Some(head) = next_of(s, wanted) {
@@ -147,6 +148,7 @@ fn write_merges(
     ensures last_rows_after { last_rows.new ≡ written (values MR 2 (records bytes.now)) last_rows.old }
     ensures last_columns_after { last_columns.new ≡ written (values MR 3 (records bytes.now)) last_columns.old }
 {
+    // The place goes by hand, as for slots.
     let mut s = bytes;
     let mut k: usize = 0;
     while let Some(head) = next_of(s, Mark::Merge) {
@@ -169,6 +171,7 @@ fn write_breaks(bytes: &[u8], wanted: Mark, breaks: &mut [u32]) -> usize
     ensures past { Past (place wanted + 1) bytes.now result }
     ensures breaks_after { breaks.new ≡ written (values (place wanted) 0 (records bytes.now)) breaks.old }
 {
+    // The place goes by hand, as for slots.
     let mut s = bytes;
     let mut k: usize = 0;
     while let Some(head) = next_of(s, wanted) {

@@ -1,10 +1,10 @@
 // The settings of a job, each with whether its record is there: document 01, section "Jobs".
 ghost use Rattle.std.specs.Prelude.{◌≡◌, true, length};
-ghost use Rattle.job_records.specs.Records.{records, marked, MG, LP, AR, TR, TC};
+ghost use Rattle.job_records.specs.Records.{records, marked, MG, LP, AR};
 ghost use Rattle.job_records.specs.Marks.{place};
 ghost use Rattle.job_walk.specs.Walk.{Sorted};
 ghost use Rattle.job_reader.specs.Settings as section;
-ghost use Rattle.job_reader.specs.Walk.{is_number, is_flag};
+ghost use Rattle.job_reader.specs.Walk.{is_number, is_flag, is_title};
 
 use job_records::{MarginBits, Mark, Record};
 use job_settings::JobSettings;
@@ -44,6 +44,7 @@ fn is_there(bytes: &[u8], wanted: Mark) -> bool
     find_record(bytes, wanted, 0).is_some()
 }
 
+// What a record of one kind holds has a type of its own: a reader for any kind would take the kind as a closure, and say in it what these say.
 fn margins_of(bytes: &[u8]) -> Option<MarginBits>
     requires { Sorted 0 (records bytes.now) }
     ensures { result ≡ section.margins_from (marked MG (records bytes.now)) }
@@ -64,30 +65,19 @@ fn limit_of(bytes: &[u8]) -> Option<u64>
     }
 }
 
-fn row_title_of(bytes: &[u8]) -> Title
-    requires { Sorted 0 (records bytes.now) }
-    ensures { result ≡ section.title_from (marked TR (records bytes.now)) }
+fn title_of(bytes: &[u8], wanted: Mark) -> Title
+    requires sorted { Sorted 0 (records bytes.now) }
+    requires wanted_value { is_title (place wanted) ≡ true }
+    ensures { result ≡ section.title_from (marked (place wanted) (records bytes.now)) }
 {
-    let Some(found) = find_record(bytes, Mark::RowTitle, 0) else {
+    let Some(found) = find_record(bytes, wanted, 0) else {
         return Title::Absent;
     };
-    let Record::TitleRows(first, last) = found else {
-        unreachable!()
-    };
-    Title::Pair(first, last)
-}
-
-fn column_title_of(bytes: &[u8]) -> Title
-    requires { Sorted 0 (records bytes.now) }
-    ensures { result ≡ section.title_from (marked TC (records bytes.now)) }
-{
-    let Some(found) = find_record(bytes, Mark::ColumnTitle, 0) else {
-        return Title::Absent;
-    };
-    let Record::TitleColumns(first, last) = found else {
-        unreachable!()
-    };
-    Title::Pair(first as u32, last as u32)
+    match found {
+        Record::TitleRows(first, last) => Title::Pair(first, last),
+        Record::TitleColumns(first, last) => Title::Pair(u32::from(first), u32::from(last)),
+        _ => unreachable!(),
+    }
 }
 
 pub(crate) fn settings_of(bytes: &[u8], areas: usize) -> JobSettings
@@ -108,7 +98,7 @@ pub(crate) fn settings_of(bytes: &[u8], areas: usize) -> JobSettings
         page_limit: limit_of(bytes),
         cell_limit: cell_limit_of(bytes),
         areas: areas_of(bytes, areas),
-        row_title: row_title_of(bytes),
-        column_title: column_title_of(bytes),
+        row_title: title_of(bytes, Mark::RowTitle),
+        column_title: title_of(bytes, Mark::ColumnTitle),
     }
 }

@@ -27,7 +27,7 @@ pub enum Mark {
     End,
 }
 
-// A mark's two bytes, as the number that they spell.
+// A mark's two bytes, as the number that they spell. The format gives these numbers, which do not rise with the marks: no tag of `Mark` is one.
 const PC: u16 = 0x4350;
 
 const LA: u16 = 0x414c;

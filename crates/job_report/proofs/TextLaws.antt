@@ -4,7 +4,7 @@ use mathlib.Core.List.{List, [], ◌∷◌, ◌++◌, append_assoc, append-nil}
 use Prim.Native.Nat.{ℕ, suc, ◌+◌, ◌*◌, ◌≤◌, ◌<◌}
 use native.Mathlib.Numerals.{add-one}
 use native.Mathlib.Omega.{arith}
-use lib.ListN.{length, get_or, take, drop, set, length-set, length-append, take-append-drop}
+use lib.ListN.{length, get_or, take, drop, set, length-append, take-append-drop}
 use lib.Seq.{take-suc, take_all, length-take-le, set_split, take_at, drop_at, drop-drop}
 use Rattle.io.specs.Counts.{IsPrefixLen}
 use Rattle.io.specs.Digits.{last_digits, IsDigitCount}
@@ -46,32 +46,6 @@ pub put_byte : (old : List ℕ) (at b : ℕ) → at < length old → PutAt (b �
 put_byte old at b h =
     let rest : drop 1 (drop at old) ≡ drop (suc at) old = rw (← (add-one at)) (drop-drop 1 at old) in
     record { after = refl; array_is = rw rest (set_split old at b h) }
-
--- ---- a loop over bytes
-
--- i bytes stand from the place `at` on
-pub record Copied (old : List ℕ) (at : ℕ) (bytes new : List ℕ) (i : ℕ) : Type 0 where
-  pub so_far : PutAt (take i bytes) at (at + i) old new
-  pub within : i ≤ length bytes
-  pub same : length new ≡ length old
-
-pub copied_none : (old : List ℕ) (at : ℕ) (bytes : List ℕ) → Copied old at bytes old 0
-copied_none old at bytes = record { so_far = let e : at + 0 ≡ at = omega arith in rw e (put_none at old); within = omega arith; same = refl }
-
-pub copied_more : (old : List ℕ) (at : ℕ) (bytes new : List ℕ) (i : ℕ) → at + length bytes ≤ length old → i < length bytes → Copied old at bytes new i
-    → Copied old at bytes (set new (at + i) (get_or bytes i 0)) (i + 1)
-copied_more old at bytes new i room h w =
-    let s = w.same in
-    let e : at + (i + 1) ≡ at + i + 1 = omega arith in
-    let more : take (i + 1) bytes ≡ take i bytes ++ (get_or bytes i 0 ∷ []) = rw add-one (take-suc bytes i 0 h) in
-    record {
-      so_far = rw (e, more) (and_then_lem (omega arith) w.so_far (put_byte new (at + i) (get_or bytes i 0) (omega arith)));
-      within = omega arith;
-      same = length-set new (at + i) (get_or bytes i 0) ∙ s;
-    }
-
-pub copied_all : (old : List ℕ) (at : ℕ) (bytes new : List ℕ) (i : ℕ) → length bytes ≤ i → Copied old at bytes new i → PutAt bytes at (at + i) old new
-copied_all old at bytes new i h w = rw (take_all i bytes h) at w.so_far
 
 -- ---- a number
 

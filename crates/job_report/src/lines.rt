@@ -1,11 +1,12 @@
 // The lines of a plan: document 01, section "Jobs", and document 02, T-02. Each private function puts its line from the place `at` on, and
 // returns the place after it.
 ghost use Rattle.std.specs.Prelude.{◌≡◌, ◌+◌, ◌≤◌, length};
-ghost use Rattle.planner_rules.specs.Plan.{plan_outcome};
+ghost use Rattle.units.specs.Refusals.{outcome};
 ghost use Rattle.job_report.specs.Lines as section;
 
 use crate::text::line;
-use planner_rules::{Notes, Page, Plan, Planning};
+use planner_rules::{Notes, Page, Plan};
+use units::Refusal;
 
 // The first area's permille; 0 where there is no area.
 fn first_permille(plan: Plan) -> u16
@@ -53,7 +54,7 @@ fn notes_line(out: &mut [u8], at: usize, notes: Notes) -> usize
 
 // The number of a refusal.
 #[tactic(auto, unfolding(crate::specs::Lines::refusal_line))]
-fn refusal_line(out: &mut [u8], at: usize, number: u8) -> usize
+fn refusal_at(out: &mut [u8], at: usize, number: u8) -> usize
     requires { at + 24 ≤ length out.old }
     ensures put_at { section.PutAt (section.refusal_line number) at result out.old out.new }
     ensures upper_bound { result ≤ at + 24 }
@@ -97,17 +98,24 @@ pub(crate) fn page_at(out: &mut [u8], at: usize, number: u64, page: Page) -> usi
 }
 
 // The first lines of what a plan is told by, or the line of a refusal, at the start of `out`; it answers how many bytes.
-pub fn head_lines(planning: Planning, out: &mut [u8; 256]) -> usize
-    ensures { section.LinesPut (section.head_lines (plan_outcome planning)) result out.old out.new }
+pub fn head_lines(planning: Result<Plan, Refusal>, out: &mut [u8; 256]) -> usize
+    ensures { section.LinesPut (section.head_lines (outcome planning)) result out.old out.new }
 {
     match planning {
-        Planning::Value(plan) => {
+        Ok(plan) => {
             let next = plan_line(out, 0, plan);
             let notes = plan.notes;
             notes_line(out, next, notes)
         }
-        Planning::Refused(number) => refusal_line(out, 0, number),
+        Err(refusal) => refusal_at(out, 0, refusal.number()),
     }
+}
+
+// The line of a refusal by its number, be it that of a question or not, at the start of `out`; it answers how many bytes.
+pub fn refusal_line(number: u8, out: &mut [u8; 256]) -> usize
+    ensures { section.LinesPut (section.refusal_line number) result out.old out.new }
+{
+    refusal_at(out, 0, number)
 }
 
 // The line before the pages of a later area, at the start of `out`; it answers how many bytes.

@@ -1,4 +1,5 @@
-// Text in ASCII. Each function puts its text from the place `at` on, and returns the place after it.
+// Text in ASCII. Each function puts its text from the place `at` on, and returns the place after it. No `Display`: it writes to a lent array, and
+// each byte there is proved.
 ghost use Rattle.std.specs.Prelude.{[], ◌∷◌, ◌+◌, ◌*◌, ◌≤◌, ◌<◌, length};
 ghost use Rattle.job_report.specs.Lines as section;
 
@@ -16,12 +17,9 @@ fn text(out: &mut [u8], at: usize, bytes: &[u8]) -> usize
     requires { at + length bytes.now ≤ length out.old }
     ensures { section.PutAt bytes.now at result out.old out.new }
 {
-    let mut i = 0;
-    while i < bytes.len() {
-        out[at + i] = bytes[i];
-        i += 1;
-    }
-    at + i
+    let end = at + bytes.len();
+    out[at..end].copy_from_slice(bytes);
+    end
 }
 
 // A number after a space.
@@ -43,10 +41,8 @@ fn numbers(out: &mut [u8], at: usize, list: &[u64]) -> usize
     ensures upper_bound { result ≤ at + 21 * length list.now }
 {
     let mut next = at;
-    let mut i = 0;
-    while i < list.len() {
-        next = number(out, next, list[i]);
-        i += 1;
+    for n in list {
+        next = number(out, next, *n);
     }
     next
 }

@@ -84,7 +84,7 @@ fn order_for(order: Option<u8>) -> PageOrder
     }
 }
 
-// The settings as the planner takes them.
+// The settings as the planner takes them. No `From`: what is absent gets the format's default here, which is more than a change of type.
 pub fn settings_for(read: JobSettings) -> Settings
     ensures { result ≡ section.settings_for read }
 {
@@ -103,7 +103,7 @@ pub fn settings_for(read: JobSettings) -> Settings
     }
 }
 
-// A range as the planner takes it.
+// A range as the planner takes it. No `From`: neither type is of this crate.
 pub fn range_for(cells: Range) -> PrintRange
     ensures { result ≡ section.range_for cells }
 {
@@ -115,7 +115,7 @@ pub fn range_for(cells: Range) -> PrintRange
     }
 }
 
-// The areas as the planner takes them.
+// The areas as the planner takes them. No `From`, as for a range.
 pub fn areas_for(read: JobAreas) -> Areas
     ensures { result ≡ section.areas_for read }
 {

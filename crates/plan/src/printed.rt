@@ -6,8 +6,9 @@ use job::{count_job, write_job_area};
 use job_report::{Block, area_block, area_line, head_lines};
 use planner_areas::plan_at;
 use planner_pages::page_spot;
-use planner_rules::{Plan, Planning, RUN_NUMBERS, Spot, Writing};
+use planner_rules::{Plan, RUN_NUMBERS, Spot};
 use std::io::Write;
+use units::Refusal;
 
 // "Its run lists hold 5,000 entries an axis".
 const RUNS: usize = 5000;
@@ -23,7 +24,7 @@ fn write<W: Write>(out: &mut W, bytes: &[u8]) -> Result<(), Failure> {
 }
 
 // Writes the first lines, or that of a refusal.
-fn print_head<W: Write>(out: &mut W, planning: Planning) -> Result<(), Failure> {
+fn print_head<W: Write>(out: &mut W, planning: Result<Plan, Refusal>) -> Result<(), Failure> {
     let mut head = [0; 256];
     let end = head_lines(planning, &mut head);
     write(out, &head[..end])
@@ -73,8 +74,8 @@ impl Counted<'_> {
             &mut self.row_runs,
             &mut self.column_runs,
         ) {
-            Writing::Value(_) => Ok(()),
-            Writing::Refused(_) => Err(Failure::Refused),
+            Ok(_) => Ok(()),
+            Err(_) => Err(Failure::Refused),
         }
     }
 
@@ -121,16 +122,14 @@ impl Counted<'_> {
 pub(crate) fn print_plan<W: Write>(job: &[u8], out: &mut W) -> Result<(), Failure> {
     let planning = count_job(job);
     print_head(out, planning)?;
-    match planning {
-        Planning::Value(plan) => {
-            let mut counted = Counted {
-                job,
-                plan,
-                row_runs: [0; NUMBERS],
-                column_runs: [0; NUMBERS],
-            };
-            counted.print_pages(out)
-        }
-        Planning::Refused(_) => Ok(()),
-    }
+    let Ok(plan) = planning else {
+        return Ok(());
+    };
+    let mut counted = Counted {
+        job,
+        plan,
+        row_runs: [0; NUMBERS],
+        column_runs: [0; NUMBERS],
+    };
+    counted.print_pages(out)
 }

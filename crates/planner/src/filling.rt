@@ -43,19 +43,21 @@ fn fill_by_eight(slots: Measured, capacity: u64) -> Filling
     ensures sum_value { result.sum ≡ sum (take result.slots slots.entry.sizes.now) }
     ensures le_slots { (1 ≤ result.slots) × (result.slots ≤ length slots.entry.sizes.now) × (result.sum ≤ 1073741824 * result.slots) }
 {
-    let sizes = slots.sizes;
-    let mut sum = sizes[0];
-    let mut n = 1;
-    // The place is what is answered: `chunks_exact` would need a count beside it.
-    while sizes.len() - n >= 8 {
-        let next = sum + sum_of_eight(&sizes[n..n + 8]);
-        if next > capacity {
-            return Filling { slots: n, sum };
+    let mut filling = Filling {
+        slots: 1,
+        sum: slots.sizes[0],
+    };
+    for eight in slots.sizes[1..].chunks_exact(8) {
+        let sum = filling.sum + sum_of_eight(eight);
+        if sum > capacity {
+            return filling;
         }
-        sum = next;
-        n += 8;
+        filling = Filling {
+            slots: filling.slots + 8,
+            sum,
+        };
     }
-    Filling { slots: n, sum }
+    filling
 }
 
 // What a run takes by filling alone: the first slot, and the next while the sum stays within the capacity.
@@ -65,18 +67,16 @@ pub(crate) fn natural_fill(slots: Measured, capacity: u64) -> Filling
     ensures sum_value { result.sum ≡ sum (take result.slots slots.entry.sizes.now) }
     ensures le_slots { (1 ≤ result.slots) × (result.slots ≤ length slots.entry.sizes.now) }
 {
-    let sizes = slots.sizes;
-    let filling = fill_by_eight(slots, capacity);
-    let mut sum = filling.sum;
-    for n in filling.slots..sizes.len() {
-        let next = sum + sizes[n];
-        if next > capacity {
-            return Filling { slots: n, sum };
+    let mut filling = fill_by_eight(slots, capacity);
+    for size in &slots.sizes[filling.slots..] {
+        let sum = filling.sum + *size;
+        if sum > capacity {
+            return filling;
         }
-        sum = next;
+        filling = Filling {
+            slots: filling.slots + 1,
+            sum,
+        };
     }
-    Filling {
-        slots: sizes.len(),
-        sum,
-    }
+    filling
 }

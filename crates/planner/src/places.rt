@@ -3,6 +3,7 @@ ghost use Rattle.std.specs.Prelude.{◌≡◌, ◌≤◌, length};
 ghost use Rattle.planner_rules.specs.Slots.{Rising, below};
 ghost use Rattle.planner_rules.specs.Runs.{moved};
 
+use crate::slots::Measured;
 use planner_rules::{Cut, Span};
 
 // How many slots have an index below the limit.
@@ -11,28 +12,12 @@ pub(crate) fn place_of(indexes: &[u32], limit: u64) -> usize
     ensures value { result ≡ below limit indexes.now }
     ensures upper_bound { result ≤ length indexes.now }
 {
-    let mut low = 0;
-    let mut size = indexes.len();
-    while size > 1 {
-        let half = size / 2;
-        let middle = low + half;
-        size -= half;
-        if u64::from(indexes[middle]) < limit {
-            low = middle;
-        }
-    }
-    if size > 0 {
-        if u64::from(indexes[low]) < limit {
-            return low + 1;
-        }
-    }
-    low
+    indexes.partition_point(|i| u64::from(*i) < limit)
 }
 
 // The cut of a break at the place p, whose boundary `held` holds.
-pub(crate) fn moved_cut(held: Option<Span>, prev: usize, p: usize, indexes: &[u32]) -> Cut
-    requires { Rising indexes.now }
-    ensures { result ≡ moved held prev p indexes.now }
+pub(crate) fn moved_cut(held: Option<Span>, prev: usize, p: usize, slots: Measured) -> Cut
+    ensures { result ≡ moved held prev p slots.entry.indexes.now }
 {
     let Some(span) = held else {
         return Cut {
@@ -40,14 +25,14 @@ pub(crate) fn moved_cut(held: Option<Span>, prev: usize, p: usize, indexes: &[u3
             shifted: 0,
         };
     };
-    let start = place_of(indexes, u64::from(span.first));
+    let start = place_of(slots.indexes, u64::from(span.first));
     if start > prev {
         return Cut {
             place: start,
             shifted: 1,
         };
     }
-    let end = place_of(indexes, u64::from(span.last) + 1);
+    let end = place_of(slots.indexes, u64::from(span.last) + 1);
     Cut {
         place: end,
         shifted: 1,

@@ -1,6 +1,7 @@
 // The plan calls: questions, then all areas counted and written, or one written. Document 01, sections "Pages" and "Questions in order", and
 // document 02, T-02.
 ghost use Rattle.std.specs.Prelude.{◌≡◌, [], ◌∷◌};
+ghost use Rattle.units.specs.Refusals.{outcome};
 ghost use Rattle.planner_rules.specs.Lent.{room_in};
 ghost use Rattle.planner_rules.specs.Areas.{areas_in};
 ghost use Rattle.planner_rules.specs.Demand.{CoversPairs, FewestPlan, LargestPlan};
@@ -16,22 +17,18 @@ use crate::title::ready_title;
 use planner_areas::area_at;
 use planner_questions::{plan_refusal, room_in, room_refusal};
 use planner_rules::{
-    Areas, Axis, AxisLists, ChosenScale, CountedAreas, MergeList, Notes, Plan, Planning, Prepared,
-    PrintRange, Request, RunCounts, Shared, SheetLists, Writing,
+    Areas, Axis, AxisLists, ChosenScale, CountedAreas, MergeList, Notes, Plan, PrintRange, Request,
+    RunCounts, Shared, SheetLists,
 };
 use planner_setup::content_sides;
+use units::Refusal;
 
 // Asks the questions 4 to 10, and makes the titles ready, once for all areas.
-fn prepare(request: &Request, lists: &SheetLists) -> Prepared
+fn prepare(request: &Request, lists: &SheetLists) -> Result<Shared, Refusal>
     ensures { step.IsPrepared result (sheet_asked request.now lists.now) request.now.areas }
 {
-    let refusal = plan_refusal(request, lists);
-    if refusal > 0 {
-        return Prepared::Refused(refusal);
-    }
-    let Ok(sides) = content_sides(request.settings) else {
-        return Prepared::Refused(10);
-    };
+    plan_refusal(request, lists)?;
+    let sides = content_sides(request.settings)?;
     let SheetLists { rows, columns } = *lists;
     let row_merges = MergeList {
         firsts: in_memory(rows.merges.firsts),
@@ -57,7 +54,7 @@ fn prepare(request: &Request, lists: &SheetLists) -> Prepared
             ..columns
         },
     );
-    Prepared::Value(Shared {
+    Ok(Shared {
         settings: request.settings,
         sides,
         rows: row_title,
@@ -98,12 +95,17 @@ fn plan_of(shared: &Shared, counted: CountedAreas) -> Plan
 impl SettledSheet<'_> {
     // Counts an area that stands alone and, where its runs have room and its pages are within the limit, writes it.
     #[inline(always)]
-    fn plan_one(&self, range: PrintRange, row_runs: &mut [u64], column_runs: &mut [u64]) -> Planning
+    fn plan_one(
+        &self,
+        range: PrintRange,
+        row_runs: &mut [u64],
+        column_runs: &mut [u64],
+    ) -> Result<Plan, Refusal>
         requires fine_area { step.FineArea range }
         ensures { let shared = self.now.shared.now in
             let sheet = sheet_by shared self.now.lists.now in
             let layout = call.layout (step.sides_in shared) sheet (range ∷ []) in
-            call.Planned (call.room_for sheet layout (room_in row_runs.old) (room_in column_runs.old)) result
+            call.Planned (call.room_for sheet layout (room_in row_runs.old) (room_in column_runs.old)) (outcome result)
             row_runs.old column_runs.old row_runs.new column_runs.new }
     {
         let ready = self.ready(range);
@@ -112,55 +114,59 @@ impl SettledSheet<'_> {
         let one = self.count_at(ready, frames, scale);
         let none = no_areas();
         let counted = add_area(none, 0, one);
-        let refusal = room_refusal(
+        room_refusal(
             counted.rows,
             counted.columns,
             counted.pages,
             room_in(row_runs.len()),
             room_in(column_runs.len()),
             self.shared.settings.page_limit,
-        );
-        if refusal > 0 {
-            return Planning::Refused(refusal);
-        }
+        )?;
         self.write_ready(ready, frames, one.area, 0, 0, row_runs, column_runs);
-        Planning::Value(plan_of(self.shared, counted))
+        Ok(plan_of(self.shared, counted))
     }
 
     // The same of several areas, all counted before one is written.
     #[inline(never)]
-    fn plan_several(&self, areas: Areas, row_runs: &mut [u64], column_runs: &mut [u64]) -> Planning
+    fn plan_several(
+        &self,
+        areas: Areas,
+        row_runs: &mut [u64],
+        column_runs: &mut [u64],
+    ) -> Result<Plan, Refusal>
         requires fine_areas { step.FineAreas areas }
         ensures { let shared = self.now.shared.now in
             let sheet = sheet_by shared self.now.lists.now in
             let layout = call.layout (step.sides_in shared) sheet (areas_in areas) in
-            call.Planned (call.room_for sheet layout (room_in row_runs.old) (room_in column_runs.old)) result
+            call.Planned (call.room_for sheet layout (room_in row_runs.old) (room_in column_runs.old)) (outcome result)
             row_runs.old column_runs.old row_runs.new column_runs.new }
     {
         let counted = self.count_areas(areas);
-        let refusal = room_refusal(
+        room_refusal(
             counted.rows,
             counted.columns,
             counted.pages,
             room_in(row_runs.len()),
             room_in(column_runs.len()),
             self.shared.settings.page_limit,
-        );
-        if refusal > 0 {
-            return Planning::Refused(refusal);
-        }
+        )?;
         self.write_areas(areas, counted.areas, row_runs, column_runs);
-        Planning::Value(plan_of(self.shared, counted))
+        Ok(plan_of(self.shared, counted))
     }
 
     // The same of the areas of a plan.
     #[inline(always)]
-    fn plan_areas(&self, areas: Areas, row_runs: &mut [u64], column_runs: &mut [u64]) -> Planning
+    fn plan_areas(
+        &self,
+        areas: Areas,
+        row_runs: &mut [u64],
+        column_runs: &mut [u64],
+    ) -> Result<Plan, Refusal>
         requires fine_areas { step.FineAreas areas }
         ensures { let shared = self.now.shared.now in
             let sheet = sheet_by shared self.now.lists.now in
             let layout = call.layout (step.sides_in shared) sheet (areas_in areas) in
-            call.Planned (call.room_for sheet layout (room_in row_runs.old) (room_in column_runs.old)) result
+            call.Planned (call.room_for sheet layout (room_in row_runs.old) (room_in column_runs.old)) (outcome result)
             row_runs.old column_runs.old row_runs.new column_runs.new }
     {
         if areas.count == 1 {
@@ -170,17 +176,17 @@ impl SettledSheet<'_> {
     }
 
     // Counts the areas: the plan, within the limit of pages.
-    fn counted_plan(&self, areas: Areas) -> Planning
+    fn counted_plan(&self, areas: Areas) -> Result<Plan, Refusal>
         requires fine_areas { step.FineAreas areas }
         ensures { let shared = self.now.shared.now in
             let sheet = sheet_by shared self.now.lists.now in
-            call.Counted (call.within_limit sheet (call.layout (step.sides_in shared) sheet (areas_in areas))) result }
+            call.Counted (call.within_limit sheet (call.layout (step.sides_in shared) sheet (areas_in areas))) (outcome result) }
     {
         let counted = self.count_areas(areas);
         if counted.pages > self.shared.settings.page_limit {
-            return Planning::Refused(12);
+            return Err(Refusal::TooManyPages);
         }
-        Planning::Value(plan_of(self.shared, counted))
+        Ok(plan_of(self.shared, counted))
     }
 
     // Counts an area at a permille and, where its runs have room, writes them.
@@ -190,12 +196,12 @@ impl SettledSheet<'_> {
         permille: u16,
         row_runs: &mut [u64],
         column_runs: &mut [u64],
-    ) -> Writing
+    ) -> Result<RunCounts, Refusal>
         requires fine_area { step.FineArea range }
         ensures { let shared = self.now.shared.now in
             let sheet = sheet_by shared self.now.lists.now in
             let area = call.area_at (step.sides_in shared) (call.rows_in sheet range) (call.columns_in sheet range) (call.scale_at permille) in
-            call.AreaWrote (call.area_room area (room_in row_runs.old) (room_in column_runs.old)) result
+            call.AreaWrote (call.area_room area (room_in row_runs.old) (room_in column_runs.old)) (outcome result)
             row_runs.old column_runs.old row_runs.new column_runs.new }
     {
         let ready = self.ready(range);
@@ -210,13 +216,13 @@ impl SettledSheet<'_> {
         let rows = area.row_runs;
         let columns = area.column_runs;
         if rows > room_in(row_runs.len()) {
-            return Writing::Refused(11);
+            return Err(Refusal::ListTooShort);
         }
         if columns > room_in(column_runs.len()) {
-            return Writing::Refused(11);
+            return Err(Refusal::ListTooShort);
         }
         self.write_ready(ready, frames, area, 0, 0, row_runs, column_runs);
-        Writing::Value(RunCounts { rows, columns })
+        Ok(RunCounts { rows, columns })
     }
 
     // 10 of the permille, 14 of the area's number, and the area's runs.
@@ -227,21 +233,21 @@ impl SettledSheet<'_> {
         permille: u16,
         row_runs: &mut [u64],
         column_runs: &mut [u64],
-    ) -> Writing
+    ) -> Result<RunCounts, Refusal>
         requires fine_areas { step.FineAreas areas }
         ensures { let shared = self.now.shared.now in
             let sheet = sheet_by shared self.now.lists.now in
-            call.AreaWrote (call.numbered_area (step.sides_in shared) sheet areas number permille row_runs.old column_runs.old) result
+            call.AreaWrote (call.numbered_area (step.sides_in shared) sheet areas number permille row_runs.old column_runs.old) (outcome result)
             row_runs.old column_runs.old row_runs.new column_runs.new }
     {
         if permille == 0 {
-            return Writing::Refused(10);
+            return Err(Refusal::CoordinateOverflow);
         }
         if number == 0 {
-            return Writing::Refused(14);
+            return Err(Refusal::NoSuchNumber);
         }
         if number > areas.count as u64 {
-            return Writing::Refused(14);
+            return Err(Refusal::NoSuchNumber);
         }
         let range = area_at(areas, (number - 1) as usize);
         self.write_range(range, permille, row_runs, column_runs)
@@ -255,40 +261,32 @@ pub fn plan_pages(
     lists: &SheetLists,
     row_runs: &mut [u64],
     column_runs: &mut [u64],
-) -> Planning
+) -> Result<Plan, Refusal>
     ensures planned { let sheet = sheet_asked request.now lists.now in
-        call.Planned (call.planned sheet request.now.areas row_runs.old column_runs.old) result
+        call.Planned (call.planned sheet request.now.areas row_runs.old column_runs.old) (outcome result)
         row_runs.old column_runs.old row_runs.new column_runs.new }
-    ensures covered { CoversPairs result (sheet_asked request.now lists.now) request.now.areas row_runs.new column_runs.new }
-    ensures fewest { FewestPlan result (sheet_asked request.now lists.now) request.now.areas row_runs.new column_runs.new }
-    ensures largest { LargestPlan result (sheet_asked request.now lists.now) request.now.areas }
+    ensures covered { CoversPairs (outcome result) (sheet_asked request.now lists.now) request.now.areas row_runs.new column_runs.new }
+    ensures fewest { FewestPlan (outcome result) (sheet_asked request.now lists.now) request.now.areas row_runs.new column_runs.new }
+    ensures largest { LargestPlan (outcome result) (sheet_asked request.now lists.now) request.now.areas }
 {
-    match prepare(request, lists) {
-        Prepared::Refused(n) => Planning::Refused(n),
-        Prepared::Value(shared) => {
-            let sheet = SettledSheet {
-                shared: &shared,
-                lists,
-            };
-            sheet.plan_areas(request.areas, row_runs, column_runs)
-        }
-    }
+    let shared = prepare(request, lists)?;
+    let sheet = SettledSheet {
+        shared: &shared,
+        lists,
+    };
+    sheet.plan_areas(request.areas, row_runs, column_runs)
 }
 
 // The same plan, whose runs are written nowhere.
-pub fn count_pages(request: &Request, lists: &SheetLists) -> Planning
-    ensures { call.Counted (call.counted (sheet_asked request.now lists.now) request.now.areas) result }
+pub fn count_pages(request: &Request, lists: &SheetLists) -> Result<Plan, Refusal>
+    ensures { call.Counted (call.counted (sheet_asked request.now lists.now) request.now.areas) (outcome result) }
 {
-    match prepare(request, lists) {
-        Prepared::Refused(n) => Planning::Refused(n),
-        Prepared::Value(shared) => {
-            let sheet = SettledSheet {
-                shared: &shared,
-                lists,
-            };
-            sheet.counted_plan(request.areas)
-        }
-    }
+    let shared = prepare(request, lists)?;
+    let sheet = SettledSheet {
+        shared: &shared,
+        lists,
+    };
+    sheet.counted_plan(request.areas)
 }
 
 // Writes the runs of one area, by its number from 1, at a permille to the fronts of two lent lists: no scale is searched.
@@ -299,19 +297,15 @@ pub fn write_area(
     permille: u16,
     row_runs: &mut [u64],
     column_runs: &mut [u64],
-) -> Writing
+) -> Result<RunCounts, Refusal>
     ensures { let sheet = sheet_asked request.now lists.now in
-        call.AreaWrote (call.area_written sheet request.now.areas number permille row_runs.old column_runs.old) result
+        call.AreaWrote (call.area_written sheet request.now.areas number permille row_runs.old column_runs.old) (outcome result)
         row_runs.old column_runs.old row_runs.new column_runs.new }
 {
-    match prepare(request, lists) {
-        Prepared::Refused(n) => Writing::Refused(n),
-        Prepared::Value(shared) => {
-            let sheet = SettledSheet {
-                shared: &shared,
-                lists,
-            };
-            sheet.write_numbered(request.areas, number, permille, row_runs, column_runs)
-        }
-    }
+    let shared = prepare(request, lists)?;
+    let sheet = SettledSheet {
+        shared: &shared,
+        lists,
+    };
+    sheet.write_numbered(request.areas, number, permille, row_runs, column_runs)
 }

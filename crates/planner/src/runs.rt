@@ -1,6 +1,6 @@
 // Where the slots of an axis are cut into runs: document 01, section "Runs".
 ghost use Rattle.std.specs.Prelude.{◌≡◌, false, [], ◌∷◌, ◌++◌, ◌+◌, ◌≤◌, ◌<◌, length, take, drop};
-ghost use Rattle.planner_rules.specs.Slots.{Rising, sum, below, written};
+ghost use Rattle.planner_rules.specs.Slots.{sum, below, written};
 ghost use Rattle.planner_rules.specs.Runs.{holding, filled, resumed, resumption, taken, merged, ends, run_end, runs, expansions, first_marked};
 ghost use Rattle.planner_rules.specs.Runs.{placed, next_cut, stretch, axis_runs, axis_tally};
 ghost use Rattle.planner_rules.specs.Lent.{Room, Written, RoomAt, WrittenAt, flat};
@@ -52,6 +52,7 @@ fn resumed_fill(slots: Measured, capacity: u64, last: u32) -> usize
     ensures upper_bound { result ≤ length slots.entry.sizes.now }
 {
     let mut sum = slots.sizes[0];
+    // By number, which is what is answered: the two lists zipped, numbered and without their first would say no more.
     for n in 1..slots.sizes.len() {
         let size = slots.sizes[n];
         let next = sum + size;
@@ -132,11 +133,11 @@ pub(crate) fn write_empty(first: u32, list: &mut [u64])
 }
 
 // How many slots have an index below the break b, which often stands right past the last kept cut.
-fn break_place(indexes: &[u32], prev: usize, b: u32) -> usize
-    requires rising { Rising indexes.now }
-    requires prev_in_bounds { prev ≤ length indexes.now }
-    ensures { result ≡ below b indexes.now }
+fn break_place(slots: Measured, prev: usize, b: u32) -> usize
+    requires { prev ≤ length slots.indexes.now }
+    ensures { result ≡ below b slots.entry.indexes.now }
 {
+    let indexes = slots.indexes;
     let next = prev + 1;
     if next < indexes.len() {
         if indexes[prev] < b {
@@ -211,6 +212,7 @@ impl Cutter<'_> {
         let mut runs = 0;
         let mut grown = 0;
         let mut overflows = 0;
+        // What is left says how far it is: an iterator over runs would hold this rest and that it shrinks in a contract of its own, for three loops.
         while rest.sizes.len() > 0 {
             let end = self.run_end(rest);
             runs += 1;
@@ -238,6 +240,7 @@ impl Cutter<'_> {
         let mut rest = slots;
         let mut manual = mark;
         let mut at = 0;
+        // What is left says how far it is, as where runs are counted.
         while rest.sizes.len() > 0 {
             let end = self.run_end(rest);
             let n = end.slots;
@@ -257,10 +260,9 @@ impl Cutter<'_> {
 
     // The cut of a break at the place p; the last kept one where the break is skipped.
     #[inline(always)]
-    fn placed_cut(self, indexes: &[u32], prev: usize, p: usize) -> Cut
-        requires { Rising indexes.now }
+    fn placed_cut(self, slots: Measured, prev: usize, p: usize) -> Cut
         ensures { let merges = self.entry.merges in
-            result ≡ placed self.entry.frame merges.firsts.now merges.lasts.now indexes.now prev p }
+            result ≡ placed self.entry.frame merges.firsts.now merges.lasts.now slots.entry.indexes.now prev p }
     {
         let skipped = Cut {
             place: prev,
@@ -269,26 +271,26 @@ impl Cutter<'_> {
         if p == 0 {
             return skipped;
         }
-        if p >= indexes.len() {
+        if p >= slots.indexes.len() {
             return skipped;
         }
-        let b = indexes[p];
+        let b = slots.indexes[p];
         let title = self.frame.title;
         if title_holds(title, b) {
             return skipped;
         }
-        moved_cut(self.holder(b), prev, p, indexes)
+        moved_cut(self.holder(b), prev, p, slots)
     }
 
     // The last kept cut after the break b. Where no merge can move it, a break that is not past the last kept cut is not searched for.
     #[inline(always)]
-    fn next_cut(self, indexes: &[u32], prev: usize, b: u32) -> Cut
-        requires rising { Rising indexes.now }
-        requires prev_in_bounds { prev ≤ length indexes.now }
+    fn next_cut(self, slots: Measured, prev: usize, b: u32) -> Cut
+        requires { prev ≤ length slots.indexes.now }
         ensures value { let merges = self.entry.merges in
-            result ≡ next_cut self.entry.frame merges.firsts.now merges.lasts.now indexes.now prev b }
-        ensures prev_le_place { (prev ≤ result.place) × (result.place ≤ length indexes.now) × (result.shifted ≤ 1) }
+            result ≡ next_cut self.entry.frame merges.firsts.now merges.lasts.now slots.entry.indexes.now prev b }
+        ensures prev_le_place { (prev ≤ result.place) × (result.place ≤ length slots.entry.indexes.now) × (result.shifted ≤ 1) }
     {
+        let indexes = slots.indexes;
         if self.merges.firsts.len() == 0 {
             if prev < indexes.len() {
                 if b <= indexes[prev] {
@@ -299,8 +301,8 @@ impl Cutter<'_> {
                 }
             }
         }
-        let p = break_place(indexes, prev, b);
-        let Cut { place, shifted } = self.placed_cut(indexes, prev, p);
+        let p = break_place(slots, prev, b);
+        let Cut { place, shifted } = self.placed_cut(slots, prev, p);
         if place > prev {
             if place < indexes.len() {
                 return Cut { place, shifted };
@@ -331,7 +333,7 @@ impl Cutter<'_> {
         let mut overflows = 0;
         let mut shifts = 0;
         for b in breaks {
-            let cut = self.next_cut(slots.indexes, prev, *b);
+            let cut = self.next_cut(slots, prev, *b);
             let next = cut.place;
             let t = self.count_runs(page, slots.part(prev, next));
             count += t.runs;
@@ -384,7 +386,7 @@ impl Cutter<'_> {
         let mut prev = 0;
         let mut at = 0;
         for b in breaks {
-            let next = self.next_cut(slots.indexes, prev, *b).place;
+            let next = self.next_cut(slots, prev, *b).place;
             at += self.write_stretch(slots, prev, next, at, list);
             prev = next;
         }

@@ -129,6 +129,7 @@ fn runs_pass(page: ScaledPage, cutter: Cutter, target: u16, slots: Measured) -> 
     let title = cutter.frame.title;
     let mut rest = slots;
     let mut count = 0;
+    // What is left says how far it is, as where runs are counted; and it is asked before the next run is cut.
     while rest.sizes.len() > 0 {
         count += 1;
         if !meets_target(target, count) {
@@ -180,6 +181,7 @@ fn halved_permille(rows: FittedAxis, columns: FittedAxis) -> u16
     ensures { result ≡ halve (λ p. fit_passes rows.entry.fit rows.entry.merges.firsts.now rows.entry.merges.lasts.now rows.entry.slots.indexes.now rows.entry.slots.sizes.now p
         && fit_passes columns.entry.fit columns.entry.merges.firsts.now columns.entry.merges.lasts.now columns.entry.slots.indexes.now columns.entry.slots.sizes.now p) 10 100 1000 }
 {
+    // Over numbers, of which there is no list: the library's search by halving goes over the elements of one.
     let mut low: u16 = 100;
     let mut high: u16 = 1000;
     while low < high {

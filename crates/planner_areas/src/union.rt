@@ -91,6 +91,7 @@ fn row_cells(ranges: &[PrintRange], row: u64) -> u64
 {
     let mut cells = 0;
     let mut column = 0;
+    // From stretch to stretch, and not from column to column: how far the next step goes is known only there.
     while column < COLUMNS {
         let stretch = stretch_from(ranges, row, column);
         cells += stretch.reach - column;
@@ -105,6 +106,7 @@ fn cells_of(ranges: &[PrintRange]) -> u64
 {
     let mut cells = 0;
     let mut row = 0;
+    // From edge to edge, as along a row.
     while row < ROWS {
         let next = next_edge(ranges, row);
         cells += (next - row) * row_cells(ranges, row);

@@ -109,11 +109,7 @@ impl TitleCase {
         };
         let widened = widen_title(self.axis, self.title, merges);
         let answer = widened.map(WidenedTitle);
-        writeln!(
-            out,
-            "{}",
-            Answer(answer.map_err(|refusal| refusal.number()))
-        )
+        writeln!(out, "{}", Answer(answer))
     }
 }
 
@@ -148,7 +144,7 @@ impl RunsCase {
         let lists = self.lists.lend();
         let tally = partition_axis_with_breaks(self.axis, self.setup, lists, &mut self.runs);
         let runs = Numbers(&self.runs);
-        let answer = tally.map(RunCount).map_err(|refusal| refusal.number());
+        let answer = tally.map(RunCount);
         writeln!(out, "{}{runs}", Answer(answer))
     }
 }

@@ -18,11 +18,10 @@ use crate::text::{Answer, Numbers, PlanText, numbered_page};
 use geometry::Margins;
 use job_records::float;
 use planner::plan_pages;
-use planner_rules::{
-    Areas, PageOrder, Plan, Planning, PrintRange, Request, Settings, SheetLists, Title,
-};
+use planner_rules::{Areas, PageOrder, Plan, PrintRange, Request, Settings, SheetLists, Title};
 use std::alloc::{AllocError, Global};
 use std::io::{self, Write};
+use units::Refusal;
 
 // The most pages of which each is asked for.
 const FEW: u64 = 12;
@@ -251,7 +250,7 @@ impl PlanCase {
     }
 
     // Plans, which writes the runs to the lent lists.
-    fn plan(&mut self) -> Result<Plan, u8> {
+    fn plan(&mut self) -> Result<Plan, Refusal> {
         let request = Request {
             settings: self.settings,
             areas: areas_of(&self.ranges),
@@ -262,11 +261,7 @@ impl PlanCase {
             rows: self.rows.lend(),
             columns: self.columns.lend(),
         };
-        let planning = plan_pages(&request, &lists, &mut self.row_runs, &mut self.column_runs);
-        match planning {
-            Planning::Value(plan) => Ok(plan),
-            Planning::Refused(number) => Err(number),
-        }
+        plan_pages(&request, &lists, &mut self.row_runs, &mut self.column_runs)
     }
 
     // Plans, and answers what the lent lists hold then, and pages.

@@ -5,16 +5,17 @@ use planner_areas::{at_most_eight, plan_at};
 use planner_pages::page_numbered;
 use planner_rules::{AreaPlan, Notes, Page, PageOrder, PageRun, Plan, Tally, Title, Widened};
 use std::fmt;
+use units::Refusal;
 
 // An answer, or `no` and the number of the refusal.
 #[derive(Drop)]
-pub(crate) struct Answer<T>(pub(crate) Result<T, u8>);
+pub(crate) struct Answer<T>(pub(crate) Result<T, Refusal>);
 
 impl<T: fmt::Display> fmt::Display for Answer<T> {
     fn fmt<W: fmt::Write>(&self, f: &mut fmt::Formatter<W>) -> fmt::Result {
         match &self.0 {
             Ok(value) => write!(f, "{value}"),
-            Err(number) => write!(f, "no {number}"),
+            Err(refusal) => write!(f, "no {}", refusal.number()),
         }
     }
 }
@@ -150,5 +151,5 @@ pub(crate) fn numbered_page(
     column_runs: &[u64],
 ) -> Answer<PageText> {
     let page = page_numbered(*plan, number, row_runs, column_runs);
-    Answer(page.map(PageText).map_err(|refusal| refusal.number()))
+    Answer(page.map(PageText))
 }

@@ -31,9 +31,9 @@ fn slots_through(indexes: &[u32], last: u32) -> usize
     ensures value { result ≡ through last indexes.now }
     ensures upper_bound { result ≤ length indexes.now }
 {
-    for i in (0..indexes.len()).rev() {
-        if indexes[i] <= last {
-            return i + 1;
+    for (n, index) in indexes.iter().enumerate().rev() {
+        if *index <= last {
+            return n + 1;
         }
     }
     0
@@ -99,7 +99,7 @@ pub fn title_holds(title: Title, b: u32) -> bool
 pub fn mark_of(cut: usize) -> u64
     ensures { result ≡ min cut 1 }
 {
-    if cut > 0 { 1 } else { 0 }
+    cut.min(1) as u64
 }
 
 // The final cut of an axis, of what was counted and so many overflowing runs: an axis without runs gets one.

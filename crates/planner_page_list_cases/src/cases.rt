@@ -2,8 +2,8 @@
 use crate::listed::Planned;
 use planner::plan_pages;
 use planner_rules::{
-    Areas, AxisLists, MergeList, PageOrder, Plan, Planning, PrintRange, RUN_NUMBERS, Request,
-    Settings, SheetLists, SlotList, Title,
+    Areas, AxisLists, MergeList, PageOrder, Plan, PrintRange, RUN_NUMBERS, Request, Settings,
+    SheetLists, SlotList, Title,
 };
 use std::alloc::Global;
 use std::io::{self, Write};
@@ -183,11 +183,7 @@ impl Case<'_> {
             rows: axis(self.rows, &row_sizes, self.row_breaks),
             columns: axis(self.columns, &column_sizes, &[]),
         };
-        let planning = plan_pages(&request, &lists, row_runs, column_runs);
-        Ok(match planning {
-            Planning::Value(plan) => Some(plan),
-            Planning::Refused(_) => None,
-        })
+        Ok(plan_pages(&request, &lists, row_runs, column_runs).ok())
     }
 
     // Plans, and lists the pages.

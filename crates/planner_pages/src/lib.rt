@@ -229,10 +229,8 @@ pub fn list_pages(
 {
     let answer = listing(pages.len(), plan, row_runs, column_runs);
     let count = count_in(answer);
-    let mut i = 0;
-    while i < count {
+    for i in 0..count {
         pages[i] = page_after(i, plan, row_runs, column_runs);
-        i = i + 1;
     }
     answer
 }

@@ -2,6 +2,7 @@
 #![tactic(auto)]
 
 ghost use Rattle.std.specs.Prelude.{◌≡◌, fold, bit_or, ◌/◌, ◌&&◌};
+ghost use Rattle.units.specs.Refusals.{number_of};
 ghost use Rattle.planner_rules.specs.Questions.{no_or, equally_long, all_ordered, all_within, rising, rising_within, all_small};
 ghost use Rattle.planner_rules.specs.Areas.{areas_in, every_area, upright, inside_grid};
 ghost use Rattle.planner_rules.specs.Plan as call;
@@ -44,8 +45,8 @@ fn strictly_rising(indexes: &[u32]) -> bool
     ensures { result ≡ rising indexes.now }
 {
     let mut rises = true;
-    for i in (1..indexes.len()).rev() {
-        rises = (indexes[i - 1] < indexes[i]) & rises;
+    for pair in indexes.windows(2) {
+        rises = (pair[0] < pair[1]) & rises;
     }
     rises
 }
@@ -126,11 +127,11 @@ fn formed(slots: SlotList, merges: MergeList) -> bool
         & pairs_ordered(merges)
 }
 
-// The number of a question whose answer is no, or the number that comes after it.
-fn no_or(question: u8, yes: bool, after: u8) -> u8
-    ensures { result ≡ no_or question yes after }
+// A question: it refuses where its answer is no.
+fn ask(yes: bool, no: Refusal) -> Result<(), Refusal>
+    ensures { partition.no_of result ≡ no_or (number_of no) yes 0 }
 {
-    if yes { after } else { question }
+    if yes { Ok(()) } else { Err(no) }
 }
 
 // The questions 6 to 9 of one axis: the first whose answer is no refuses.
@@ -144,25 +145,19 @@ pub fn partition_refusal(
         merges.entry.firsts.now merges.entry.lasts.now }
 {
     let six = formed(slots, merges) & (setup.first <= setup.last);
-    if !six {
-        return Err(Refusal::MalformedLists);
-    }
+    ask(six, Refusal::MalformedLists)?;
     let seven = (setup.last <= limit) & all_within(merges.lasts, limit);
-    if !seven {
-        return Err(Refusal::OutsideGrid);
-    }
-    if !rising_within(slots.indexes, limit) {
-        return Err(Refusal::IndexesNotRising);
-    }
-    if !all_small(slots.sizes) {
-        return Err(Refusal::SizeOutOfRange);
-    }
-    Ok(())
+    ask(seven, Refusal::OutsideGrid)?;
+    ask(
+        rising_within(slots.indexes, limit),
+        Refusal::IndexesNotRising,
+    )?;
+    ask(all_small(slots.sizes), Refusal::SizeOutOfRange)
 }
 
-// The first of the questions 4, 6, 7, 15, 8 and 9 whose answer is no, or 0. Cells are counted only where 4, 6 and 7 are answered with yes.
-pub fn plan_refusal(request: &Request, lists: &SheetLists) -> u8
-    ensures { result ≡ call.first_no (sheet_asked request.now lists.now) request.now.areas }
+// The questions 4, 6, 7, 15, 8 and 9: the first whose answer is no refuses. Cells are counted only where 4, 6 and 7 are answered with yes.
+pub fn plan_refusal(request: &Request, lists: &SheetLists) -> Result<(), Refusal>
+    ensures { partition.no_of result ≡ call.first_no (sheet_asked request.now lists.now) request.now.areas }
 {
     let SheetLists { rows, columns } = *lists;
     let areas = request.areas;
@@ -175,18 +170,19 @@ pub fn plan_refusal(request: &Request, lists: &SheetLists) -> u8
     let seven = all_within(rows.merges.lasts, MAX_WORKSHEET_ROW)
         & all_within(columns.merges.lasts, MAX_WORKSHEET_COLUMN as u32)
         & asked.inside;
-    let early = no_or(4, four, no_or(6, six, no_or(7, seven, 0)));
-    if early > 0 {
-        return early;
-    }
+    ask(four, Refusal::MisplacedRecord)?;
+    ask(six, Refusal::MalformedLists)?;
+    ask(seven, Refusal::OutsideGrid)?;
     let fifteen = cells_hold(request.settings.cell_limit, areas);
     let eight = rising_within(rows.slots.indexes, MAX_WORKSHEET_ROW)
         & rising_within(columns.slots.indexes, MAX_WORKSHEET_COLUMN as u32);
     let nine = all_small(rows.slots.sizes) & all_small(columns.slots.sizes);
-    no_or(15, fifteen, no_or(8, eight, no_or(9, nine, 0)))
+    ask(fifteen, Refusal::TooManyCells)?;
+    ask(eight, Refusal::IndexesNotRising)?;
+    ask(nine, Refusal::SizeOutOfRange)
 }
 
-// 11, then 12, of so many runs of rows and of columns and so many pages: the number of the first whose answer is no, or 0.
+// 11, then 12, of so many runs of rows and of columns and so many pages: the first whose answer is no refuses.
 pub fn room_refusal(
     rows: usize,
     columns: usize,
@@ -194,9 +190,10 @@ pub fn room_refusal(
     row_room: usize,
     column_room: usize,
     limit: u64,
-) -> u8
-    ensures { result ≡ call.room_no rows columns pages row_room column_room limit }
+) -> Result<(), Refusal>
+    ensures { partition.no_of result ≡ call.room_no rows columns pages row_room column_room limit }
 {
     let eleven = (rows <= row_room) & (columns <= column_room);
-    no_or(11, eleven, no_or(12, pages <= limit, 0))
+    ask(eleven, Refusal::ListTooShort)?;
+    ask(pages <= limit, Refusal::TooManyPages)
 }

@@ -19,7 +19,6 @@ use Rattle.planner_rules.specs.declared.pages.Plan.{Plan}
 use Rattle.planner_rules.specs.declared.planning.Settings.{Settings}
 use Rattle.planner_rules.specs.declared.planning.PrintRange.{PrintRange}
 use Rattle.planner_rules.specs.declared.planning.Areas.{Areas}
-use Rattle.planner_rules.specs.declared.planning.Planning.{Planning}
 use Rattle.planner_rules.specs.declared.titles.Axis.TheVariants.{Rows, Columns}
 use Rattle.planner_rules.specs.Questions.{ask, all_within, rising_within}
 use Rattle.planner_rules.specs.Titles.{limit_of}
@@ -154,7 +153,7 @@ pub record Done (s : Sheet) (areas : Areas) (plan : Plan) (rows columns : List �
   pub column_tail : List ℕ
   pub columns_are : columns ≡ flat (column_runs_of (layouts_of sides s (areas_in areas))) ++ column_tail
 
-module _ (s : Sheet) (areas : Areas) (rows₀ columns₀ rows columns : List ℕ) (r : Planning)
+module _ (s : Sheet) (areas : Areas) (rows₀ columns₀ rows columns : List ℕ) (r : Outcome Plan)
     (p : Planned (planned s areas rows₀ columns₀) r rows₀ columns₀ rows columns) where
   laid : (l : Layout) → planned s areas rows₀ columns₀ ≡ given l → Done s areas l.plan rows columns
   unfolding planned room_for within_limit layout
@@ -410,7 +409,7 @@ area_columns : (c : Sides) (s : Sheet) (g : PrintRange)
 unfolding area_layout area_at counted_at
 area_columns c s g = refl
 
-module _ (s : Sheet) (areas : Areas) (rows₀ columns₀ rows columns : List ℕ) (r : Planning)
+module _ (s : Sheet) (areas : Areas) (rows₀ columns₀ rows columns : List ℕ) (r : Outcome Plan)
     (p : Planned (planned s areas rows₀ columns₀) r rows₀ columns₀ rows columns) where
   pub covers : CoversPairs r s areas rows columns
   unfolding limit_of
@@ -498,7 +497,7 @@ unfolding area_layout area_at counted_at
 mark_noted c s g = refl
 
 module _ (s : Sheet) (content : (c : Sides) × (content_sides s.settings ≡ given c) × (mag c.width < 2 ^ 53) × (mag c.height < 2 ^ 53))
-    (areas : Areas) (rows₀ columns₀ rows columns : List ℕ) (r : Planning)
+    (areas : Areas) (rows₀ columns₀ rows columns : List ℕ) (r : Outcome Plan)
     (p : Planned (planned s areas rows₀ columns₀) r rows₀ columns₀ rows columns) where
   pub largest_plan : LargestPlan r s areas
   unfolding plan_of
@@ -534,7 +533,7 @@ module _ (s : Sheet) (content : (c : Sides) × (content_sides s.settings ≡ giv
   }
 
 -- ---- the clauses of the call, in their order
-pub clauses : (s : Sheet) (areas : Areas) (rows₀ columns₀ rows columns : List ℕ) (r : Planning)
+pub clauses : (s : Sheet) (areas : Areas) (rows₀ columns₀ rows columns : List ℕ) (r : Outcome Plan)
     → Planned (planned s areas rows₀ columns₀) r rows₀ columns₀ rows columns
     → Planned (planned s areas rows₀ columns₀) r rows₀ columns₀ rows columns
     × (CoversPairs r s areas rows columns × (FewestPlan r s areas rows columns × LargestPlan r s areas))

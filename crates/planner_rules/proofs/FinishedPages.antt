@@ -7,11 +7,10 @@ use Prim.Native.Nat.{ℕ, zero, suc, ◌≤◌, ◌<◌}
 use native.Mathlib.Omega.{arith}
 use lib.ListN.{length, drop, length-take}
 use borrow.Author.Tests.{le-leb}
-use Rattle.units.specs.Outcome.{given, refused}
+use Rattle.units.specs.Outcome.{Outcome, given, refused}
 use Rattle.planner_rules.specs.declared.pages.Page.{Page}
 use Rattle.planner_rules.specs.declared.pages.Plan.{Plan}
 use Rattle.planner_rules.specs.declared.planning.Areas.{Areas}
-use Rattle.planner_rules.specs.declared.planning.Planning.{Planning}
 use Rattle.planner_rules.specs.Areas.{plans_in, over_areas}
 use Rattle.planner_rules.specs.Pages.{pages_in, areas_pages, pages_of, holds_runs, numbered, page_numbered, list_pages, pages_lent}
 use Rattle.planner_rules.specs.Plan.{Sheet, Planned, planned}
@@ -80,7 +79,7 @@ module _ (plan : Plan) (rows columns : List ℕ) (held : holds_runs plan rows co
   }
 
 -- of a finished plan, with the lists of runs as the call left them
-pub finished_pages : (s : Sheet) (areas : Areas) (rows₀ columns₀ rows columns : List ℕ) (r : Planning)
+pub finished_pages : (s : Sheet) (areas : Areas) (rows₀ columns₀ rows columns : List ℕ) (r : Outcome Plan)
     → Planned (planned s areas rows₀ columns₀) r rows₀ columns₀ rows columns → (plan : Plan) → Finished r plan → SamePages plan rows columns
 finished_pages s areas rows₀ columns₀ rows columns r p plan f =
     let d = done s areas rows₀ columns₀ rows columns r p plan f in

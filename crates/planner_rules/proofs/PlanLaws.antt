@@ -16,10 +16,6 @@ use Rattle.planner_rules.specs.declared.planning.Areas.{Areas}
 use Rattle.planner_rules.specs.declared.planning.CountedAreas.{CountedAreas}
 use Rattle.planner_rules.specs.declared.planning.RunCounts.{RunCounts}
 use Rattle.planner_rules.specs.declared.planning.Shared.{Shared}
-use Rattle.planner_rules.specs.declared.planning.Planning.{Planning}
-use Rattle.planner_rules.specs.declared.planning.Planning.TheVariants.{Value, Refused}
-use Rattle.planner_rules.specs.declared.planning.Writing.{Writing}
-use Rattle.planner_rules.specs.declared.planning.Writing.TheVariants as writing
 use Rattle.planner_rules.specs.Slots.{Slots, written}
 use Rattle.planner_rules.specs.Questions.{ask, no_or, equally_long, all_ordered, all_within, rising_within, all_small}
 use Rattle.planner_rules.specs.Areas.{eight_ranges, areas_in, no_range, one_to_eight, every_area, upright, inside_grid, over_areas}
@@ -237,33 +233,33 @@ module _ (s : Sheet) (areas : Areas) (y : Yes s areas) where
 
 -- ---- the answers and the lent lists
 
-pub refuses_plan : (o : Outcome Layout) (n : ℕ) (rows columns : List ℕ) → o ≡ refused n → Planned o (Refused n) rows columns rows columns
+pub refuses_plan : (o : Outcome Layout) (n : ℕ) (rows columns : List ℕ) → o ≡ refused n → Planned o (refused n) rows columns rows columns
 refuses_plan o n rows columns e = rw e (record { answer = refl; rows_are = refl; columns_are = refl })
 
 module _ (o : Outcome Layout) (l : Layout) (p : Plan) (e : o ≡ given l) (q : p ≡ l.plan) where
   pub answers_plan : (rows₀ columns₀ rows columns : List ℕ) → rows ≡ written (flat l.rows) rows₀ → columns ≡ written (flat l.columns) columns₀
-      → Planned o (Value p) rows₀ columns₀ rows columns
+      → Planned o (given p) rows₀ columns₀ rows columns
   answers_plan rows₀ columns₀ rows columns v w = rw e (record { answer = ap (λ (x : Plan). given x) q; rows_are = v; columns_are = w })
 
-  pub answers_count : Counted o (Value p)
+  pub answers_count : Counted o (given p)
   answers_count = rw e (ap (λ (x : Plan). given x) q)
 
-pub refuses_count : (o : Outcome Layout) (n : ℕ) → o ≡ refused n → Counted o (Refused n)
+pub refuses_count : (o : Outcome Layout) (n : ℕ) → o ≡ refused n → Counted o (refused n)
 refuses_count o n e = rw e
 
-pub refuses_area : (o : Outcome AreaLayout) (n : ℕ) (rows columns : List ℕ) → o ≡ refused n → AreaWrote o (writing.Refused n) rows columns rows columns
+pub refuses_area : (o : Outcome AreaLayout) (n : ℕ) (rows columns : List ℕ) → o ≡ refused n → AreaWrote o (refused n) rows columns rows columns
 refuses_area o n rows columns e = rw e (record { answer = refl; rows_are = refl; columns_are = refl })
 
 pub answers_area : (o : Outcome AreaLayout) (l : AreaLayout) (k : RunCounts) → o ≡ given l → k ≡ counts_of l → (rows₀ columns₀ rows columns : List ℕ)
-    → rows ≡ written (flat l.rows) rows₀ → columns ≡ written (flat l.columns) columns₀ → AreaWrote o (writing.Value k) rows₀ columns₀ rows columns
+    → rows ≡ written (flat l.rows) rows₀ → columns ≡ written (flat l.columns) columns₀ → AreaWrote o (given k) rows₀ columns₀ rows columns
 answers_area o l k e q rows₀ columns₀ rows columns v w = rw e (record { answer = ap (λ (x : RunCounts). given x) q; rows_are = v; columns_are = w })
 
 -- what is answered of an outcome is answered of the same
-pub relay_plan : (o q : Outcome Layout) (r : Planning) (rows₀ columns₀ rows columns : List ℕ) → o ≡ q → Planned o r rows₀ columns₀ rows columns
+pub relay_plan : (o q : Outcome Layout) (r : Outcome Plan) (rows₀ columns₀ rows columns : List ℕ) → o ≡ q → Planned o r rows₀ columns₀ rows columns
     → Planned q r rows₀ columns₀ rows columns
 relay_plan o q r rows₀ columns₀ rows columns e w = subst (λ (x : Outcome Layout). Planned x r rows₀ columns₀ rows columns) e w
 
-pub relay_area : (o q : Outcome AreaLayout) (r : Writing) (rows₀ columns₀ rows columns : List ℕ) → o ≡ q → AreaWrote o r rows₀ columns₀ rows columns
+pub relay_area : (o q : Outcome AreaLayout) (r : Outcome RunCounts) (rows₀ columns₀ rows columns : List ℕ) → o ≡ q → AreaWrote o r rows₀ columns₀ rows columns
     → AreaWrote q r rows₀ columns₀ rows columns
 relay_area o q r rows₀ columns₀ rows columns e w = subst (λ (x : Outcome AreaLayout). AreaWrote x r rows₀ columns₀ rows columns) e w
 

@@ -14,6 +14,9 @@ use lib.ListN.{length, get_or, drop}
 use borrow.Author.Tests.{le-leb, lt-leb, leb-true, ltb-true}
 use Rattle.planner_rules.specs.Slots.{Slots}
 use Rattle.units.specs.Outcome.{Outcome, refused}
+use Rattle.units.specs.Refusals.{number_of}
+use Rattle.units.specs.declared.refusal.Refusal.{Refusal}
+use Rattle.units.specs.declared.refusal.Refusal.TheVariants as no
 use Rattle.planner_rules.specs.Questions.{ask, no_or, all_ordered, all_within, rising, rising_within, all_small}
 use Rattle.planner_rules.proofs.Laws.{drop_back}
 
@@ -29,15 +32,33 @@ pub asked_yes : (n : ℕ) (b : Bool) (k : ℕ) → 0 < n → 0 ≡ no_or n b k �
 asked_yes n true k p e = (refl, e)
 asked_yes n false k p e = absurd (omega arith)
 
--- a first no stays the first, whatever is asked after the questions that were asked
-pub no_stays : (n : ℕ) (b : Bool) (k more : ℕ) → (0 < k → k ≡ more) → 0 < no_or n b k → no_or n b k ≡ no_or n b more
-no_stays n true k more f h = f h
-no_stays n false k more f h = refl
+-- no refusal has the number 0
+pub positive : (r : Refusal) → 0 < number_of r
+positive no.TooManyBytes = omega arith
+positive no.BrokenRecord = omega arith
+positive no.EndNotLast = omega arith
+positive no.MisplacedRecord = omega arith
+positive no.BadFlag = omega arith
+positive no.MalformedLists = omega arith
+positive no.OutsideGrid = omega arith
+positive no.IndexesNotRising = omega arith
+positive no.SizeOutOfRange = omega arith
+positive no.CoordinateOverflow = omega arith
+positive no.ListTooShort = omega arith
+positive no.TooManyPages = omega arith
+positive no.PageListTooShort = omega arith
+positive no.NoSuchNumber = omega arith
+positive no.TooManyCells = omega arith
 
--- and where there was none, what is asked after them decides
-pub yes_then : (n : ℕ) (b : Bool) (k more rest : ℕ) → 0 < n → (k ≡ 0 → rest ≡ more) → no_or n b k ≡ 0 → rest ≡ no_or n b more
-yes_then n true k more rest p f e = f e
-yes_then n false k more rest p f e = absurd (omega arith)
+-- one question that was refused: its answer is no, and the refusal has its number
+pub said_no : (n : ℕ) (b : Bool) (r : Refusal) → number_of r ≡ no_or n b 0 → (b ≡ false) × (number_of r ≡ n)
+said_no n true r e = absurd (omega (arith, positive r))
+said_no n false r e = (refl, e)
+
+-- one that was not
+pub said_yes : (n : ℕ) (b : Bool) → 0 < n → 0 ≡ no_or n b 0 → b ≡ true
+said_yes n true p e = refl
+said_yes n false p e = absurd (omega arith)
 
 -- no number refuses nothing
 pub no_number : {A : Type 0} (o : Outcome A) → 0 < 0 → o ≡ refused 0

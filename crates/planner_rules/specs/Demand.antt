@@ -1,7 +1,7 @@
 -- Demand 3 of the plan call, area by area (document 02, T-02): what is found in a plan and in the run lists after the call, and what was done
 -- to choose each fit scale. Nothing here says how runs are found or how a permille is searched. Assumes nothing.
 use Rattle.std.specs.Prelude.{◌≡◌, true, List, [], ℕ, ◌+◌, ◌-◌, ◌≤◌, ◌<◌, ℤ, pos, length, take}
-use Rattle.units.specs.Outcome.{given}
+use Rattle.units.specs.Outcome.{Outcome, given}
 use Rattle.units.specs.Units.{unscaled_capacity}
 use Rattle.planner_rules.specs.declared.titles.Title.TheVariants.{Absent}
 use Rattle.planner_rules.specs.declared.pages.Page.{Page}
@@ -9,18 +9,17 @@ use Rattle.planner_rules.specs.declared.pages.AreaPlan.{AreaPlan}
 use Rattle.planner_rules.specs.declared.pages.Plan.{Plan}
 use Rattle.planner_rules.specs.declared.planning.PrintRange.{PrintRange}
 use Rattle.planner_rules.specs.declared.planning.Areas.{Areas}
-use Rattle.planner_rules.specs.declared.planning.Planning.{Planning}
 use Rattle.planner_rules.specs.Scale.{units}
 use Rattle.planner_rules.specs.Lent.{runs_in, firsts, lasts, sizes}
 use Rattle.planner_rules.specs.Areas.{areas_in, plans_in, over_areas}
 use Rattle.planner_rules.specs.Pages.{numbered, pages_in, row_runs, column_runs, after_runs, page_numbered}
-use Rattle.planner_rules.specs.Plan.{AxisInput, Sheet, Sides, rows_in, columns_in, title_of, start_of, body_part, content_sides, plan_outcome}
+use Rattle.planner_rules.specs.Plan.{AxisInput, Sheet, Sides, rows_in, columns_in, title_of, start_of, body_part, content_sides}
 use Rattle.planner_rules.specs.Division.{◌∈◌, kept_breaks, FewestRuns}
 use Rattle.planner_rules.specs.Fitting.{Reaches, Chosen}
 
 -- "a finished plan is one not refused"
-abbrev pub Finished : Planning → Plan → Type 0
-Finished r plan = plan_outcome r ≡ given plan
+abbrev pub Finished : Outcome Plan → Plan → Type 0
+Finished r plan = r ≡ given plan
 
 -- ---- areas, by their numbers from 1
 
@@ -82,7 +81,7 @@ pub record OnOnePage (plan : Plan) (n : ℕ) (rows columns : List ℕ) (row colu
 
 -- "Found in every finished plan, whatever its merges, titles and breaks: each pair of a body row and a body column on exactly one page", of each
 -- area "for that area's body and its own pages alone; so a pair in the bodies of two areas is on one page of each"
-pub record CoversPairs (r : Planning) (s : Sheet) (areas : Areas) (rows columns : List ℕ) : Type 0 where
+pub record CoversPairs (r : Outcome Plan) (s : Sheet) (areas : Areas) (rows columns : List ℕ) : Type 0 where
   pub covered : (plan : Plan) → Finished r plan → (n : ℕ) (g : PrintRange) → IsArea areas n g
       → (row column : ℕ) → IsBody (rows_in s g) row → IsBody (columns_in s g) column → CameTo plan n (OnOnePage plan n rows columns row column)
 
@@ -115,7 +114,7 @@ FewestOnAxis side permille a n list =
     (firsts (runs_in n list)) (lasts (runs_in n list)) (sizes (runs_in n list))
 
 -- "Found where no merges or titles exist, on each axis": of each axis of each area for itself, whatever the other has
-pub record FewestPlan (r : Planning) (s : Sheet) (areas : Areas) (rows columns : List ℕ) : Type 0 where
+pub record FewestPlan (r : Outcome Plan) (s : Sheet) (areas : Areas) (rows columns : List ℕ) : Type 0 where
   pub on_rows : (plan : Plan) → Finished r plan → (c : Sides) → content_sides s.settings ≡ given c
       → (n : ℕ) (g : PrintRange) → IsArea areas n g → Bare (rows_in s g)
       → CameTo plan n (λ (a : AreaPlan). FewestOnAxis c.height a.permille (rows_in s g) a.row_runs (rows_from plan n rows))
@@ -139,7 +138,7 @@ EachReaches a b height width permille =
 -- each axis has [such a division]; 'unreachable' was noted, once, exactly if 100 is no such permille, and then 100 was taken." One permille
 -- is taken for both axes of an area, so that neither may have merges or a title. "Demand 3, the unreachable note included, holds area by area":
 -- the note is of how many areas it was noted.
-pub record LargestPlan (r : Planning) (s : Sheet) (areas : Areas) : Type 0 where
+pub record LargestPlan (r : Outcome Plan) (s : Sheet) (areas : Areas) : Type 0 where
   pub largest : (plan : Plan) → Finished r plan → (c : Sides) → content_sides s.settings ≡ given c
       → (n : ℕ) (g : PrintRange) → IsArea areas n g → Bare (rows_in s g) → Bare (columns_in s g) → s.settings.fit ≡ true
       → (height width : ℕ) → Exceeds c.height (rows_in s g) height → Exceeds c.width (columns_in s g) width

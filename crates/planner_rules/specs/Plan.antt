@@ -21,14 +21,10 @@ use Rattle.planner_rules.specs.declared.planning.Areas.{Areas}
 use Rattle.planner_rules.specs.declared.planning.AreaNotes.{AreaNotes}
 use Rattle.planner_rules.specs.declared.planning.CountedArea.{CountedArea}
 use Rattle.planner_rules.specs.declared.planning.RunCounts.{RunCounts}
-use Rattle.planner_rules.specs.declared.planning.Writing.{Writing}
-use Rattle.planner_rules.specs.declared.planning.Writing.TheVariants as writing
 use Rattle.planner_rules.specs.declared.planning.AxisRange.{AxisRange}
 use Rattle.planner_rules.specs.declared.planning.Ready.{Ready}
 use Rattle.planner_rules.specs.declared.planning.FinalCut.{FinalCut}
 use Rattle.planner_rules.specs.declared.planning.ContentSides.{ContentSides}
-use Rattle.planner_rules.specs.declared.planning.Planning.{Planning}
-use Rattle.planner_rules.specs.declared.planning.Planning.TheVariants.{Value, Refused}
 use Rattle.planner_rules.specs.Slots.{Slots, below, mid}
 use Rattle.planner_rules.specs.Questions.{ask, equally_long, all_ordered, all_within, rising_within, all_small, no_or}
 use Rattle.planner_rules.specs.Areas.{areas_in, one_to_eight, every_area, upright, inside_grid, held_plans, over_areas}
@@ -412,16 +408,6 @@ unfoldable pub area_written : Sheet → Areas → ℕ → ℕ → List ℕ → L
 unfolding questioned numbered_area
 area_written s areas n p lent_rows lent_columns = questioned s areas (λ (c : Sides). numbered_area c s areas n p lent_rows lent_columns)
 
--- the value or the number that each case of `Planning` stands for
-abbrev pub plan_outcome : Planning → Outcome Plan
-plan_outcome (Value p) = given p
-plan_outcome (Refused n) = refused n
-
--- the value or the number that each case of `Writing` stands for
-abbrev pub writing_outcome : Writing → Outcome RunCounts
-writing_outcome (writing.Value n) = given n
-writing_outcome (writing.Refused n) = refused n
-
 -- the runs that were planned
 abbrev pub rows_planned : Outcome Layout → List Run
 rows_planned (given l) = l.rows
@@ -431,15 +417,15 @@ abbrev pub columns_planned : Outcome Layout → List Run
 columns_planned (given l) = l.columns
 columns_planned (refused n) = []
 
--- the answer and the lent lists of both axes, which were rows₀ and columns₀
-pub record Planned (o : Outcome Layout) (r : Planning) (rows₀ columns₀ rows columns : List ℕ) : Type 0 where
-  pub answer : plan_outcome r ≡ and_then o (λ (l : Layout). given l.plan)
+-- the plan or the number that was answered, and the lent lists of both axes, which were rows₀ and columns₀
+pub record Planned (o : Outcome Layout) (r : Outcome Plan) (rows₀ columns₀ rows columns : List ℕ) : Type 0 where
+  pub answer : r ≡ and_then o (λ (l : Layout). given l.plan)
   pub rows_are : rows ≡ lent o (flat (rows_planned o)) rows₀
   pub columns_are : columns ≡ lent o (flat (columns_planned o)) columns₀
 
 -- the answer of a call that counts
-abbrev pub Counted : Outcome Layout → Planning → Type 0
-Counted o r = plan_outcome r ≡ and_then o (λ (l : Layout). given l.plan)
+abbrev pub Counted : Outcome Layout → Outcome Plan → Type 0
+Counted o r = r ≡ and_then o (λ (l : Layout). given l.plan)
 
 -- the runs of an area that were written
 abbrev pub rows_written : Outcome AreaLayout → List Run
@@ -454,9 +440,9 @@ columns_written (refused n) = []
 abbrev pub counts_of : AreaLayout → RunCounts
 counts_of l = record { rows = length l.rows; columns = length l.columns }
 
--- the answer and the lent lists of a call that writes an area
-pub record AreaWrote (o : Outcome AreaLayout) (r : Writing) (rows₀ columns₀ rows columns : List ℕ) : Type 0 where
-  pub answer : writing_outcome r ≡ and_then o (λ (l : AreaLayout). given (counts_of l))
+-- the counts or the number that was answered, and the lent lists of a call that writes an area
+pub record AreaWrote (o : Outcome AreaLayout) (r : Outcome RunCounts) (rows₀ columns₀ rows columns : List ℕ) : Type 0 where
+  pub answer : r ≡ and_then o (λ (l : AreaLayout). given (counts_of l))
   pub rows_are : rows ≡ lent o (flat (rows_written o)) rows₀
   pub columns_are : columns ≡ lent o (flat (columns_written o)) columns₀
 

@@ -1,8 +1,10 @@
 -- What the private functions of the plan calls hand to each other: what all areas share, an area that is ready, counted areas, and runs that are
 -- written area by area. Assumes nothing.
-use Rattle.std.specs.Prelude.{◌≡◌, List, [], ◌++◌, map, ℕ, ◌+◌, ◌*◌, ◌^◌, ◌≤◌, ◌<◌, max, get_or, set, take, drop}
+use Rattle.std.specs.Prelude.{◌≡◌, Result, Ok, Err, List, [], ◌++◌, map, ℕ, ◌+◌, ◌*◌, ◌^◌, ◌≤◌, ◌<◌, max, get_or, set, take, drop}
 use Rattle.units.specs.Grid.{last_row, last_column}
 use Rattle.units.specs.Outcome.{Outcome, given, refused}
+use Rattle.units.specs.Refusals.{number_of}
+use Rattle.units.specs.declared.refusal.Refusal.{Refusal}
 use Rattle.units.specs.declared.Fixed.{Fixed}
 use Rattle.planner_rules.specs.declared.titles.Axis.TheVariants.{Rows, Columns}
 use Rattle.planner_rules.specs.declared.pages.AreaPlan.{AreaPlan}
@@ -18,8 +20,6 @@ use Rattle.planner_rules.specs.declared.planning.AreaNotes.{AreaNotes}
 use Rattle.planner_rules.specs.declared.planning.CountedArea.{CountedArea}
 use Rattle.planner_rules.specs.declared.planning.CountedAreas.{CountedAreas}
 use Rattle.planner_rules.specs.declared.planning.Shared.{Shared}
-use Rattle.planner_rules.specs.declared.planning.Prepared.{Prepared}
-use Rattle.planner_rules.specs.declared.planning.Prepared.TheVariants.{Value, Refused}
 use Rattle.planner_rules.specs.Slots.{Slots, Rising, below, written}
 use Rattle.planner_rules.specs.Areas.{eight_ranges, no_range, eight_plans, held_plans, over_areas}
 use Rattle.planner_rules.specs.Titles.{limit_of, widened, body_start, title_total}
@@ -85,9 +85,9 @@ pub record SharedBy (x : Shared) (s : Sheet) (areas : Areas) : Type 0 where
   pub settled : Settled x s
   pub fine : FineAreas areas
 
-abbrev pub IsPrepared : Prepared → Sheet → Areas → Type 0
-IsPrepared (Value x) s areas = SharedBy x s areas
-IsPrepared (Refused n) s areas = asked s areas ≡ refused n
+abbrev pub IsPrepared : Result Shared Refusal → Sheet → Areas → Type 0
+IsPrepared (Ok x) s areas = SharedBy x s areas
+IsPrepared (Err r) s areas = asked s areas ≡ refused (number_of r)
 
 -- ---- an area that is ready
 

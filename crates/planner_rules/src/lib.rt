@@ -14,8 +14,7 @@ pub use pages::{AreaPlan, AreaPlans, Notes, Page, PageOrder, PageRun, Place, Pla
 pub use partition::AxisSetup;
 pub use planning::{
     AreaNotes, Areas, AxisRange, ContentSides, CountedArea, CountedAreas, FinalCut, Frames,
-    Planning, Prepared, PrintRange, Ready, ReadyArea, ReadyTitle, Request, RunCounts, Settings,
-    Shared, Writing,
+    PrintRange, Ready, ReadyArea, ReadyTitle, Request, RunCounts, Settings, Shared,
 };
 pub use runs::{Cut, Frame, RUN_NUMBERS, RunEnd, Tally};
 pub use scale::{ChosenScale, Fit, PageSide, Stretch};

@@ -1,5 +1,5 @@
 // What the plan call takes and answers: document 01, sections "Scale" and "Pages".
-use crate::pages::{AreaPlan, AreaPlans, PageOrder, Plan};
+use crate::pages::{AreaPlan, AreaPlans, PageOrder};
 use crate::runs::Frame;
 use crate::scale::Fit;
 use crate::titles::Title;
@@ -54,25 +54,11 @@ pub struct Request {
     pub column_title: Title,
 }
 
-// What `plan_pages` and `count_pages` answer: the plan, or a refusal with its number.
-#[derive(Clone, Copy)]
-pub enum Planning {
-    Value(Plan),
-    Refused(u8),
-}
-
 // How many runs of rows and of columns.
 #[derive(Clone, Copy)]
 pub struct RunCounts {
     pub rows: usize,
     pub columns: usize,
-}
-
-// What `write_area` answers: how many runs it wrote, or a refusal with its number.
-#[derive(Clone, Copy)]
-pub enum Writing {
-    Value(RunCounts),
-    Refused(u8),
 }
 
 // An axis of an area, as the settings make it.
@@ -172,11 +158,4 @@ pub struct Shared {
     pub sides: ContentSides,
     pub rows: ReadyTitle,
     pub columns: ReadyTitle,
-}
-
-// What the questions before the runs come to: what all areas share, or a refusal with its number.
-#[derive(Clone, Copy)]
-pub enum Prepared {
-    Value(Shared),
-    Refused(u8),
 }

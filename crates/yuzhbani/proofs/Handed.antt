@@ -12,11 +12,8 @@ use Rattle.planner_rules.specs.declared.pages.Page.{Page}
 use Rattle.planner_rules.specs.declared.pages.Plan.{Plan}
 use Rattle.planner_rules.specs.declared.planning.Areas.{Areas}
 use Rattle.planner_rules.specs.declared.planning.RunCounts.{RunCounts}
-use Rattle.planner_rules.specs.declared.planning.Planning.{Planning}
-use Rattle.planner_rules.specs.declared.planning.Planning.TheVariants.{Value, Refused}
-use Rattle.planner_rules.specs.declared.planning.Writing.{Writing}
 use Rattle.planner_rules.specs.Pages.{page_numbered}
-use Rattle.planner_rules.specs.Plan.{Sheet, Layout, AreaLayout, Planned, Counted, AreaWrote, sheet_of, planned, plan_outcome, writing_outcome, counts_of}
+use Rattle.planner_rules.specs.Plan.{Sheet, Layout, AreaLayout, Planned, Counted, AreaWrote, sheet_of, planned, counts_of}
 use Rattle.planner_rules.specs.Demand.{CoversPairs, FewestPlan, LargestPlan}
 use Rattle.planner_rules.proofs.NoTen.{among, not_given, plan_numbers_lem}
 use Rattle.job.specs.PlanJob.{plan_job, count_job}
@@ -24,7 +21,7 @@ use Rattle.job.proofs.Refusals.{plan_refuses, count_refuses}
 use Rattle.job_report.specs.declared.blocks.Block.{Block}
 use Rattle.job_report.specs.Blocks.{block_of, block_pages, BlockPut}
 use Rattle.yuzhbani_answers.specs.Numbers.{plan_numbers, told}
-use Rattle.yuzhbani_answers.specs.Answers.{answer_to, answer_of, numbers_of, HadBack, PageHanded}
+use Rattle.yuzhbani_answers.specs.Answers.{answer_to, numbers_of, HadBack, PageHanded}
 use Rattle.planner_rules.specs.declared.planning.Request.{Request}
 use Rattle.yuzhbani.specs.Calls.{plan_in, CountHanded, PlanHanded, pair_in, AreaHanded, BlockHanded}
 
@@ -47,51 +44,51 @@ count_not_zero s e = never (sym (count_refuses s 0 e))
 
 -- ---- what was planned, by the answer and the numbers
 
-module _ (o : Outcome Layout) (p : Planning) (old : List ℕ) (e : plan_outcome p ≡ and_then o (λ (l : Layout). given l.plan)) where
-  answer_is : answer_of p ≡ answer_to o
+module _ (o : Outcome Layout) (p : Outcome Plan) (old : List ℕ) (e : p ≡ and_then o (λ (l : Layout). given l.plan)) where
+  answer_is : answer_to p ≡ answer_to o
   answer_is = go o p e
     where
-      go : (o : Outcome Layout) (p : Planning) → plan_outcome p ≡ and_then o (λ (l : Layout). given l.plan) → answer_of p ≡ answer_to o
-      go (given l) (Value v) e = refl
-      go (given l) (Refused n) e = absurd (not_given l.plan n (sym e))
-      go (refused n) (Value v) e = absurd (not_given v n e)
-      go (refused n) (Refused m) e = cc
+      go : (o : Outcome Layout) (p : Outcome Plan) → p ≡ and_then o (λ (l : Layout). given l.plan) → answer_to p ≡ answer_to o
+      go (given l) (given v) e = refl
+      go (given l) (refused n) e = absurd (not_given l.plan n (sym e))
+      go (refused n) (given v) e = absurd (not_given v n e)
+      go (refused n) (refused m) e = cc
 
   numbers_are : numbers_of p old ≡ plan_in o old
   numbers_are = go o p e
     where
-      go : (o : Outcome Layout) (p : Planning) → plan_outcome p ≡ and_then o (λ (l : Layout). given l.plan) → numbers_of p old ≡ plan_in o old
-      go (given l) (Value v) e = let same : v ≡ l.plan = cc in ap plan_numbers same
-      go (given l) (Refused n) e = absurd (not_given l.plan n (sym e))
-      go (refused n) (Value v) e = absurd (not_given v n e)
-      go (refused n) (Refused m) e = refl
+      go : (o : Outcome Layout) (p : Outcome Plan) → p ≡ and_then o (λ (l : Layout). given l.plan) → numbers_of p old ≡ plan_in o old
+      go (given l) (given v) e = let same : v ≡ l.plan = cc in ap plan_numbers same
+      go (given l) (refused n) e = absurd (not_given l.plan n (sym e))
+      go (refused n) (given v) e = absurd (not_given v n e)
+      go (refused n) (refused m) e = refl
 
-  told_is : (o ≡ refused 0 → ⊥) → HadBack p → told (answer_of p) (numbers_of p old) ≡ p
+  told_is : (o ≡ refused 0 → ⊥) → HadBack p → told (answer_to p) (numbers_of p old) ≡ p
   told_is never back = go o p e never back
     where
-      go : (o : Outcome Layout) (p : Planning) → plan_outcome p ≡ and_then o (λ (l : Layout). given l.plan) → (o ≡ refused 0 → ⊥)
-          → HadBack p → told (answer_of p) (numbers_of p old) ≡ p
-      go o (Value v) e never back = ap Value back
-      go (given l) (Refused n) e never back = absurd (not_given l.plan n (sym e))
-      go (refused n) (Refused zero) e never back = let same : n ≡ 0 = cc in absurd (never (ap refused same))
-      go (refused n) (Refused (suc m)) e never back = refl
+      go : (o : Outcome Layout) (p : Outcome Plan) → p ≡ and_then o (λ (l : Layout). given l.plan) → (o ≡ refused 0 → ⊥)
+          → HadBack p → told (answer_to p) (numbers_of p old) ≡ p
+      go o (given v) e never back = ap (λ (q : Plan). given q) back
+      go (given l) (refused n) e never back = absurd (not_given l.plan n (sym e))
+      go (refused n) (refused zero) e never back = let same : n ≡ 0 = cc in absurd (never (ap refused same))
+      go (refused n) (refused (suc m)) e never back = refl
 
 -- what put the numbers
-abbrev Put : Planning → List ℕ → ℕ → List ℕ → Type 0
-Put p old r numbers = (r ≡ answer_of p) × ((numbers ≡ numbers_of p old) × HadBack p)
+abbrev Put : Outcome Plan → List ℕ → ℕ → List ℕ → Type 0
+Put p old r numbers = (r ≡ answer_to p) × ((numbers ≡ numbers_of p old) × HadBack p)
 
-pub count_handed : (o : Outcome Layout) → (o ≡ refused 0 → ⊥) → (p : Planning) (old : List ℕ) (r : ℕ) (numbers : List ℕ) → Counted o p
+pub count_handed : (o : Outcome Layout) → (o ≡ refused 0 → ⊥) → (p : Outcome Plan) (old : List ℕ) (r : ℕ) (numbers : List ℕ) → Counted o p
     → Put p old r numbers → CountHanded o r old numbers × (told r numbers ≡ p)
 count_handed o never p old r numbers e (a, (n, back)) =
     let t : told r numbers ≡ p = ap₂ told a n ∙ told_is o p old e never back in
-    (record { answer = a ∙ answer_is o p old e; numbers_are = n ∙ numbers_are o p old e; stands = ap plan_outcome t ∙ e }, t)
+    (record { answer = a ∙ answer_is o p old e; numbers_are = n ∙ numbers_are o p old e; stands = t ∙ e }, t)
 
 -- the three sentences of demand 3, of a planning
-abbrev Demands : Planning → Sheet → Areas → List ℕ → List ℕ → Type 0
+abbrev Demands : Outcome Plan → Sheet → Areas → List ℕ → List ℕ → Type 0
 Demands p s areas rows columns = CoversPairs p s areas rows columns × (FewestPlan p s areas rows columns × LargestPlan p s areas)
 
 -- the clauses of a call that hands a plan over, of those of the call that plans
-pub handed : (o : Outcome Layout) → (o ≡ refused 0 → ⊥) → (s : Sheet) (areas : Areas) (rows₀ columns₀ rows columns : List ℕ) (p : Planning)
+pub handed : (o : Outcome Layout) → (o ≡ refused 0 → ⊥) → (s : Sheet) (areas : Areas) (rows₀ columns₀ rows columns : List ℕ) (p : Outcome Plan)
     (old : List ℕ) (r : ℕ) (numbers : List ℕ)
     → Planned o p rows₀ columns₀ rows columns × Demands p s areas rows columns
     → Put p old r numbers
@@ -103,7 +100,7 @@ handed o never s areas rows₀ columns₀ rows columns p old r numbers w put =
 -- ---- what is asked by numbers
 
 -- the clauses of the planner, of the same that is asked
-pub request_same : {a b : Request} → a ≡ b → (ri rz ci cz fr fc lr lc rb cb : List ℕ) (rows₀ columns₀ rows columns : List ℕ) (p : Planning)
+pub request_same : {a b : Request} → a ≡ b → (ri rz ci cz fr fc lr lc rb cb : List ℕ) (rows₀ columns₀ rows columns : List ℕ) (p : Outcome Plan)
     → (let s = sheet_of a.settings a.row_title a.column_title ri rz ci cz fr fc lr lc rb cb in
     Planned (planned s a.areas rows₀ columns₀) p rows₀ columns₀ rows columns × Demands p s a.areas rows columns)
     → (let s = sheet_of b.settings b.row_title b.column_title ri rz ci cz fr fc lr lc rb cb in
@@ -123,9 +120,9 @@ module _ {A B : Type 0} (f : A → B) where
   pair_after g h (given a) old = refl
   pair_after g h (refused n) old = refl
 
-pub area_handed : (o : Outcome AreaLayout) (w : Writing) (rows₀ columns₀ rows columns : List ℕ) → AreaWrote o w rows₀ columns₀ rows columns
-    → (r : ℕ) (counts₀ counts : List ℕ) → r ≡ answer_to (writing_outcome w)
-    → counts ≡ pair_in (λ (n : RunCounts). n.rows) (λ (n : RunCounts). n.columns) (writing_outcome w) counts₀
+pub area_handed : (o : Outcome AreaLayout) (w : Outcome RunCounts) (rows₀ columns₀ rows columns : List ℕ) → AreaWrote o w rows₀ columns₀ rows columns
+    → (r : ℕ) (counts₀ counts : List ℕ) → r ≡ answer_to w
+    → counts ≡ pair_in (λ (n : RunCounts). n.rows) (λ (n : RunCounts). n.columns) w counts₀
     → AreaHanded o r counts₀ counts rows₀ columns₀ rows columns
 area_handed o w rows₀ columns₀ rows columns v r counts₀ counts i j = record {
   answer = i ∙ ap answer_to v.answer ∙ answer_after counts_of o;

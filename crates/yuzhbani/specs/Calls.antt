@@ -4,7 +4,7 @@ use Rattle.units.specs.Outcome.{Outcome, given, refused, and_then}
 use Rattle.planner_rules.specs.declared.pages.Page.{Page}
 use Rattle.planner_rules.specs.Lent.{flat}
 use Rattle.planner_rules.specs.Partition.{lent}
-use Rattle.planner_rules.specs.Plan.{Layout, AreaLayout, rows_planned, columns_planned, rows_written, columns_written, plan_outcome}
+use Rattle.planner_rules.specs.Plan.{Layout, AreaLayout, rows_planned, columns_planned, rows_written, columns_written}
 use Rattle.job_report.specs.Blocks.{block_of, lines_lent}
 use Rattle.yuzhbani_answers.specs.Numbers.{plan_numbers, told}
 use Rattle.yuzhbani_answers.specs.Answers.{answer_to}
@@ -21,7 +21,7 @@ pub record CountHanded (o : Outcome Layout) (r : ℕ) (old numbers : List ℕ) :
   pub answer : r ≡ answer_to o
   pub numbers_are : numbers ≡ plan_in o old
   -- the other calls, which are handed r and these numbers, speak of the plan that was planned
-  pub stands : plan_outcome (told r numbers) ≡ and_then o (λ (l : Layout). given l.plan)
+  pub stands : told r numbers ≡ and_then o (λ (l : Layout). given l.plan)
 
 -- the same of a call that plans, and the lent lists of both axes, which were rows₀ and columns₀
 pub record PlanHanded (o : Outcome Layout) (r : ℕ) (old numbers : List ℕ) (rows₀ columns₀ rows columns : List ℕ) : Type 0 where

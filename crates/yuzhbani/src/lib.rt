@@ -7,7 +7,7 @@ ghost use Rattle.std.specs.Prelude.{◌≡◌};
 ghost use Rattle.units.specs.Refusals.{outcome};
 ghost use Rattle.planner_rules.specs.Questions.{ask};
 ghost use Rattle.planner_rules.specs.Pages.{page_numbered};
-ghost use Rattle.planner_rules.specs.Plan.{planned, plan_outcome, writing_outcome};
+ghost use Rattle.planner_rules.specs.Plan.{planned};
 ghost use Rattle.planner_rules.specs.Demand.{CoversPairs, FewestPlan, LargestPlan};
 ghost use Rattle.planner_rules.specs.declared.planning.RunCounts.{RunCounts};
 ghost use Rattle.job.specs.PlanJob as job;
@@ -20,10 +20,10 @@ ghost use Rattle.yuzhbani_request.specs.Request.{sheet_requested, areas_from, ar
 ghost use Rattle.yuzhbani.specs.Calls as calls;
 
 use job::{count_job, plan_job, write_job_area};
-use job_report::{Block, area_block, area_line, head_lines};
+use job_report::{Block, area_block, area_line, head_lines, refusal_line};
 use planner::plan_pages;
 use planner_pages::page_numbered;
-use planner_rules::{AxisLists, MergeList, SheetLists, SlotList, Writing};
+use planner_rules::{AxisLists, MergeList, RunCounts, SheetLists, SlotList};
 use units::Refusal;
 use yuzhbani_answers::{plan_from, put_page, put_planning, told};
 use yuzhbani_request::{areas_counted, flags_hold, request_from};
@@ -65,17 +65,17 @@ pub extern "C" fn yuzhbani_count(bytes: &[u8], numbers: &mut [u64; 60]) -> u8
 }
 
 // Puts how many runs were written, or nothing, and answers 0, or the number of the refusal.
-fn put_counts(writing: Writing, counts: &mut [u64; 2]) -> u8
-    ensures value { result ≡ answer_to (writing_outcome writing) }
+fn put_counts(writing: Result<RunCounts, Refusal>, counts: &mut [u64; 2]) -> u8
+    ensures value { result ≡ answer_to (outcome writing) }
     ensures counts_after { counts.new
-        ≡ calls.pair_in (λ (n : RunCounts). n.rows) (λ (n : RunCounts). n.columns) (writing_outcome writing) counts.old }
+        ≡ calls.pair_in (λ (n : RunCounts). n.rows) (λ (n : RunCounts). n.columns) (outcome writing) counts.old }
 {
     match writing {
-        Writing::Value(wrote) => {
+        Ok(wrote) => {
             *counts = [wrote.rows as u64, wrote.columns as u64];
             0
         }
-        Writing::Refused(number) => number,
+        Err(refusal) => refusal.number(),
     }
 }
 
@@ -200,11 +200,13 @@ pub extern "C" fn yuzhbani_page(
 // of `out`; it answers how many bytes.
 #[unsafe(no_mangle)]
 pub extern "C" fn yuzhbani_head(answer: u8, numbers: &[u64; 60], out: &mut [u8; 256]) -> usize
-    ensures { LinesPut (head_lines (plan_outcome (section.told answer numbers.now)))
+    ensures { LinesPut (head_lines (section.told answer numbers.now))
         result out.old out.new }
 {
-    let planning = told(answer, numbers);
-    head_lines(planning, out)
+    match told(answer, numbers) {
+        Ok(plan) => head_lines(Ok(plan), out),
+        Err(number) => refusal_line(number, out),
+    }
 }
 
 // The line before the pages of a later area, by its number from 1 and its permille, at the start of `out`; it answers how many bytes.

@@ -8,6 +8,7 @@ use native.Mathlib.Omega.{arith}
 use lib.ListN.{get_or, replicate}
 use borrow.Author.Tests.{lt-ltb, le-ltb}
 use mir.Val.{bool_byte}
+use Rattle.units.specs.Outcome.{given, refused}
 use Rattle.planner_rules.specs.declared.pages.Page.{Page}
 use Rattle.std.specs.Prelude.{Result, Ok, Err}
 use Rattle.units.specs.Refusals.{number_of, outcome}
@@ -17,7 +18,6 @@ use Rattle.planner_rules.specs.declared.pages.PageOrder.TheVariants.{DownThenOve
 use Rattle.planner_rules.specs.declared.pages.AreaPlan.{AreaPlan}
 use Rattle.planner_rules.specs.declared.pages.AreaPlans.{AreaPlans}
 use Rattle.planner_rules.specs.declared.pages.Plan.{Plan}
-use Rattle.planner_rules.specs.declared.planning.Planning.TheVariants.{Value, Refused}
 use Rattle.planner_rules.specs.Areas.{eight_plans, no_plan}
 use Rattle.yuzhbani_answers.specs.Numbers.{
   bit,
@@ -98,15 +98,6 @@ when_set n a b h = rw (lt-ltb 0 n h)
 
 pub when_not : {A : Type 0} (n : ℕ) (a b : A) → n ≤ 0 → b ≡ cond (is_set n) a b
 when_not n a b h = rw (le-ltb 0 n h)
-
--- an answer above 0, and 0
-pub told_refused : (n : ℕ) (ns : List ℕ) → 0 < n → Refused n ≡ told n ns
-told_refused zero ns h = absurd (omega arith)
-told_refused (suc n) ns h = refl
-
-pub told_plan : (n : ℕ) (ns : List ℕ) (p : Plan) → n ≤ 0 → p ≡ plan_from ns → Value p ≡ told n ns
-told_plan zero ns p h e = ap Value e
-told_plan (suc n) ns p h e = absurd (omega arith)
 
 -- the two answers of a page call
 pub page_put : (a : Result Page Refusal) (p : Page) (old ns : List ℕ) → a ≡ Ok p → ns ≡ page_numbers p → PageHanded (outcome a) 0 old ns

@@ -1,9 +1,8 @@
 -- The answer of a call, 0 or the number of a refusal, and the array that is lent for its numbers. Assumes nothing.
-use Rattle.std.specs.Prelude.{◌≡◌, List, ℕ}
+use Rattle.std.specs.Prelude.{◌≡◌, List, ℕ, Result, Ok, Err}
 use Rattle.units.specs.Outcome.{Outcome, given, refused}
 use Rattle.planner_rules.specs.declared.pages.Page.{Page}
-use Rattle.planner_rules.specs.declared.planning.Planning.{Planning}
-use Rattle.planner_rules.specs.declared.planning.Planning.TheVariants.{Value, Refused}
+use Rattle.planner_rules.specs.declared.pages.Plan.{Plan}
 use Rattle.yuzhbani_answers.specs.Numbers.{plan_numbers, page_numbers, plan_from}
 
 -- 0 where a value was given, else "the number" of the "no"
@@ -25,17 +24,17 @@ pub record PageHanded (o : Outcome Page) (r : ℕ) (old numbers : List ℕ) : Ty
 
 -- ---- of a plan call
 
--- 0, or the number of the refusal
-abbrev pub answer_of : Planning → ℕ
-answer_of (Value p) = 0
-answer_of (Refused n) = n
-
 -- the sixty numbers of a plan, or those that stood there
-abbrev pub numbers_of : Planning → List ℕ → List ℕ
-numbers_of (Value p) old = plan_numbers p
-numbers_of (Refused n) old = old
+abbrev pub numbers_of : Outcome Plan → List ℕ → List ℕ
+numbers_of (given p) old = plan_numbers p
+numbers_of (refused n) old = old
 
 -- a plan is had back from its numbers
-abbrev pub HadBack : Planning → Type 0
-HadBack (Value p) = plan_from (plan_numbers p) ≡ p
-HadBack (Refused n) = Unit {0}
+abbrev pub HadBack : Outcome Plan → Type 0
+HadBack (given p) = plan_from (plan_numbers p) ≡ p
+HadBack (refused n) = Unit {0}
+
+-- what an answer stands for that a host told by its number: any number, of a question or not
+abbrev pub by_number : Result Plan ℕ → Outcome Plan
+by_number (Ok p) = given p
+by_number (Err n) = refused n

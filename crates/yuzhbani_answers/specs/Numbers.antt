@@ -1,13 +1,12 @@
 -- A plan and a page as numbers, for a caller in another language. Assumes nothing.
 use Rattle.std.specs.Prelude.{◌≡◌, Bool, cond, List, [], ◌∷◌, ◌++◌, ℕ, zero, suc, ◌+◌, ◌*◌, ◌<◌, min, ltb, get_or, set}
+use Rattle.units.specs.Outcome.{Outcome, given, refused}
 use Rattle.planner_rules.specs.declared.pages.PageOrder.{PageOrder}
 use Rattle.planner_rules.specs.declared.pages.PageOrder.TheVariants.{DownThenOver, OverThenDown}
 use Rattle.planner_rules.specs.declared.pages.Page.{Page}
 use Rattle.planner_rules.specs.declared.pages.AreaPlan.{AreaPlan}
 use Rattle.planner_rules.specs.declared.pages.AreaPlans.{AreaPlans}
 use Rattle.planner_rules.specs.declared.pages.Plan.{Plan}
-use Rattle.planner_rules.specs.declared.planning.Planning.{Planning}
-use Rattle.planner_rules.specs.declared.planning.Planning.TheVariants.{Value, Refused}
 use Rattle.planner_rules.specs.Areas.{eight_plans, no_plan}
 
 -- ---- to numbers
@@ -100,9 +99,9 @@ plan_from ns = record {
 }
 
 -- what an answer and sixty numbers stand for: 0 is a plan, any other number a refusal
-abbrev pub told : ℕ → List ℕ → Planning
-told zero ns = Value (plan_from ns)
-told (suc n) ns = Refused (suc n)
+abbrev pub told : ℕ → List ℕ → Outcome Plan
+told zero ns = given (plan_from ns)
+told (suc n) ns = refused (suc n)
 
 -- ---- for the private functions
 

@@ -4,10 +4,10 @@
 ghost use Rattle.std.specs.Prelude.{◌≡◌, ◌≤◌, min};
 ghost use Rattle.units.specs.Refusals.{outcome};
 ghost use Rattle.yuzhbani_answers.specs.Numbers as section;
-ghost use Rattle.yuzhbani_answers.specs.Answers.{answer_of, numbers_of, HadBack, PageHanded};
+ghost use Rattle.yuzhbani_answers.specs.Answers.{answer_to, numbers_of, HadBack, PageHanded, by_number};
 
 use planner_areas::plan_at;
-use planner_rules::{AreaPlan, AreaPlans, Notes, Page, PageOrder, Plan, Planning};
+use planner_rules::{AreaPlan, AreaPlans, Notes, Page, PageOrder, Plan};
 use units::Refusal;
 
 fn order_number(order: PageOrder) -> u64
@@ -92,17 +92,17 @@ fn put_plan(numbers: &mut [u64; 60], plan: Plan)
 
 // The answer of a plan call; the numbers of its plan are put, or nothing.
 #[inline(always)]
-pub fn put_planning(planning: Planning, numbers: &mut [u64; 60]) -> u8
-    ensures value { result ≡ answer_of planning }
-    ensures numbers_after { numbers.new ≡ numbers_of planning numbers.old }
-    ensures had_back { HadBack planning }
+pub fn put_planning(planning: Result<Plan, Refusal>, numbers: &mut [u64; 60]) -> u8
+    ensures value { result ≡ answer_to (outcome planning) }
+    ensures numbers_after { numbers.new ≡ numbers_of (outcome planning) numbers.old }
+    ensures had_back { HadBack (outcome planning) }
 {
     match planning {
-        Planning::Value(plan) => {
+        Ok(plan) => {
             put_plan(numbers, plan);
             0
         }
-        Planning::Refused(number) => number,
+        Err(refusal) => refusal.number(),
     }
 }
 
@@ -160,14 +160,14 @@ pub fn plan_from(numbers: &[u64; 60]) -> Plan
     }
 }
 
-// What an answer and sixty numbers stand for.
-pub fn told(answer: u8, numbers: &[u64; 60]) -> Planning
-    ensures { result ≡ section.told answer numbers.now }
+// What an answer and sixty numbers stand for. A refusal stays the number it is: the C interface takes any, and not each is a question's.
+pub fn told(answer: u8, numbers: &[u64; 60]) -> Result<Plan, u8>
+    ensures { by_number result ≡ section.told answer numbers.now }
 {
     if answer > 0 {
-        return Planning::Refused(answer);
+        return Err(answer);
     }
-    Planning::Value(plan_from(numbers))
+    Ok(plan_from(numbers))
 }
 
 // The answer of a page call; the numbers of its page are put, or nothing.

@@ -11,7 +11,7 @@ pub returns-then-bytes-gt-MOST_BYTES : goal.returns-then-bytes-gt-MOST_BYTES
 returns-then-bytes-gt-MOST_BYTES c = too_long c.args.bytes.now c.if-bytes-gt-MOST_BYTES.true
 
 pub loop-head-init : goal.loop-head-init
-loop-head-init c = seen_start c.args.bytes.now _ c.beginning-t.ensures
+loop-head-init c = seen_start c.args.bytes.now _ c.default-t.ensures
 
 pub returns : goal.returns
 returns c =

@@ -1,5 +1,5 @@
--- So many pages of the plan stand at the front of the list, and how the loop ends.
-use Rattle.std.proofs.Common.{◌-◌, ◌≡◌, ◌++◌, ◌≤◌, take, drop}
+-- So many pages of the plan stand at the front of the list.
+use Rattle.std.proofs.Common.{◌≡◌, ◌++◌, ◌≤◌, take, drop}
 use Rattle.planner_rules.specs.Pages as section
 use Rattle.planner_pages.proofs.list_pages.Given as goal
 
@@ -8,6 +8,3 @@ invariant-loop-i l = record {
   within : l.i ≤ l.count;
   filled : l.pages ≡ take l.i (section.pages_of l.plan l.row_runs l.column_runs) ++ drop l.i l.initial.pages;
 }
-
-abbrev pub decreases-loop-i : goal.decreases-loop-i
-decreases-loop-i l = l.count - l.i

@@ -2,6 +2,7 @@
 -- that are handed over.
 use Rattle.std.proofs.Common.{◌≡◌, true, sym, ◌∙◌}
 use Rattle.yuzhbani_request.specs.Request.{sheet_requested, areas_from, areas_counted, flags_hold}
+use Rattle.units.specs.Refusals.{outcome}
 use Rattle.yuzhbani.proofs.Handed.{handed, plan_not_zero, request_same}
 use Rattle.yuzhbani.proofs.yuzhbani_plan_lists.Goals as goal
 
@@ -23,11 +24,11 @@ returns c =
     let j = c.plan_pages-planning.ensures in
     let p = c.put_planning.ensures in
     let e =
-    request_same c.request_from-what.ensures ri rz ci cz fr fc lr lc rb cb _ _ _ _ c.plan_pages-planning.result
+    request_same c.request_from-what.ensures ri rz ci cz fr fc lr lc rb cb _ _ _ _ (outcome c.plan_pages-planning.result)
     (j.planned, (j.covered, (j.fewest, j.largest))) in
     let few : areas_counted ns ≡ true = sym c.areas_counted.ensures ∙ c.if-not-areas_counted.false in
     let hold : flags_hold ns ≡ true = sym c.flags_hold.ensures ∙ c.if-not-flags_hold.false in
     let h =
-    handed _ (plan_not_zero s (areas_from ns) _ _) s (areas_from ns) _ _ _ _ c.plan_pages-planning.result a.numbers.now c.put_planning.result _ e
+    handed _ (plan_not_zero s (areas_from ns) _ _) s (areas_from ns) _ _ _ _ (outcome c.plan_pages-planning.result) a.numbers.now c.put_planning.result _ e
     (p.value, (p.numbers_after, p.had_back)) in
     rw (few, hold) (record { planned = h.0; covered = h.1.0; fewest = h.1.1.0; largest = h.1.1.1 })

@@ -21,6 +21,6 @@ returns c =
       c.limit_of.ensures,
       c.cell_limit_of.ensures ∙ ap cell_limit_from (is_in_place 0 UC rs c.requires.sorted),
       c.areas_of.ensures ∙ all_areas _ rs c.requires.sorted c.requires.areas_value,
-      c.row_title_of.ensures,
-      c.column_title_of.ensures,
+      c.title_of.ensures,
+      c.title_of-2.ensures,
     )

@@ -4,10 +4,10 @@ use Rattle.job_report.specs.Lines.{head_lines}
 use Rattle.job_report.proofs.TextLaws.{and_then_lem, at_start}
 use Rattle.job_report.proofs.lines.head_lines.Goals as goal
 
-pub returns-in-Value : goal.returns-in-Value
+pub returns-in-Ok : goal.returns-in-Ok
 unfolding head_lines
-returns-in-Value c = rw c.in-Value.is (at_start (and_then_lem (omega arith) c.plan_line-next.ensures.put_at c.notes_line.ensures.put_at))
+returns-in-Ok c = rw c.in-Ok.is (at_start (and_then_lem (omega arith) c.plan_line-next.ensures.put_at c.notes_line.ensures.put_at))
 
-pub returns-in-Refused : goal.returns-in-Refused
+pub returns-in-Err : goal.returns-in-Err
 unfolding head_lines
-returns-in-Refused c = rw c.in-Refused.is (at_start c.refusal_line.ensures.put_at)
+returns-in-Err c = rw c.in-Err.is (rw c.number.ensures at (at_start c.refusal_at.ensures.put_at))

@@ -1,13 +1,14 @@
--- What is taken, and what the definition still takes from here, is the whole.
-use Rattle.std.proofs.Common.{◌≡◌, ◌+◌, ◌-◌, ◌*◌, ◌≤◌, length, take, drop}
+-- What is left is what stands past the slots that were taken; what is taken, and what the definition still takes from there, is the whole.
+use Rattle.std.proofs.Common.{◌≡◌, ◌+◌, ◌*◌, ◌≤◌, length, take, drop}
+use Rattle.std.specs.Slice.Iter.{chunks_exact_rest, chunks_exact_size}
 use Rattle.planner_rules.specs.Slots.{sum}
 use Rattle.planner_rules.specs.Runs.{more, natural}
 use Rattle.planner.proofs.filling.fill_by_eight.Given as goal
 
-abbrev pub invariant-loop-n : goal.invariant-loop-n
-invariant-loop-n l =
-    (1 ≤ l.n) × (l.n ≤ length l.slots.sizes.now) × (l.sum ≤ 1073741824 * l.n)
-    × (l.n + more l.capacity l.sum (drop l.n l.slots.sizes.now) ≡ natural l.capacity l.slots.sizes.now) × (l.sum ≡ sum (take l.n l.slots.sizes.now))
-
-abbrev pub decreases-loop-n : goal.decreases-loop-n
-decreases-loop-n l = length l.slots.sizes.now - l.n
+abbrev pub invariant-loop-eight : goal.invariant-loop-eight
+invariant-loop-eight l =
+    let n = l.filling.slots in
+    let ss = l.slots.sizes.now in
+    (chunks_exact_size l.eight-iterator ≡ 8) × (chunks_exact_rest l.eight-iterator ≡ drop n ss) × (1 ≤ n) × (n ≤ length ss)
+    × (l.filling.sum ≤ 1073741824 * n) × (n + more l.capacity l.filling.sum (drop n ss) ≡ natural l.capacity ss)
+    × (l.filling.sum ≡ sum (take n ss))

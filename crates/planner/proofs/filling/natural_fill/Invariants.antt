@@ -1,10 +1,13 @@
--- What is taken, and what the definition still takes from here, is the whole.
+-- What is taken, and what the definition still takes from here, is the whole; the loop began at `from`.
 use Rattle.std.proofs.Common.{◌≡◌, ◌+◌, ◌*◌, ◌≤◌, length, take, drop}
 use Rattle.planner_rules.specs.Slots.{sum}
 use Rattle.planner_rules.specs.Runs.{more, natural}
 use Rattle.planner.proofs.filling.natural_fill.Given as goal
 
-abbrev pub invariant-loop-n : goal.invariant-loop-n
-invariant-loop-n l =
-    (1 ≤ l.n) × (l.n ≤ length l.slots.sizes.now) × (l.sum ≤ 1073741824 * l.n)
-    × (l.n + more l.capacity l.sum (drop l.n l.slots.sizes.now) ≡ natural l.capacity l.slots.sizes.now) × (l.sum ≡ sum (take l.n l.slots.sizes.now))
+abbrev pub invariant-loop-size : goal.invariant-loop-size
+invariant-loop-size l =
+    let n = l.filling.slots in
+    let ss = l.slots.sizes.now in
+    (n ≡ l.initial.filling.slots + l.size-index) × (l.size-items ≡ drop l.initial.filling.slots ss) × (1 ≤ n) × (n ≤ length ss)
+    × (l.filling.sum ≤ 1073741824 * n) × (n + more l.capacity l.filling.sum (drop n ss) ≡ natural l.capacity ss)
+    × (l.filling.sum ≡ sum (take n ss))

@@ -1,13 +1,11 @@
 -- A no refuses, and else the body is cut.
-use Rattle.std.proofs.Common.{ℕ, ◌≤◌, ◌<◌, ap, ◌∙◌, arith}
+use Rattle.std.proofs.Common.{ℕ, ◌≤◌, ap, ◌∙◌, arith}
 use Rattle.std.proofs.lemmas.Result.{err_from_is_err_and}
-use Rattle.units.specs.declared.refusal.Refusal.{Refusal}
-use Rattle.units.specs.declared.refusal.Refusal.TheVariants as no
-use Rattle.units.specs.Refusals.{number_of}
 use Rattle.planner_rules.specs.declared.titles.Axis.{Axis}
 use Rattle.planner_rules.specs.declared.titles.Axis.TheVariants.{Rows, Columns}
 use Rattle.planner_rules.specs.Titles.{limit_of}
 use Rattle.planner_rules.specs.Partition.{first_no, body_runs}
+use Rattle.planner_rules.proofs.QuestionLaws.{positive}
 use Rattle.planner_rules.proofs.PartitionLaws.{is_refused, is_asked, refuses}
 use Rattle.planner.proofs.partition.partition_axis_with_breaks.Goals as goal
 
@@ -15,24 +13,6 @@ grid : (a : Axis) → limit_of a ≤ 1048575
 unfolding limit_of
 grid Rows = omega arith
 grid Columns = omega arith
-
--- no refusal has the number 0
-positive : (r : Refusal) → 0 < number_of r
-positive no.TooManyBytes = omega arith
-positive no.BrokenRecord = omega arith
-positive no.EndNotLast = omega arith
-positive no.MisplacedRecord = omega arith
-positive no.BadFlag = omega arith
-positive no.MalformedLists = omega arith
-positive no.OutsideGrid = omega arith
-positive no.IndexesNotRising = omega arith
-positive no.SizeOutOfRange = omega arith
-positive no.CoordinateOverflow = omega arith
-positive no.ListTooShort = omega arith
-positive no.TooManyPages = omega arith
-positive no.PageListTooShort = omega arith
-positive no.NoSuchNumber = omega arith
-positive no.TooManyCells = omega arith
 
 pub returns-in_err-partition_refusal : goal.returns-in_err-partition_refusal
 returns-in_err-partition_refusal c =

@@ -13,14 +13,14 @@ returns-in_default c = rw c.in_default.is
 pub returns-then-start-prev : goal.returns-then-start-prev
 returns-then-start-prev c =
     let a = c.args in
-    moved_start a.held _ a.prev a.p a.indexes.now c.in-Some.is c.place_of-start.result
-    (c.place_of-start.ensures.value ∙ ap (λ (k : ℕ). below k a.indexes.now) c.from.ensures) c.if-start-prev.true
+    moved_start a.held _ a.prev a.p a.slots.indexes.now c.in-Some.is c.place_of-start.result
+    (c.place_of-start.ensures.value ∙ ap (λ (k : ℕ). below k a.slots.indexes.now) c.from.ensures) c.if-start-prev.true
 
 pub returns : goal.returns
 returns c =
     let a = c.args in
-    let is = a.indexes.now in
+    let is = a.slots.indexes.now in
     moved_past a.held _ a.prev a.p is c.in-Some.is c.place_of-start.result
     (c.place_of-start.ensures.value ∙ ap (λ (k : ℕ). below k is) c.from.ensures) c.if-start-prev.false c.place_of-end.result
     (c.place_of-end.ensures.value ∙ ap (λ (k : ℕ). below k is) (ap (λ (k : ℕ). k + 1) c.from-2.ensures ∙ add-one _)
-    ∙ sym (through-below _ is c.requires))
+    ∙ sym (through-below _ is a.slots.are.rising))

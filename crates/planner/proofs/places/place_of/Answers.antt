@@ -1,28 +1,36 @@
--- A slot under the limit lies before the place that is searched for, and one that is not does not.
-use Rattle.std.proofs.Common.{◌+◌, ◌/◌, arith}
+-- Where those below the limit end, as many are below it.
+use Rattle.std.proofs.Common.{List, ℕ, true, false, ltb, ◌≡◌, ◌≤◌, ◌-◌, length, get_or, arith, rules}
+use Rattle.std.specs.List.Sorted.{IsNonDecreasingBy, IsPartitionPoint}
+use Rattle.std.proofs.lemmas.Bool.{ltb-true, ltb-false}
+use Rattle.std.proofs.lemmas.List.Sorted.{IsPartitionedBy-ltb, IsNonDecreasingBy-from_default, IsPartitionPoint-from_clause}
+use Rattle.planner_rules.specs.Slots.{Rising, below}
+use Rattle.planner_rules.proofs.Laws.{split}
 use Rattle.planner_rules.proofs.Places.{below_up_to, below_past_it}
 use Rattle.planner_rules.proofs.EndLaws.{below-le}
 use Rattle.planner.proofs.places.place_of.Goals as goal
 
-pub loop-size-init : goal.loop-size-init
-loop-size-init c = (omega arith, omega (arith, below-le c.args.limit c.args.indexes.now), omega arith)
+no_lower : (is : List ℕ) → Rising is → IsNonDecreasingBy (λ i. i) is
+no_lower is r =
+    IsNonDecreasingBy-from_default (λ i. i) is 0 (λ i j h l. split j i (λ g. let e : i ≡ j = omega arith in rw e (omega arith)) (λ g. omega (arith, r i j (omega arith) l)))
 
-pub loop-size-preserved-then-from-limit : goal.loop-size-preserved-then-from-limit
-loop-size-preserved-then-from-limit c =
-    let l = c.loop-size in
-    let past = below_past_it c.args.limit c.args.indexes.now c.requires (l.low + l.size / 2) (omega arith) (omega arith) in
-    (omega (arith, past), omega arith, omega arith)
+point_is : (limit : ℕ) (is : List ℕ) (n : ℕ) → Rising is → n ≤ length is
+    → IsPartitionPoint (λ i. ltb i limit ≡ true) (λ i. ltb i limit ≡ false) is n → n ≡ below limit is
+point_is limit is n r h point =
+    let up : below limit is ≤ n =
+    split (length is) n (λ g. omega (arith, below-le limit is))
+    (λ g. below_up_to limit is n g (ltb-false (get_or is n 0) limit (point.1 n 0 (omega arith) g))) in
+    split n 0 (λ g. omega arith) (λ g.
+    omega (
+      arith,
+      up,
+      below_past_it limit is r (n - 1) (omega arith) (ltb-true (get_or is (n - 1) 0) limit (point.0 (n - 1) 0 (omega arith) (omega arith))),
+    )
+    )
 
-pub loop-size-preserved : goal.loop-size-preserved
-loop-size-preserved c =
-    let l = c.loop-size in
-    let up_to = below_up_to c.args.limit c.args.indexes.now (l.low + l.size / 2) (omega arith) (omega arith) in
-    (omega arith, omega (arith, up_to), omega arith)
-
-pub returns-then-from-limit-2-clause-value : goal.returns-then-from-limit-2-clause-value
-returns-then-from-limit-2-clause-value c =
-    omega (arith, below_past_it c.args.limit c.args.indexes.now c.requires c.loop-size.low (omega arith) (omega arith))
-
-pub returns-else-from-limit-2-clause-value : goal.returns-else-from-limit-2-clause-value
-returns-else-from-limit-2-clause-value c =
-    omega (arith, below_up_to c.args.limit c.args.indexes.now c.loop-size.low (omega arith) (omega arith))
+pub returns-clause-value : goal.returns-clause-value
+returns-clause-value c =
+    let is = c.args.indexes.now in
+    point_is c.args.limit is _ c.requires c.partition_point.ensures.bound (
+    IsPartitionPoint-from_clause (λ i. ltb i c.args.limit) is _ c.partition_point.ensures.partitioned
+    (IsPartitionedBy-ltb (λ i. i) is c.args.limit (no_lower is c.requires)) (λ x b f' k. search rules)
+    )

@@ -6,4 +6,4 @@ use Rattle.planner.proofs.runs.break_place.Goals as goal
 pub returns-then-b-indexes : goal.returns-then-b-indexes
 returns-then-b-indexes c =
     let a = c.args in
-    below_at a.b a.indexes.now c.requires.rising a.prev (omega arith) (omega arith) (omega arith)
+    below_at a.b a.slots.indexes.now a.slots.are.rising a.prev (omega arith) (omega arith) (omega arith)

@@ -8,8 +8,8 @@ use Rattle.planner.proofs.runs.Cutter.placed_cut.Goals as goal
 pub returns-then-p-eq0 : goal.returns-then-p-eq0
 returns-then-p-eq0 c = placed_zero _ _ _ _ _ _ (omega arith)
 
-pub returns-then-p-indexes : goal.returns-then-p-indexes
-returns-then-p-indexes c = placed_past _ _ _ _ _ _ (omega arith) (omega arith)
+pub returns-then-p-slots : goal.returns-then-p-slots
+returns-then-p-slots c = placed_past _ _ _ _ _ _ (omega arith) (omega arith)
 
 pub returns-then-title_holds : goal.returns-then-title_holds
 returns-then-title_holds c = placed_title _ _ _ _ _ _ (omega arith) (omega arith) (sym c.title_holds.ensures ∙ c.if-title_holds.true)
@@ -17,5 +17,5 @@ returns-then-title_holds c = placed_title _ _ _ _ _ _ (omega arith) (omega arith
 pub returns : goal.returns
 returns c =
     let a = c.args in
-    c.moved_cut.ensures ∙ ap (λ (h : Option Span). moved h a.prev a.p a.indexes.now) c.holder.ensures
+    c.moved_cut.ensures ∙ ap (λ (h : Option Span). moved h a.prev a.p a.slots.indexes.now) c.holder.ensures
     ∙ placed_moved _ _ _ _ _ _ (omega arith) (omega arith) (sym c.title_holds.ensures ∙ c.if-title_holds.false)

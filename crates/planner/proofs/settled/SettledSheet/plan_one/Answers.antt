@@ -1,8 +1,9 @@
 -- A no of 11 or 12 refuses, and else the runs of the area are written: it is all of a plan of one.
-use Rattle.std.proofs.Common.{◌≡◌, ℕ, ◌≤◌, List, [], ◌∷◌, length, refl, sym, ap, ◌∙◌, arith}
+use Rattle.std.proofs.Common.{◌≡◌, ℕ, ◌≤◌, List, [], ◌∷◌, length, refl, sym, ap, ◌∙◌, arith, rules, Err}
 use mathlib.Core.List.{append-nil}
 use Rattle.planner_rules.specs.declared.planning.PrintRange.{PrintRange}
 use Rattle.planner_rules.specs.declared.planning.CountedArea.{CountedArea}
+use Rattle.units.specs.Refusals.{number_of}
 use Rattle.planner_rules.specs.declared.planning.CountedAreas.{CountedAreas}
 use Rattle.planner_rules.specs.declared.planning.Shared.{Shared}
 use Rattle.planner_rules.specs.Runs.{Run}
@@ -17,6 +18,7 @@ use Rattle.planner_rules.proofs.Lent.{room_runs}
 use Rattle.planner_rules.proofs.AreaLaws.{row_cuttable, column_cuttable, chosen_counted}
 use Rattle.planner_rules.proofs.AreaLaws.{range_is, writable, rows_put, columns_put}
 use Rattle.planner_rules.proofs.AreasLaws.{few_none, counted_next}
+use Rattle.planner_rules.proofs.QuestionLaws.{positive}
 use Rattle.planner_rules.proofs.PlanLaws.{refuses_plan, answers_plan, room_refused, room_given, runs_fit_lem, plan_value}
 use Rattle.planner.proofs.settled.SettledSheet.plan_one.Goals as goal
 
@@ -84,19 +86,20 @@ add_area-counted-requires-clause-few_all c =
     let few = (chosen_counted a.self.now.shared.now _ a.self.now.settled a.range _ c.ready-ready.ensures _ c.choose_scale-scale.ensures _ e.counted e.few_cut).1 in
     (rw c.no_areas-none.ensures few_none, few)
 
-pub returns-then-refusal-gt0 : goal.returns-then-refusal-gt0
-returns-then-refusal-gt0 c =
+pub returns-in_err-room_refusal : goal.returns-in_err-room_refusal
+returns-in_err-room_refusal c =
     let a = c.args in
     let e = c.count_at-one.ensures in
     let one = (chosen_counted a.self.now.shared.now _ a.self.now.settled a.range _ c.ready-ready.ensures _ c.choose_scale-scale.ensures _ e.counted
     e.few_cut).0 in
     let added = rw c.no_areas-none.ensures at c.add_area-counted.ensures.added in
     let all = all_counted a.self.now.shared.now _ a.range _ one _ added in
-    let asked : c.room_refusal-refusal.result ≡ room_no c.add_area-counted.result.rows c.add_area-counted.result.columns
+    let asked : number_of c.in_err-room_refusal.field-0.0 ≡ room_no c.add_area-counted.result.rows c.add_area-counted.result.columns
     c.add_area-counted.result.pages (room_in a.row_runs.now) (room_in a.column_runs.now) a.self.now.shared.now.settings.page_limit =
-    rw (c.room_in.ensures, c.room_in-2.ensures) at c.room_refusal-refusal.ensures in
-    refuses_plan _ _ a.row_runs.now a.column_runs.now
-    (room_refused (sides_in a.self.now.shared.now) _ (a.range ∷ []) _ all (room_in a.row_runs.now) (room_in a.column_runs.now) _ asked c.if-refusal-gt0.true)
+    rw (c.room_in.ensures, c.room_in-2.ensures) at c.in_err-room_refusal.ensures in
+    let e : c.from_residual.result ≡ Err c.in_err-room_refusal.field-0.0 = search rules in
+    rw e (refuses_plan _ _ a.row_runs.now a.column_runs.now
+    (room_refused (sides_in a.self.now.shared.now) _ (a.range ∷ []) _ all (room_in a.row_runs.now) (room_in a.column_runs.now) _ asked (positive c.in_err-room_refusal.field-0.0)))
 
 pub write_ready-requires-clause-writable : goal.write_ready-requires-clause-writable
 write_ready-requires-clause-writable c =
@@ -107,11 +110,11 @@ write_ready-requires-clause-writable c =
     e.few_cut).0 in
     let added = rw c.no_areas-none.ensures at c.add_area-counted.ensures.added in
     let all = all_counted a.self.now.shared.now _ a.range _ one _ added in
-    let asked : c.room_refusal-refusal.result ≡ room_no c.add_area-counted.result.rows c.add_area-counted.result.columns
+    let asked : 0 ≡ room_no c.add_area-counted.result.rows c.add_area-counted.result.columns
     c.add_area-counted.result.pages (room_in a.row_runs.now) (room_in a.column_runs.now) a.self.now.shared.now.settings.page_limit =
-    rw (c.room_in.ensures, c.room_in-2.ensures) at c.room_refusal-refusal.ensures in
+    rw (c.room_in.ensures, c.room_in-2.ensures) at c.in_ok-room_refusal.ensures in
     let fit = runs_fit_lem (sides_in a.self.now.shared.now) _ (a.range ∷ []) _ all (room_in a.row_runs.now) (room_in a.column_runs.now) _ asked
-    (omega (arith, c.if-refusal-gt0.false)) in
+    (omega arith) in
     can_write a.self.now.shared.now _ a.range _ one c.ready-ready.result.range same a.row_runs.now a.column_runs.now fit.0 fit.1
 
 pub write_ready-requires-clause-frames_are : goal.write_ready-requires-clause-frames_are
@@ -129,11 +132,11 @@ returns c =
     e.few_cut).0 in
     let added = rw c.no_areas-none.ensures at c.add_area-counted.ensures.added in
     let all = all_counted a.self.now.shared.now _ a.range _ one _ added in
-    let asked : c.room_refusal-refusal.result ≡ room_no c.add_area-counted.result.rows c.add_area-counted.result.columns
+    let asked : 0 ≡ room_no c.add_area-counted.result.rows c.add_area-counted.result.columns
     c.add_area-counted.result.pages (room_in a.row_runs.now) (room_in a.column_runs.now) a.self.now.shared.now.settings.page_limit =
-    rw (c.room_in.ensures, c.room_in-2.ensures) at c.room_refusal-refusal.ensures in
+    rw (c.room_in.ensures, c.room_in-2.ensures) at c.in_ok-room_refusal.ensures in
     let room = room_given (sides_in a.self.now.shared.now) _ (a.range ∷ []) _ all (room_in a.row_runs.now) (room_in a.column_runs.now) _ asked
-    (omega (arith, c.if-refusal-gt0.false)) in
+    (omega arith) in
     let put = rw same at c.write_ready.ensures in
     answers_plan _ (layout (sides_in a.self.now.shared.now) _ (a.range ∷ [])) _ room
     (c.plan_of.ensures ∙ plan_value a.self.now.shared.now _ a.self.now.settled (a.range ∷ []) _ all) a.row_runs.now a.column_runs.now _ _
