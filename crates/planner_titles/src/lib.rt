@@ -58,10 +58,17 @@ fn none_widens(span: Span, merges: MergeList) -> bool
     ensures { result ≡ no_merge (widens span) merges.entry.firsts.now merges.entry.lasts.now }
 {
     let Span { first, last } = span;
+    let firsts = merges.firsts;
+    let lasts = merges.lasts;
+    let end = firsts.len().min(lasts.len());
     let mut none = true;
-    for (f, l) in merges.firsts.iter().zip(merges.lasts) {
-        let inside = (first <= *f) & (*l <= last);
-        none = !((*f <= last) & ((first <= *l) & !inside)) & none;
+    let mut i = 0;
+    // By number: over a zip, which ends where either list does, the machine asks one merge at a time and takes twice as long.
+    while i < end {
+        let f = firsts[i];
+        let l = lasts[i];
+        none = !((f <= last) & ((first <= l) & !((first <= f) & (l <= last)))) & none;
+        i += 1;
     }
     none
 }
