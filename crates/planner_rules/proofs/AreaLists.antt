@@ -10,26 +10,11 @@ use Rattle.units.specs.Outcome.{given, refused}
 use Rattle.planner_rules.specs.declared.pages.AreaPlan.{AreaPlan}
 use Rattle.planner_rules.specs.declared.planning.PrintRange.{PrintRange}
 use Rattle.planner_rules.specs.Runs.{Run}
-use Rattle.planner_rules.specs.Areas.{held_plans, plans_in, over_areas, every_area}
+use Rattle.planner_rules.specs.Areas.{over_areas, every_area}
 use Rattle.planner_rules.specs.Lent.{flat, run_numbers}
 use Rattle.planner_rules.specs.Pages.{numbered, joined, after_runs}
 use Rattle.planner_rules.proofs.QuestionLaws.{both}
 use Rattle.planner_rules.proofs.Lent.{flat_append, flat-length}
-
--- ---- eight fields
-
--- areas that a plan holds are those that were put there
-pub held_are : (xs : List AreaPlan) → length xs ≤ 8 → plans_in (held_plans xs) ≡ xs
-held_are [] h = refl
-held_are (a ∷ []) h = refl
-held_are (a ∷ (b ∷ [])) h = refl
-held_are (a ∷ (b ∷ (c ∷ []))) h = refl
-held_are (a ∷ (b ∷ (c ∷ (d ∷ [])))) h = refl
-held_are (a ∷ (b ∷ (c ∷ (d ∷ (e ∷ []))))) h = refl
-held_are (a ∷ (b ∷ (c ∷ (d ∷ (e ∷ (f ∷ [])))))) h = refl
-held_are (a ∷ (b ∷ (c ∷ (d ∷ (e ∷ (f ∷ (g ∷ []))))))) h = refl
-held_are (a ∷ (b ∷ (c ∷ (d ∷ (e ∷ (f ∷ (g ∷ (i ∷ [])))))))) h = refl
-held_are (a ∷ (b ∷ (c ∷ (d ∷ (e ∷ (f ∷ (g ∷ (i ∷ (j ∷ xs))))))))) h = absurd (omega arith)
 
 -- ---- one of a list by its number
 

@@ -12,11 +12,10 @@ use borrow.Author.Tests.{lt-ltb, le-ltb, le-leb, lt-leb}
 use Rattle.units.specs.Outcome.{given, refused}
 use Rattle.planner_rules.specs.declared.pages.PageOrder.{PageOrder}
 use Rattle.planner_rules.specs.declared.pages.AreaPlan.{AreaPlan}
-use Rattle.planner_rules.specs.declared.pages.AreaPlans.{AreaPlans}
 use Rattle.planner_rules.specs.declared.pages.Spot.{Spot}
 use Rattle.std.specs.Prelude.{Some, None}
 use Rattle.planner_rules.specs.Lent.{run_numbers}
-use Rattle.planner_rules.specs.Areas.{eight_plans, plans_in, no_plan, over_areas}
+use Rattle.planner_rules.specs.Areas.{no_plan, over_areas}
 use Rattle.planner_rules.specs.Pages.{page_at, numbered, pages_in, area_pages, after_runs, areas_pages, row_runs, column_runs, area_page_after}
 use Rattle.planner_rules.specs.Pages.{runs_held, spot_from, walk_from, Stands, spot_page}
 use Rattle.planner_rules.proofs.Laws.{split}
@@ -286,13 +285,3 @@ module _ (all : List AreaPlan) (k rows columns : ℕ) where
     held_few_columns c =
         let l : columns < column_runs (drop k all) = omega (arith, next_columns) in
         rw (lt-leb (column_runs (drop k all)) columns l) (sym (and-false (leb (row_runs (drop k all)) rows)))
-
--- ---- the areas of a plan
-
--- how many there are
-pub plans_count : (p : AreaPlans) → min p.count 8 ≡ length (plans_in p)
-plans_count p = sym (length-take p.count (eight_plans p))
-
--- one by its number
-pub plans_at : (p : AreaPlans) (k : ℕ) → k < length (plans_in p) → get_or (plans_in p) k no_plan ≡ get_or (eight_plans p) k no_plan
-plans_at p k h = get_or-take p.count (eight_plans p) k no_plan (omega (arith, plans_count p))

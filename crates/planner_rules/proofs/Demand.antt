@@ -18,12 +18,11 @@ use Rattle.planner_rules.specs.declared.pages.AreaPlan.{AreaPlan}
 use Rattle.planner_rules.specs.declared.pages.Plan.{Plan}
 use Rattle.planner_rules.specs.declared.planning.Settings.{Settings}
 use Rattle.planner_rules.specs.declared.planning.PrintRange.{PrintRange}
-use Rattle.planner_rules.specs.declared.planning.Areas.{Areas}
 use Rattle.planner_rules.specs.declared.titles.Axis.TheVariants.{Rows, Columns}
 use Rattle.planner_rules.specs.Questions.{ask, all_within, rising_within}
 use Rattle.planner_rules.specs.Titles.{limit_of}
 use Rattle.planner_rules.specs.Runs.{Run}
-use Rattle.planner_rules.specs.Areas.{areas_in, one_to_eight, every_area, inside_grid, plans_in, eight_ranges, over_areas}
+use Rattle.planner_rules.specs.Areas.{one_to_eight, every_area, inside_grid, over_areas}
 use Rattle.planner_rules.specs.Union.{cells_hold}
 use Rattle.planner_rules.specs.Lent.{flat, room_in, number_at, runs_in, firsts, lasts, sizes}
 use Rattle.planner_rules.specs.Pages.{run_at, page_at, pages_in, after_runs, area_pages, areas_pages, pages_of, row_runs}
@@ -42,7 +41,7 @@ use Rattle.planner_rules.proofs.QuestionLaws.{both, rising_of}
 use Rattle.planner_rules.proofs.Lent.{stands, runs_length, field_at, flat-length}
 use Rattle.planner_rules.proofs.PageLaws.{vertical_of, horizontal_of, before_of, numbered_take, page_after}
 use Rattle.planner_rules.proofs.PageLaws.{vertical_below, horizontal_below, before_of_place, before_below, vertical_is, horizontal_is}
-use Rattle.planner_rules.proofs.AreaLists.{held_are, numbered-map, every_one, before_and_it, take-map, over_map}
+use Rattle.planner_rules.proofs.AreaLists.{numbered-map, every_one, before_and_it, take-map, over_map}
 use Rattle.planner_rules.proofs.AreaLists.{over_same, how_many, together_length, from_area}
 use Rattle.planner_rules.proofs.AreaPages.{own_page}
 use Rattle.planner_rules.proofs.PlanLaws.{formed_of}
@@ -64,25 +63,25 @@ same_sides : {o : Outcome Sides} {x c : Sides} → o ≡ given x → o ≡ given
 same_sides e f = cc
 
 -- the questions were answered with yes, and there are sides
-pub record Questioned {A : Type 0} (s : Sheet) (areas : Areas) (rest : Sides → Outcome A) (y : A) : Type 0 where
-  pub four : one_to_eight areas.count ≡ true
-  pub six : formed s (areas_in areas) ≡ true
-  pub seven : in_grid s (areas_in areas) ≡ true
+pub record Questioned {A : Type 0} (s : Sheet) (areas : List PrintRange) (rest : Sides → Outcome A) (y : A) : Type 0 where
+  pub four : one_to_eight (length areas) ≡ true
+  pub six : formed s areas ≡ true
+  pub seven : in_grid s areas ≡ true
   pub eight : rises s ≡ true
   pub sides : Sides
   pub sides_are : content_sides s.settings ≡ given sides
   pub then_given : rest sides ≡ given y
 
-pub all_yes : {A : Type 0} (s : Sheet) (areas : Areas) (rest : Sides → Outcome A) (y : A) → questioned s areas rest ≡ given y → Questioned s areas rest y
+pub all_yes : {A : Type 0} (s : Sheet) (areas : List PrintRange) (rest : Sides → Outcome A) (y : A) → questioned s areas rest ≡ given y → Questioned s areas rest y
 unfolding questioned
 all_yes s areas rest y e =
-    let gs = areas_in areas in
+    let gs = areas in
     let o = and_then (content_sides s.settings) rest in
     let nine = ask 9 (small s) o in
     let eight = ask 8 (rises s) nine in
     let fifteen = ask 15 (cells_hold s.settings.cell_limit gs) eight in
     let seven = ask 7 (in_grid s gs) fifteen in
-    let (q4, e4) = ask_yes 4 (one_to_eight areas.count) (ask 6 (formed s gs) seven) y e in
+    let (q4, e4) = ask_yes 4 (one_to_eight (length areas)) (ask 6 (formed s gs) seven) y e in
     let (q6, e6) = ask_yes 6 (formed s gs) seven y e4 in
     let (q7, e7) = ask_yes 7 (in_grid s gs) fifteen y e6 in
     let (q15, e15) = ask_yes 15 (cells_hold s.settings.cell_limit gs) eight y e7 in
@@ -121,17 +120,17 @@ shows a rs l others even inside rising e =
 -- ---- a finished plan
 
 -- what 6, 7 and 8 say of the slots and of an area
-pub record Sound (s : Sheet) (areas : Areas) : Type 0 where
+pub record Sound (s : Sheet) (areas : List PrintRange) : Type 0 where
   pub rows_even : length s.row_indexes ≡ length s.row_sizes
   pub columns_even : length s.column_indexes ≡ length s.column_sizes
   pub rows_rise : Rising s.row_indexes
   pub columns_rise : Rising s.column_indexes
-  pub inside : every_area inside_grid (areas_in areas) ≡ true
+  pub inside : every_area inside_grid areas ≡ true
 
-sound : (s : Sheet) (areas : Areas) → formed s (areas_in areas) ≡ true → in_grid s (areas_in areas) ≡ true → rises s ≡ true → Sound s areas
+sound : (s : Sheet) (areas : List PrintRange) → formed s areas ≡ true → in_grid s areas ≡ true → rises s ≡ true → Sound s areas
 unfolding in_grid
 sound s areas six seven eight =
-    let even = formed_of s (areas_in areas) six in
+    let even = formed_of s areas six in
     let rise = both (rising_within (limit_of Rows) s.row_indexes) (rising_within (limit_of Columns) s.column_indexes) eight in
     let merges = all_within (limit_of Rows) s.merge_last_rows && all_within (limit_of Columns) s.merge_last_columns in
     record {
@@ -139,26 +138,26 @@ sound s areas six seven eight =
       columns_even = even.columns_even;
       rows_rise = rising_of (limit_of Rows) s.row_indexes rise.0;
       columns_rise = rising_of (limit_of Columns) s.column_indexes rise.1;
-      inside = (both merges (every_area inside_grid (areas_in areas)) seven).1;
+      inside = (both merges (every_area inside_grid areas) seven).1;
     }
 
-pub record Done (s : Sheet) (areas : Areas) (plan : Plan) (rows columns : List ℕ) : Type 0 where
+pub record Done (s : Sheet) (areas : List PrintRange) (plan : Plan) (rows columns : List ℕ) : Type 0 where
   pub sides : Sides
   pub sides_are : content_sides s.settings ≡ given sides
-  pub few : length (areas_in areas) ≤ 8
+  pub few : length areas ≤ 8
   pub is_sound : Sound s areas
-  pub plan_is : plan_of sides s (layouts_of sides s (areas_in areas)) ≡ plan
+  pub plan_is : plan_of sides s (layouts_of sides s areas) ≡ plan
   pub row_tail : List ℕ
-  pub rows_are : rows ≡ flat (row_runs_of (layouts_of sides s (areas_in areas))) ++ row_tail
+  pub rows_are : rows ≡ flat (row_runs_of (layouts_of sides s areas)) ++ row_tail
   pub column_tail : List ℕ
-  pub columns_are : columns ≡ flat (column_runs_of (layouts_of sides s (areas_in areas))) ++ column_tail
+  pub columns_are : columns ≡ flat (column_runs_of (layouts_of sides s areas)) ++ column_tail
 
-module _ (s : Sheet) (areas : Areas) (rows₀ columns₀ rows columns : List ℕ) (r : Outcome Plan)
+module _ (s : Sheet) (areas : List PrintRange) (rows₀ columns₀ rows columns : List ℕ) (r : Outcome Plan)
     (p : Planned (planned s areas rows₀ columns₀) r rows₀ columns₀ rows columns) where
   laid : (l : Layout) → planned s areas rows₀ columns₀ ≡ given l → Done s areas l.plan rows columns
   unfolding planned room_for within_limit layout
   laid l e =
-      let gs = areas_in areas in
+      let gs = areas in
       let room : Sides → Outcome Layout = λ (c : Sides). room_for s (layout c s gs) (room_in rows₀) (room_in columns₀) in
       let y = all_yes s areas room l e in
       let c : Sides = y.sides in
@@ -170,11 +169,11 @@ module _ (s : Sheet) (areas : Areas) (rows₀ columns₀ rows columns : List ℕ
       let same : k ≡ l = cc in
       let q : Planned (given k) r rows₀ columns₀ rows columns =
       subst (λ (o : Outcome Layout). Planned o r rows₀ columns₀ rows columns) (e ∙ sym last) p in
-      let count = both (leb 1 areas.count) (leb areas.count 8) y.four in
+      let count = both (leb 1 (length areas)) (leb (length areas) 8) y.four in
       subst (λ (l : Layout). Done s areas l.plan rows columns) same (record {
         sides = c;
         sides_are = y.sides_are;
-        few = omega (arith, length-take areas.count (eight_ranges areas), leb-true areas.count 8 count.1);
+        few = leb-true (length areas) 8 count.1;
         is_sound = sound s areas y.six y.seven y.eight;
         plan_is = refl;
         row_tail = drop (length (flat k.rows)) rows₀;
@@ -191,24 +190,22 @@ module _ (s : Sheet) (areas : Areas) (rows₀ columns₀ rows columns : List ℕ
 
 -- ---- an area of a finished plan
 
-module _ (s : Sheet) (areas : Areas) (plan : Plan) (rows columns : List ℕ) (d : Done s areas plan rows columns) where
+module _ (s : Sheet) (areas : List PrintRange) (plan : Plan) (rows columns : List ℕ) (d : Done s areas plan rows columns) where
   abbrev c : Sides
   c = d.sides
 
   abbrev gs : List PrintRange
-  gs = areas_in areas
+  gs = areas
 
   -- what a range comes to
   abbrev came : PrintRange → AreaPlan
   came g = plan_in (area_layout c s g)
 
-  plans_are : plans_in plan.areas ≡ map plan_in (layouts_of c s gs)
+  plans_are : plan.areas.items ≡ map plan_in (layouts_of c s gs)
   unfolding plan_of
-  plans_are =
-      ap (λ (x : Plan). plans_in x.areas) (sym d.plan_is)
-      ∙ held_are (map plan_in (layouts_of c s gs)) (omega (arith, d.few, length-map (layouts_of c s gs) plan_in, length-map gs (area_layout c s)))
+  plans_are = ap (λ (x : Plan). x.areas.items) (sym d.plan_is)
 
-  pub pages_are : plan.pages ≡ over_areas pages_in (plans_in plan.areas)
+  pub pages_are : plan.pages ≡ over_areas pages_in plan.areas.items
   unfolding plan_of
   pages_are =
       ap (λ (x : Plan). x.pages) (sym d.plan_is) ∙ sym (over_map pages_in plan_in (layouts_of c s gs))
@@ -246,14 +243,14 @@ module _ (s : Sheet) (areas : Areas) (plan : Plan) (rows columns : List ℕ) (d 
       let column_sum = ap column_runs plans_are ∙ columns_of gs ∙ sym (together_length (λ (l : AreaLayout). l.columns) (layouts_of c s gs)) in
       let rs = row_runs_of (layouts_of c s gs) in
       let cs = column_runs_of (layouts_of c s gs) in
-      let in_rows : row_runs (plans_in plan.areas) ≤ room_in rows =
+      let in_rows : row_runs plan.areas.items ≤ room_in rows =
       omega (arith, row_sum, ap length d.rows_are, length-append (flat rs) d.row_tail, flat-length rs) in
-      let in_columns : column_runs (plans_in plan.areas) ≤ room_in columns =
+      let in_columns : column_runs plan.areas.items ≤ room_in columns =
       omega (arith, column_sum, ap length d.columns_are, length-append (flat cs) d.column_tail, flat-length cs) in
       rw (le-leb _ _ in_rows, le-leb _ _ in_columns)
 
   module _ (n : ℕ) (g : PrintRange) (e : IsArea areas n g) where
-    pub came_to : numbered (plans_in plan.areas) n ≡ given (came g)
+    pub came_to : numbered plan.areas.items n ≡ given (came g)
     came_to =
         ap (λ (l : List AreaPlan). numbered l n) plans_are
         ∙ numbered-map plan_in (layouts_of c s gs) n (area_layout c s g) (numbered-map (area_layout c s) gs n g e)
@@ -293,8 +290,8 @@ module _ (s : Sheet) (areas : Areas) (plan : Plan) (rows columns : List ℕ) (d 
 -- ---- covered
 
 module _ (plan : Plan) (rows columns : List ℕ) (held : holds_runs plan rows columns ≡ true)
-    (pages_are : plan.pages ≡ over_areas pages_in (plans_in plan.areas)) (n : ℕ) (a : AreaPlan)
-    (is_it : numbered (plans_in plan.areas) n ≡ given a) where
+    (pages_are : plan.pages ≡ over_areas pages_in plan.areas.items) (n : ℕ) (a : AreaPlan)
+    (is_it : numbered plan.areas.items n ≡ given a) where
   abbrev down : ℕ
   down = a.row_runs
 
@@ -318,14 +315,14 @@ module _ (plan : Plan) (rows columns : List ℕ) (held : holds_runs plan rows co
   after before = at (vertical_of plan.order down over before) (horizontal_of plan.order down over before)
 
   to_last : start + down * over ≤ plan.pages
-  to_last = omega (arith, pages_are, before_and_it pages_in (plans_in plan.areas) n a is_it)
+  to_last = omega (arith, pages_are, before_and_it pages_in plan.areas.items n a is_it)
 
   page_is : (before : ℕ) → before < down * over → page_numbered plan rows columns (start + suc before) ≡ given (after before)
   unfolding page_numbered pages_of area_pages
   page_is before h =
       rw held
-      (numbered_take plan.pages (areas_pages plan.order (plans_in plan.areas) rows columns) (start + suc before) (omega (arith, to_last))
-      ∙ own_page plan.order (plans_in plan.areas) rows columns n a is_it (suc before) (omega arith) (omega arith)
+      (numbered_take plan.pages (areas_pages plan.order plan.areas.items rows columns) (start + suc before) (omega (arith, to_last))
+      ∙ own_page plan.order plan.areas.items rows columns n a is_it (suc before) (omega arith) (omega arith)
       ∙ page_after down over at plan.order before h)
 
   -- a page of the area's own is one of these
@@ -409,7 +406,7 @@ area_columns : (c : Sides) (s : Sheet) (g : PrintRange)
 unfolding area_layout area_at counted_at
 area_columns c s g = refl
 
-module _ (s : Sheet) (areas : Areas) (rows₀ columns₀ rows columns : List ℕ) (r : Outcome Plan)
+module _ (s : Sheet) (areas : List PrintRange) (rows₀ columns₀ rows columns : List ℕ) (r : Outcome Plan)
     (p : Planned (planned s areas rows₀ columns₀) r rows₀ columns₀ rows columns) where
   pub covers : CoversPairs r s areas rows columns
   unfolding limit_of
@@ -497,7 +494,7 @@ unfolding area_layout area_at counted_at
 mark_noted c s g = refl
 
 module _ (s : Sheet) (content : (c : Sides) × (content_sides s.settings ≡ given c) × (mag c.width < 2 ^ 53) × (mag c.height < 2 ^ 53))
-    (areas : Areas) (rows₀ columns₀ rows columns : List ℕ) (r : Outcome Plan)
+    (areas : List PrintRange) (rows₀ columns₀ rows columns : List ℕ) (r : Outcome Plan)
     (p : Planned (planned s areas rows₀ columns₀) r rows₀ columns₀ rows columns) where
   pub largest_plan : LargestPlan r s areas
   unfolding plan_of
@@ -512,7 +509,7 @@ module _ (s : Sheet) (content : (c : Sides) × (content_sides s.settings ≡ giv
         let area : AreaPlan = plan_in (area_layout c s g) in
         record {
           area = area;
-          is_it = subst (λ (x : Sides). numbered (plans_in plan.areas) n ≡ given (plan_in (area_layout x s g))) same
+          is_it = subst (λ (x : Sides). numbered plan.areas.items n ≡ given (plan_in (area_layout x s g))) same
               (came_to s areas plan rows columns d n g x);
           so = area_chosen c s g (EachReaches (rows_in s g) (columns_in s g) height width)
               (scale_is s.settings c (rows_in s g) (columns_in s g) height width fit
@@ -522,7 +519,7 @@ module _ (s : Sheet) (content : (c : Sides) × (content_sides s.settings ≡ giv
     noted = λ plan f.
         let d = done s areas rows₀ columns₀ rows columns r p plan f in
         let c = d.sides in
-        let gs = areas_in areas in
+        let gs = areas in
         ap (λ (x : Plan). x.notes.fit_unreachable) (sym d.plan_is)
         ∙ over_map (λ (l : AreaLayout). l.counted.notes.unreachable) (area_layout c s) gs
         ∙ over_same (λ (g : PrintRange). (area_layout c s g).counted.notes.unreachable) (λ (g : PrintRange). (plan_in (area_layout c s g)).unreachable)
@@ -533,7 +530,7 @@ module _ (s : Sheet) (content : (c : Sides) × (content_sides s.settings ≡ giv
   }
 
 -- ---- the clauses of the call, in their order
-pub clauses : (s : Sheet) (areas : Areas) (rows₀ columns₀ rows columns : List ℕ) (r : Outcome Plan)
+pub clauses : (s : Sheet) (areas : List PrintRange) (rows₀ columns₀ rows columns : List ℕ) (r : Outcome Plan)
     → Planned (planned s areas rows₀ columns₀) r rows₀ columns₀ rows columns
     → Planned (planned s areas rows₀ columns₀) r rows₀ columns₀ rows columns
     × (CoversPairs r s areas rows columns × (FewestPlan r s areas rows columns × LargestPlan r s areas))

@@ -17,7 +17,7 @@ use Rattle.planner_rules.specs.declared.pages.Page.{Page}
 use Rattle.planner_rules.specs.declared.pages.Plan.{Plan}
 use Rattle.planner_rules.specs.declared.pages.Spot.{Spot}
 use Rattle.planner_rules.specs.Questions.{ask}
-use Rattle.planner_rules.specs.Areas.{plans_in, over_areas}
+use Rattle.planner_rules.specs.Areas.{over_areas}
 use Rattle.planner_rules.specs.Lent.{room_in}
 use Rattle.planner_rules.specs.Pages.{pages_in, areas_pages, pages_of, row_runs, column_runs, holds_runs, numbered, page_numbered, list_pages, pages_lent}
 use Rattle.planner_rules.specs.Pages.{count_in, page_count, walk_from, page_after}
@@ -29,7 +29,7 @@ use Rattle.planner_rules.proofs.PagesCode.{rooms_of}
 
 module _ (p : Plan) where
   abbrev areas : List AreaPlan
-  areas = plans_in p.areas
+  areas = p.areas.items
 
   -- where the walk ends that takes off as many pages as the plan says
   abbrev end : Spot
@@ -140,7 +140,7 @@ module _ (p : Plan) (rows columns : List ℕ) (room : ℕ) where
 
   -- what `page_after` relies on for the page that has i pages before it
   pub page_asked : (i : ℕ) → i < count
-      → (row_runs (plans_in p.areas) ≤ room_in rows) × ((column_runs (plans_in p.areas) ≤ room_in columns) × (i < over_areas pages_in (plans_in p.areas)))
+      → (row_runs p.areas.items ≤ room_in rows) × ((column_runs p.areas.items ≤ room_in columns) × (i < over_areas pages_in p.areas.items))
   unfolding list_pages
   page_asked i h =
       let y = all_yes (holds_runs p rows columns) fit (length pages) i h in
@@ -152,7 +152,7 @@ module _ (p : Plan) (rows columns : List ℕ) (room : ℕ) where
   pub page_next : (i : ℕ) → i < count → numbered pages (suc i) ≡ given (page_after p rows columns i)
   unfolding pages_of page_after
   page_next i h =
-      let areas = plans_in p.areas in
+      let areas = p.areas.items in
       let within : suc i ≤ p.pages = omega (arith, count_pages_of, list_length p rows columns) in
       numbered_take p.pages (areas_pages p.order areas rows columns) (suc i) within
       ∙ walk_page p.order areas rows columns i (walk_in i areas (page_asked i h).1.1)

@@ -18,9 +18,8 @@ use Rattle.units.proofs.Scaling.{scaled}
 use Rattle.geometry.proofs.ContentLaws.{paper_given, content_given}
 use Rattle.planner_rules.specs.declared.planning.Settings.{Settings}
 use Rattle.planner_rules.specs.declared.planning.PrintRange.{PrintRange}
-use Rattle.planner_rules.specs.declared.planning.Areas.{Areas}
 use Rattle.planner_rules.specs.Questions.{ask}
-use Rattle.planner_rules.specs.Areas.{areas_in, one_to_eight}
+use Rattle.planner_rules.specs.Areas.{one_to_eight}
 use Rattle.planner_rules.specs.Union.{cells_hold}
 use Rattle.planner_rules.specs.Scale.{units}
 use Rattle.planner_rules.specs.Lent.{room_in}
@@ -124,12 +123,12 @@ pub asked : {A : Type 0} (n k : ℕ) (b : Bool) (rest : Outcome A) → (n ≡ k 
 asked n k true rest d e = (refl, e)
 asked n k false rest d e = let same : n ≡ k = cc in absurd (d same)
 
-pub record PastNine {A : Type 0} (s : Sheet) (areas : Areas) (rest : Sides → Outcome A) (k : ℕ) : Type 0 where
+pub record PastNine {A : Type 0} (s : Sheet) (areas : List PrintRange) (rest : Sides → Outcome A) (k : ℕ) : Type 0 where
   pub sides : Sides
   pub yes : Yes s areas
   pub after : rest sides ≡ refused k
 
-module _ {A : Type 0} (s : Sheet) (areas : Areas) (rest : Sides → Outcome A) (k : ℕ) where
+module _ {A : Type 0} (s : Sheet) (areas : List PrintRange) (rest : Sides → Outcome A) (k : ℕ) where
   abbrev nine : Outcome A
   nine = ask 9 (small s) (and_then (content_sides s.settings) rest)
 
@@ -137,10 +136,10 @@ module _ {A : Type 0} (s : Sheet) (areas : Areas) (rest : Sides → Outcome A) (
   eight = ask 8 (rises s) nine
 
   abbrev fifteen : Outcome A
-  fifteen = ask 15 (cells_hold s.settings.cell_limit (areas_in areas)) eight
+  fifteen = ask 15 (cells_hold s.settings.cell_limit areas) eight
 
   abbrev seven : Outcome A
-  seven = ask 7 (in_grid s (areas_in areas)) fifteen
+  seven = ask 7 (in_grid s areas) fifteen
 
   with_sides : (c : Sides) → content_sides s.settings ≡ given c → and_then (content_sides s.settings) rest ≡ refused k → rest c ≡ refused k
   with_sides c e h = sym (ap (λ (o : Outcome Sides). and_then o rest) e) ∙ h
@@ -150,10 +149,10 @@ module _ {A : Type 0} (s : Sheet) (areas : Areas) (rest : Sides → Outcome A) (
   unfolding questioned
   numbers_of ns f e =
       let c = sides_given s.settings in
-      ask_numbers 4 k (one_to_eight areas.count) (ask 6 (formed s (areas_in areas)) seven) (6 ∷ 7 ∷ 15 ∷ 8 ∷ 9 ∷ ns)
-      (ask_numbers 6 k (formed s (areas_in areas)) seven (7 ∷ 15 ∷ 8 ∷ 9 ∷ ns)
-      (ask_numbers 7 k (in_grid s (areas_in areas)) fifteen (15 ∷ 8 ∷ 9 ∷ ns)
-      (ask_numbers 15 k (cells_hold s.settings.cell_limit (areas_in areas)) eight (8 ∷ 9 ∷ ns)
+      ask_numbers 4 k (one_to_eight (length areas)) (ask 6 (formed s areas) seven) (6 ∷ 7 ∷ 15 ∷ 8 ∷ 9 ∷ ns)
+      (ask_numbers 6 k (formed s areas) seven (7 ∷ 15 ∷ 8 ∷ 9 ∷ ns)
+      (ask_numbers 7 k (in_grid s areas) fifteen (15 ∷ 8 ∷ 9 ∷ ns)
+      (ask_numbers 15 k (cells_hold s.settings.cell_limit areas) eight (8 ∷ 9 ∷ ns)
       (ask_numbers 8 k (rises s) nine (9 ∷ ns)
       (ask_numbers 9 k (small s) (and_then (content_sides s.settings) rest) ns (λ h. f c.0 (with_sides c.0 c.1 h))))))) e
 
@@ -162,10 +161,10 @@ module _ {A : Type 0} (s : Sheet) (areas : Areas) (rest : Sides → Outcome A) (
   past_nine h e =
       let c = sides_given s.settings in
       let other : (n : ℕ) → among n early ≡ true → n ≡ k → ⊥ = λ n i j. true≢false (sym i ∙ ap (λ (m : ℕ). among m early) j ∙ h) in
-      let four = asked 4 k (one_to_eight areas.count) (ask 6 (formed s (areas_in areas)) seven) (other 4 refl) e in
-      let six = asked 6 k (formed s (areas_in areas)) seven (other 6 refl) four.1 in
-      let at7 = asked 7 k (in_grid s (areas_in areas)) fifteen (other 7 refl) six.1 in
-      let at15 = asked 15 k (cells_hold s.settings.cell_limit (areas_in areas)) eight (other 15 refl) at7.1 in
+      let four = asked 4 k (one_to_eight (length areas)) (ask 6 (formed s areas) seven) (other 4 refl) e in
+      let six = asked 6 k (formed s areas) seven (other 6 refl) four.1 in
+      let at7 = asked 7 k (in_grid s areas) fifteen (other 7 refl) six.1 in
+      let at15 = asked 15 k (cells_hold s.settings.cell_limit areas) eight (other 15 refl) at7.1 in
       let at8 = asked 8 k (rises s) nine (other 8 refl) at15.1 in
       let at9 = asked 9 k (small s) (and_then (content_sides s.settings) rest) (other 9 refl) at8.1 in
       record {
@@ -192,16 +191,16 @@ area_room_numbers : (l : AreaLayout) (row_room column_room k : ℕ) → area_roo
 area_room_numbers l row_room column_room k e =
     ask_numbers 11 k (leb (length l.rows) row_room && leb (length l.columns) column_room) (given l) [] (none_given l k) e
 
-module _ (s : Sheet) (areas : Areas) where
+module _ (s : Sheet) (areas : List PrintRange) where
   -- a plan is refused with 4, 6 to 9, 11, 12 or 15
   pub plan_numbers_lem : (rows columns : List ℕ) (k : ℕ) → planned s areas rows columns ≡ refused k → among k (4 ∷ 6 ∷ 7 ∷ 15 ∷ 8 ∷ 9 ∷ 11 ∷ 12 ∷ []) ≡ true
   unfolding planned
   plan_numbers_lem rows columns k e =
-      numbers_of s areas _ k (11 ∷ 12 ∷ []) (λ c h. room_numbers s (layout c s (areas_in areas)) (room_in rows) (room_in columns) k h) e
+      numbers_of s areas _ k (11 ∷ 12 ∷ []) (λ c h. room_numbers s (layout c s areas) (room_in rows) (room_in columns) k h) e
 
   pub count_numbers : (k : ℕ) → counted s areas ≡ refused k → among k (4 ∷ 6 ∷ 7 ∷ 15 ∷ 8 ∷ 9 ∷ 12 ∷ []) ≡ true
   unfolding counted
-  count_numbers k e = numbers_of s areas _ k (12 ∷ []) (λ c h. limit_numbers s (layout c s (areas_in areas)) k h) e
+  count_numbers k e = numbers_of s areas _ k (12 ∷ []) (λ c h. limit_numbers s (layout c s areas) k h) e
 
   module _ (n p : ℕ) (rows columns : List ℕ) where
     -- 14, then 11
@@ -218,7 +217,7 @@ module _ (s : Sheet) (areas : Areas) where
     unfolding area_written
     area_numbers h k e =
         numbers_of s areas _ k (14 ∷ 11 ∷ [])
-        (λ c q. number_numbers (areas_in areas) n k (λ (g : PrintRange). area_at c (rows_in s g) (columns_in s g) (scale_at p)) (room_in rows) (room_in columns)
+        (λ c q. number_numbers areas n k (λ (g : PrintRange). area_at c (rows_in s g) (columns_in s g) (scale_at p)) (room_in rows) (room_in columns)
         (sym (asks_number c s areas n p rows columns h) ∙ q)) e
 
   pub never_ten : (rows columns : List ℕ) → planned s areas rows columns ≡ refused 10 → ⊥

@@ -12,13 +12,12 @@ use Rattle.units.specs.Outcome.{Outcome, given, refused, and_then}
 use Rattle.planner_rules.specs.declared.titles.Axis.TheVariants.{Rows, Columns}
 use Rattle.planner_rules.specs.declared.pages.Plan.{Plan}
 use Rattle.planner_rules.specs.declared.planning.PrintRange.{PrintRange}
-use Rattle.planner_rules.specs.declared.planning.Areas.{Areas}
 use Rattle.planner_rules.specs.declared.planning.CountedAreas.{CountedAreas}
 use Rattle.planner_rules.specs.declared.planning.RunCounts.{RunCounts}
 use Rattle.planner_rules.specs.declared.planning.Shared.{Shared}
 use Rattle.planner_rules.specs.Slots.{Slots, written}
 use Rattle.planner_rules.specs.Questions.{ask, no_or, equally_long, all_ordered, all_within, rising_within, all_small}
-use Rattle.planner_rules.specs.Areas.{eight_ranges, areas_in, no_range, one_to_eight, every_area, upright, inside_grid, over_areas}
+use Rattle.planner_rules.specs.Areas.{no_range, one_to_eight, every_area, upright, inside_grid, over_areas}
 use Rattle.planner_rules.specs.Union.{cells_hold}
 use Rattle.planner_rules.specs.Titles.{limit_of}
 use Rattle.planner_rules.specs.Runs.{Run}
@@ -46,11 +45,11 @@ given_then (given a) f = refl
 given_then (refused n) f = refl
 
 -- the questions come first, whatever is made of the sides
-pub questions_first : {A : Type 0} (s : Sheet) (areas : Areas) (rest : Sides → Outcome A) → questioned s areas rest ≡ and_then (asked s areas) rest
+pub questions_first : {A : Type 0} (s : Sheet) (areas : List PrintRange) (rest : Sides → Outcome A) → questioned s areas rest ≡ and_then (asked s areas) rest
 unfolding questioned
 questions_first {A} s areas rest =
-    let gs = areas_in areas in
-    let q4 = one_to_eight areas.count in
+    let gs = areas in
+    let q4 = one_to_eight (length areas) in
     let q6 = formed s gs in
     let q7 = in_grid s gs in
     let q15 = cells_hold s.settings.cell_limit gs in
@@ -67,38 +66,38 @@ questions_first {A} s areas rest =
     ∙ ask_then 4 q4 (ask 6 q6 seven) rest
 
 -- six yeses
-pub record Yes (s : Sheet) (areas : Areas) : Type 0 where
-  pub four : one_to_eight areas.count ≡ true
-  pub six : formed s (areas_in areas) ≡ true
-  pub seven : in_grid s (areas_in areas) ≡ true
-  pub fifteen : cells_hold s.settings.cell_limit (areas_in areas) ≡ true
+pub record Yes (s : Sheet) (areas : List PrintRange) : Type 0 where
+  pub four : one_to_eight (length areas) ≡ true
+  pub six : formed s areas ≡ true
+  pub seven : in_grid s areas ≡ true
+  pub fifteen : cells_hold s.settings.cell_limit areas ≡ true
   pub eight : rises s ≡ true
   pub nine : small s ≡ true
 
-module _ (s : Sheet) (areas : Areas) (n : ℕ) (e : n ≡ first_no s areas) where
+module _ (s : Sheet) (areas : List PrintRange) (n : ℕ) (e : n ≡ first_no s areas) where
   abbrev sides : Outcome Sides
   sides = and_then (content_sides s.settings) (λ (c : Sides). given c)
 
   pub is_refused : 0 < n → asked s areas ≡ refused n
   unfolding questioned first_no
   is_refused h =
-      let gs = areas_in areas in
-      rw e (asked_no 4 (one_to_eight areas.count) _ _ (asked_no 6 (formed s gs) _ _ (asked_no 7 (in_grid s gs) _ _
+      let gs = areas in
+      rw e (asked_no 4 (one_to_eight (length areas)) _ _ (asked_no 6 (formed s gs) _ _ (asked_no 7 (in_grid s gs) _ _
       (asked_no 15 (cells_hold s.settings.cell_limit gs) _ _ (asked_no 8 (rises s) _ _ (asked_no 9 (small s) 0 sides (no_number sides)))))) (rw e at h))
 
   pub all_yes : n ≤ 0 → Yes s areas
   unfolding first_no
   all_yes h =
       let z : 0 ≡ n = omega arith in
-      let four = asked_yes 4 (one_to_eight areas.count) _ (omega arith) (z ∙ e) in
-      let six = asked_yes 6 (formed s (areas_in areas)) _ (omega arith) four.1 in
-      let seven = asked_yes 7 (in_grid s (areas_in areas)) _ (omega arith) six.1 in
-      let fifteen = asked_yes 15 (cells_hold s.settings.cell_limit (areas_in areas)) _ (omega arith) seven.1 in
+      let four = asked_yes 4 (one_to_eight (length areas)) _ (omega arith) (z ∙ e) in
+      let six = asked_yes 6 (formed s areas) _ (omega arith) four.1 in
+      let seven = asked_yes 7 (in_grid s areas) _ (omega arith) six.1 in
+      let fifteen = asked_yes 15 (cells_hold s.settings.cell_limit areas) _ (omega arith) seven.1 in
       let eight = asked_yes 8 (rises s) _ (omega arith) fifteen.1 in
       let nine = asked_yes 9 (small s) _ (omega arith) eight.1 in
       record { four = four.0; six = six.0; seven = seven.0; fifteen = fifteen.0; eight = eight.0; nine = nine.0 }
 
-pub goes_on : (s : Sheet) (areas : Areas) → Yes s areas → asked s areas ≡ and_then (content_sides s.settings) (λ (c : Sides). given c)
+pub goes_on : (s : Sheet) (areas : List PrintRange) → Yes s areas → asked s areas ≡ and_then (content_sides s.settings) (λ (c : Sides). given c)
 unfolding questioned
 goes_on s areas y = rw (y.four, y.six, y.seven, y.fifteen, y.eight, y.nine)
 
@@ -136,17 +135,17 @@ formed_of s gs h =
       all_upright = all.1;
     }
 
-module _ (s : Sheet) (areas : Areas) (y : Yes s areas) where
-  few_areas : areas.count ≤ 8
-  few_areas = leb-true _ _ (both (leb 1 areas.count) (leb areas.count 8) y.four).1
+module _ (s : Sheet) (areas : List PrintRange) (y : Yes s areas) where
+  few_areas : length areas ≤ 8
+  few_areas = leb-true _ _ (both (leb 1 (length areas)) (leb (length areas) 8) y.four).1
 
   inside : (all_within (limit_of Rows) s.merge_last_rows ≡ true) × (all_within (limit_of Columns) s.merge_last_columns ≡ true)
-      × (every_area inside_grid (areas_in areas) ≡ true)
+      × (every_area inside_grid areas ≡ true)
   unfolding in_grid
   inside =
       let rows = all_within (limit_of Rows) s.merge_last_rows in
       let columns = all_within (limit_of Columns) s.merge_last_columns in
-      let all = both (rows && columns) (every_area inside_grid (areas_in areas)) y.seven in
+      let all = both (rows && columns) (every_area inside_grid areas) y.seven in
       let axes = both rows columns all.0 in
       (axes.0, axes.1, all.1)
 
@@ -159,28 +158,25 @@ module _ (s : Sheet) (areas : Areas) (y : Yes s areas) where
   pub row_slots : Slots s.row_indexes s.row_sizes
   unfolding limit_of
   row_slots =
-      slots_of (limit_of Rows) s.row_indexes s.row_sizes (omega arith) (formed_of s (areas_in areas) y.six).rows_even
+      slots_of (limit_of Rows) s.row_indexes s.row_sizes (omega arith) (formed_of s areas y.six).rows_even
       (both (rising_within (limit_of Rows) s.row_indexes) (rising_within (limit_of Columns) s.column_indexes) y.eight).0
       (both (all_small s.row_sizes) (all_small s.column_sizes) y.nine).0
 
   pub column_slots : Slots s.column_indexes s.column_sizes
   unfolding limit_of
   column_slots =
-      slots_of (limit_of Columns) s.column_indexes s.column_sizes (omega arith) (formed_of s (areas_in areas) y.six).columns_even
+      slots_of (limit_of Columns) s.column_indexes s.column_sizes (omega arith) (formed_of s areas y.six).columns_even
       (both (rising_within (limit_of Rows) s.row_indexes) (rising_within (limit_of Columns) s.column_indexes) y.eight).1
       (both (all_small s.row_sizes) (all_small s.column_sizes) y.nine).1
 
   fine_areas : FineAreas areas
   fine_areas =
-      let all = areas_in areas in
-      let long : length all ≡ areas.count = length-take-le areas.count (eight_ranges areas) few_areas in
       record {
         few = few_areas;
         each = λ k h.
-            let same : get_or all k no_range ≡ get_or (eight_ranges areas) k no_range = get_or-take areas.count (eight_ranges areas) k no_range h in
-            let g = get_or (eight_ranges areas) k no_range in
-            let up : upright g ≡ true = rw same at (every_at upright all (formed_of s all y.six).all_upright k (omega arith)) in
-            let inn : inside_grid g ≡ true = rw same at (every_at inside_grid all inside.2 k (omega arith)) in
+            let g = get_or areas k no_range in
+            let up : upright g ≡ true = every_at upright areas (formed_of s areas y.six).all_upright k h in
+            let inn : inside_grid g ≡ true = every_at inside_grid areas inside.2 k h in
             let ups = both (leb g.first_row g.last_row) (leb g.first_column g.last_column) up in
             let ins = both (leb g.last_row 1048575) (leb g.last_column 16383) inn in
             record {
@@ -346,7 +342,7 @@ numbered_is [] k d h = absurd (omega arith)
 numbered_is (x ∷ xs) zero d h = refl
 numbered_is (x ∷ xs) (suc k) d h = numbered_is xs k d (omega arith)
 
-module _ (c : Sides) (s : Sheet) (areas : Areas) (n p : ℕ) (rows columns : List ℕ) where
+module _ (c : Sides) (s : Sheet) (areas : List PrintRange) (n p : ℕ) (rows columns : List ℕ) where
   abbrev then : PrintRange → Outcome AreaLayout
   then g = area_room (area_at c (rows_in s g) (columns_in s g) (scale_at p)) (room_in rows) (room_in columns)
 
@@ -355,24 +351,19 @@ module _ (c : Sides) (s : Sheet) (areas : Areas) (n p : ℕ) (rows columns : Lis
   no_permille e = rw e
 
   module _ (h : 1 ≤ p) where
-    pub asks_number : numbered_area c s areas n p rows columns ≡ and_then (numbered (areas_in areas) n) then
+    pub asks_number : numbered_area c s areas n p rows columns ≡ and_then (numbered areas n) then
     unfolding numbered_area
     asks_number = rw (le-leb 1 p h)
 
     pub number_zero : n ≡ 0 → numbered_area c s areas n p rows columns ≡ refused 14
-    number_zero e = asks_number ∙ rw (e, numbered_zero (areas_in areas))
+    number_zero e = asks_number ∙ rw (e, numbered_zero areas)
 
-    module _ (few : areas.count ≤ 8) where
-      long : length (areas_in areas) ≡ areas.count
-      long = length-take-le areas.count (eight_ranges areas) few
+    pub number_past : length areas < n → numbered_area c s areas n p rows columns ≡ refused 14
+    number_past q = asks_number ∙ rw (numbered_past areas n q)
 
-      pub number_past : areas.count < n → numbered_area c s areas n p rows columns ≡ refused 14
-      number_past q = asks_number ∙ rw (numbered_past (areas_in areas) n (omega (arith, long)))
-
-      pub number_is : (k : ℕ) (g : PrintRange) → n ≡ suc k → k < areas.count → g ≡ get_or (eight_ranges areas) k no_range
-          → numbered_area c s areas n p rows columns ≡ then g
-      number_is k g en q eg =
-          asks_number ∙ rw (en, numbered_is (areas_in areas) k no_range (omega (arith, long)), get_or-take areas.count (eight_ranges areas) k no_range q, eg)
+    pub number_is : (k : ℕ) (g : PrintRange) → n ≡ suc k → k < length areas → g ≡ get_or areas k no_range
+        → numbered_area c s areas n p rows columns ≡ then g
+    number_is k g en q eg = asks_number ∙ rw (en, numbered_is areas k no_range q, eg)
 
 -- 11 of one area
 module _ (l : AreaLayout) (row_room column_room : ℕ) where
@@ -388,7 +379,7 @@ module _ (l : AreaLayout) (row_room column_room : ℕ) where
 -- ---- the calls
 
 -- a first no
-module _ (s : Sheet) (areas : Areas) (n : ℕ) (e : asked s areas ≡ refused n) where
+module _ (s : Sheet) (areas : List PrintRange) (n : ℕ) (e : asked s areas ≡ refused n) where
   pub no_plan : (rows columns : List ℕ) → planned s areas rows columns ≡ refused n
   unfolding planned
   no_plan rows columns = questions_first s areas _ ∙ rw e
@@ -402,7 +393,7 @@ module _ (s : Sheet) (areas : Areas) (n : ℕ) (e : asked s areas ≡ refused n)
   no_area k p rows columns = questions_first s areas _ ∙ rw e
 
 -- none
-module _ (x : Shared) (s : Sheet) (areas : Areas) (y : SharedBy x s areas) where
+module _ (x : Shared) (s : Sheet) (areas : List PrintRange) (y : SharedBy x s areas) where
   same_sheet : onto x s ≡ s
   same_sheet = λ i. record {
     settings = y.settings_are i;
@@ -437,13 +428,13 @@ module _ (x : Shared) (s : Sheet) (areas : Areas) (y : SharedBy x s areas) where
       }
 
   pub then_plan : (rows columns : List ℕ)
-      → room_for (onto x s) (layout (sides_in x) (onto x s) (areas_in areas)) (room_in rows) (room_in columns) ≡ planned s areas rows columns
+      → room_for (onto x s) (layout (sides_in x) (onto x s) areas) (room_in rows) (room_in columns) ≡ planned s areas rows columns
   unfolding planned
-  then_plan rows columns = after (λ (c : Sides) (t : Sheet). room_for t (layout c t (areas_in areas)) (room_in rows) (room_in columns))
+  then_plan rows columns = after (λ (c : Sides) (t : Sheet). room_for t (layout c t areas) (room_in rows) (room_in columns))
 
-  pub then_count : within_limit (onto x s) (layout (sides_in x) (onto x s) (areas_in areas)) ≡ counted s areas
+  pub then_count : within_limit (onto x s) (layout (sides_in x) (onto x s) areas) ≡ counted s areas
   unfolding counted
-  then_count = after (λ (c : Sides) (t : Sheet). within_limit t (layout c t (areas_in areas)))
+  then_count = after (λ (c : Sides) (t : Sheet). within_limit t (layout c t areas))
 
   pub then_area : (n p : ℕ) (rows columns : List ℕ) → numbered_area (sides_in x) (onto x s) areas n p rows columns ≡ area_written s areas n p rows columns
   unfolding area_written

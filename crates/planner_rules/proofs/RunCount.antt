@@ -11,9 +11,7 @@ use lib.ListN.{length, length-map, length-append, length-take}
 use borrow.Author.Tests.{le-leb}
 use Rattle.units.specs.Outcome.{given, refused, and_then}
 use Rattle.planner_rules.specs.declared.planning.PrintRange.{PrintRange}
-use Rattle.planner_rules.specs.declared.planning.Areas.{Areas}
 use Rattle.planner_rules.specs.Slots.{sum}
-use Rattle.planner_rules.specs.Areas.{eight_ranges, areas_in}
 use Rattle.planner_rules.specs.Runs.{Run}
 use Rattle.planner_rules.specs.Scale.{frame_for}
 use Rattle.planner_rules.specs.Lent.{room_in}
@@ -70,30 +68,21 @@ room_not_eleven : (l : AreaLayout) (row_room column_room : ℕ) → length l.row
 room_not_eleven l row_room column_room hr hc e =
     not_given l 11 (rw (le-leb (length l.rows) row_room hr, le-leb (length l.columns) column_room hc) at e)
 
-module _ (s : Sheet) (areas : Areas) (rows columns : List ℕ) where
+module _ (s : Sheet) (areas : List PrintRange) (rows columns : List ℕ) where
   -- lists with room for as many runs as slots, for each area, never meet 11
-  pub never_eleven : (m n : ℕ) → length s.row_indexes ≤ m → 1 ≤ m → areas.count * m ≤ room_in rows
-      → length s.column_indexes ≤ n → 1 ≤ n → areas.count * n ≤ room_in columns → planned s areas rows columns ≡ refused 11 → ⊥
+  pub never_eleven : (m n : ℕ) → length s.row_indexes ≤ m → 1 ≤ m → length areas * m ≤ room_in rows
+      → length s.column_indexes ≤ n → 1 ≤ n → length areas * n ≤ room_in columns → planned s areas rows columns ≡ refused 11 → ⊥
   unfolding planned room_for within_limit layout area_layout area_at among
   never_eleven m n ra oa ha rb ob hb e =
       let w = past_nine s areas _ 11 refl e in
-      let gs = areas_in areas in
+      let gs = areas in
       let even = formed_of s gs w.yes.six in
       let c = w.sides in
       let ls = layouts_of c s gs in
-      let some : length gs ≤ areas.count = omega (arith, length-take areas.count (eight_ranges areas)) in
       let fr : length (row_runs_of ls) ≤ room_in rows =
-      omega (
-        arith,
-        runs_few (λ (l : AreaLayout). l.rows) c s m (λ g. page_runs_few (rows_in s g) even.rows_even c.height _ m ra oa) gs,
-        mul-le-mul_right m some,
-      ) in
+      omega (arith, runs_few (λ (l : AreaLayout). l.rows) c s m (λ g. page_runs_few (rows_in s g) even.rows_even c.height _ m ra oa) gs) in
       let fc : length (column_runs_of ls) ≤ room_in columns =
-      omega (
-        arith,
-        runs_few (λ (l : AreaLayout). l.columns) c s n (λ g. page_runs_few (columns_in s g) even.columns_even c.width _ n rb ob) gs,
-        mul-le-mul_right n some,
-      ) in
+      omega (arith, runs_few (λ (l : AreaLayout). l.columns) c s n (λ g. page_runs_few (columns_in s g) even.columns_even c.width _ n rb ob) gs) in
       let l = layout c s gs in
       let few = leb l.plan.pages s.settings.page_limit in
       not_given l 11 (asked 12 11 few (given l) (λ i. omega arith)
@@ -105,9 +94,9 @@ module _ (s : Sheet) (areas : Areas) (rows columns : List ℕ) where
   unfolding area_written numbered area_at among
   area_never_eleven n p h ra oa rb ob e =
       let w = past_nine s areas _ 11 refl e in
-      let even = formed_of s (areas_in areas) w.yes.six in
+      let even = formed_of s areas w.yes.six in
       let c = w.sides in
-      go (areas_in areas) n (λ (g : PrintRange). area_at c (rows_in s g) (columns_in s g) (scale_at p))
+      go areas n (λ (g : PrintRange). area_at c (rows_in s g) (columns_in s g) (scale_at p))
       (λ g. page_runs_few (rows_in s g) even.rows_even c.height p (room_in rows) ra oa)
       (λ g. page_runs_few (columns_in s g) even.columns_even c.width p (room_in columns) rb ob)
       (sym (asks_number c s areas n p rows columns h) ∙ w.after)

@@ -2,20 +2,9 @@
 use Rattle.std.specs.Prelude.{Bool, true, false, ◌&&◌, List, [], ◌∷◌, ℕ, ◌+◌, leb, length, get_or, take}
 use Rattle.units.specs.Grid.{last_row, last_column}
 use Rattle.planner_rules.specs.declared.pages.AreaPlan.{AreaPlan}
-use Rattle.planner_rules.specs.declared.pages.AreaPlans.{AreaPlans}
 use Rattle.planner_rules.specs.declared.planning.PrintRange.{PrintRange}
-use Rattle.planner_rules.specs.declared.planning.Areas.{Areas}
 
 -- ---- the areas of a job
-
--- the eight ranges as a list
-abbrev pub eight_ranges : Areas → List PrintRange
-eight_ranges a =
-    a.first ∷ a.second ∷ a.third ∷ a.fourth ∷ a.fifth ∷ a.sixth ∷ a.seventh ∷ a.eighth ∷ []
-
--- "Each area .. in job order": those that count
-abbrev pub areas_in : Areas → List PrintRange
-areas_in a = take a.count (eight_ranges a)
 
 -- 4: "AR may stand up to eight times", and stands
 abbrev pub one_to_eight : ℕ → Bool
@@ -36,32 +25,9 @@ inside_grid g = leb g.last_row last_row && leb g.last_column last_column
 
 -- ---- what areas came to
 
--- the eight as a list
-abbrev pub eight_plans : AreaPlans → List AreaPlan
-eight_plans a =
-    a.first ∷ a.second ∷ a.third ∷ a.fourth ∷ a.fifth ∷ a.sixth ∷ a.seventh ∷ a.eighth ∷ []
-
--- those that count
-abbrev pub plans_in : AreaPlans → List AreaPlan
-plans_in a = take a.count (eight_plans a)
-
 -- what stands where there is no area
 abbrev pub no_plan : AreaPlan
 no_plan = record { permille = 0; unreachable = 0; row_runs = 0; column_runs = 0; rows_empty = false; columns_empty = false }
-
--- areas as a plan holds them
-abbrev pub held_plans : List AreaPlan → AreaPlans
-held_plans as' = record {
-  count = length as';
-  first = get_or as' 0 no_plan;
-  second = get_or as' 1 no_plan;
-  third = get_or as' 2 no_plan;
-  fourth = get_or as' 3 no_plan;
-  fifth = get_or as' 4 no_plan;
-  sixth = get_or as' 5 no_plan;
-  seventh = get_or as' 6 no_plan;
-  eighth = get_or as' 7 no_plan;
-}
 
 -- "add up over the areas"
 unfoldable pub over_areas : {A : Type 0} → (A → ℕ) → List A → ℕ

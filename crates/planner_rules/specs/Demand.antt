@@ -8,10 +8,9 @@ use Rattle.planner_rules.specs.declared.pages.Page.{Page}
 use Rattle.planner_rules.specs.declared.pages.AreaPlan.{AreaPlan}
 use Rattle.planner_rules.specs.declared.pages.Plan.{Plan}
 use Rattle.planner_rules.specs.declared.planning.PrintRange.{PrintRange}
-use Rattle.planner_rules.specs.declared.planning.Areas.{Areas}
 use Rattle.planner_rules.specs.Scale.{units}
 use Rattle.planner_rules.specs.Lent.{runs_in, firsts, lasts, sizes}
-use Rattle.planner_rules.specs.Areas.{areas_in, plans_in, over_areas}
+use Rattle.planner_rules.specs.Areas.{over_areas}
 use Rattle.planner_rules.specs.Pages.{numbered, pages_in, row_runs, column_runs, after_runs, page_numbered}
 use Rattle.planner_rules.specs.Plan.{AxisInput, Sheet, Sides, rows_in, columns_in, title_of, start_of, body_part, content_sides}
 use Rattle.planner_rules.specs.Division.{◌∈◌, kept_breaks, FewestRuns}
@@ -24,18 +23,18 @@ Finished r plan = r ≡ given plan
 -- ---- areas, by their numbers from 1
 
 -- the area with a number is this range
-abbrev pub IsArea : Areas → ℕ → PrintRange → Type 0
-IsArea areas n g = numbered (areas_in areas) n ≡ given g
+abbrev pub IsArea : List PrintRange → ℕ → PrintRange → Type 0
+IsArea areas n g = numbered areas n ≡ given g
 
 -- what that area came to, and that this is so
 pub record CameTo (plan : Plan) (n : ℕ) (This : AreaPlan → Type 0) : Type 0 where
   pub area : AreaPlan
-  pub is_it : numbered (plans_in plan.areas) n ≡ given area
+  pub is_it : numbered plan.areas.items n ≡ given area
   pub so : This area
 
 -- what stands before it in job order
 abbrev pub areas_before : Plan → ℕ → List AreaPlan
-areas_before plan n = take (n - 1) (plans_in plan.areas)
+areas_before plan n = take (n - 1) plan.areas.items
 
 -- how many pages: "page numbers run on"
 abbrev pub pages_before : Plan → ℕ → ℕ
@@ -81,7 +80,7 @@ pub record OnOnePage (plan : Plan) (n : ℕ) (rows columns : List ℕ) (row colu
 
 -- "Found in every finished plan, whatever its merges, titles and breaks: each pair of a body row and a body column on exactly one page", of each
 -- area "for that area's body and its own pages alone; so a pair in the bodies of two areas is on one page of each"
-pub record CoversPairs (r : Outcome Plan) (s : Sheet) (areas : Areas) (rows columns : List ℕ) : Type 0 where
+pub record CoversPairs (r : Outcome Plan) (s : Sheet) (areas : List PrintRange) (rows columns : List ℕ) : Type 0 where
   pub covered : (plan : Plan) → Finished r plan → (n : ℕ) (g : PrintRange) → IsArea areas n g
       → (row column : ℕ) → IsBody (rows_in s g) row → IsBody (columns_in s g) column → CameTo plan n (OnOnePage plan n rows columns row column)
 
@@ -114,7 +113,7 @@ FewestOnAxis side permille a n list =
     (firsts (runs_in n list)) (lasts (runs_in n list)) (sizes (runs_in n list))
 
 -- "Found where no merges or titles exist, on each axis": of each axis of each area for itself, whatever the other has
-pub record FewestPlan (r : Outcome Plan) (s : Sheet) (areas : Areas) (rows columns : List ℕ) : Type 0 where
+pub record FewestPlan (r : Outcome Plan) (s : Sheet) (areas : List PrintRange) (rows columns : List ℕ) : Type 0 where
   pub on_rows : (plan : Plan) → Finished r plan → (c : Sides) → content_sides s.settings ≡ given c
       → (n : ℕ) (g : PrintRange) → IsArea areas n g → Bare (rows_in s g)
       → CameTo plan n (λ (a : AreaPlan). FewestOnAxis c.height a.permille (rows_in s g) a.row_runs (rows_from plan n rows))
@@ -138,10 +137,10 @@ EachReaches a b height width permille =
 -- each axis has [such a division]; 'unreachable' was noted, once, exactly if 100 is no such permille, and then 100 was taken." One permille
 -- is taken for both axes of an area, so that neither may have merges or a title. "Demand 3, the unreachable note included, holds area by area":
 -- the note is of how many areas it was noted.
-pub record LargestPlan (r : Outcome Plan) (s : Sheet) (areas : Areas) : Type 0 where
+pub record LargestPlan (r : Outcome Plan) (s : Sheet) (areas : List PrintRange) : Type 0 where
   pub largest : (plan : Plan) → Finished r plan → (c : Sides) → content_sides s.settings ≡ given c
       → (n : ℕ) (g : PrintRange) → IsArea areas n g → Bare (rows_in s g) → Bare (columns_in s g) → s.settings.fit ≡ true
       → (height width : ℕ) → Exceeds c.height (rows_in s g) height → Exceeds c.width (columns_in s g) width
       → CameTo plan n (λ (a : AreaPlan). Chosen (EachReaches (rows_in s g) (columns_in s g) height width) a.permille a.unreachable)
   pub noted : (plan : Plan) → Finished r plan
-      → plan.notes.fit_unreachable ≡ over_areas (λ (a : AreaPlan). a.unreachable) (plans_in plan.areas)
+      → plan.notes.fit_unreachable ≡ over_areas (λ (a : AreaPlan). a.unreachable) plan.areas.items

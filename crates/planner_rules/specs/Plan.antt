@@ -17,7 +17,6 @@ use Rattle.planner_rules.specs.declared.pages.Notes.{Notes}
 use Rattle.planner_rules.specs.declared.pages.Plan.{Plan}
 use Rattle.planner_rules.specs.declared.planning.Settings.{Settings}
 use Rattle.planner_rules.specs.declared.planning.PrintRange.{PrintRange}
-use Rattle.planner_rules.specs.declared.planning.Areas.{Areas}
 use Rattle.planner_rules.specs.declared.planning.AreaNotes.{AreaNotes}
 use Rattle.planner_rules.specs.declared.planning.CountedArea.{CountedArea}
 use Rattle.planner_rules.specs.declared.planning.RunCounts.{RunCounts}
@@ -27,7 +26,7 @@ use Rattle.planner_rules.specs.declared.planning.FinalCut.{FinalCut}
 use Rattle.planner_rules.specs.declared.planning.ContentSides.{ContentSides}
 use Rattle.planner_rules.specs.Slots.{Slots, below, mid}
 use Rattle.planner_rules.specs.Questions.{ask, equally_long, all_ordered, all_within, rising_within, all_small, no_or}
-use Rattle.planner_rules.specs.Areas.{areas_in, one_to_eight, every_area, upright, inside_grid, held_plans, over_areas}
+use Rattle.planner_rules.specs.Areas.{one_to_eight, every_area, upright, inside_grid, over_areas}
 use Rattle.planner_rules.specs.Union.{cells_hold}
 use Rattle.planner_rules.specs.Titles.{limit_of, widened, body_start, title_total}
 use Rattle.planner_rules.specs.Runs.{Run, axis_runs, shifts, expansions}
@@ -307,7 +306,7 @@ notes_of c sheet ls = record {
 -- the plan of areas: what each came to, and "the pages' total"
 unfoldable pub plan_of : Sides → Sheet → List AreaLayout → Plan
 plan_of c sheet ls = record {
-  areas = held_plans (map plan_in ls);
+  areas = record { items = map plan_in ls };
   pages = over_areas (λ (l : AreaLayout). pages_in (plan_in l)) ls;
   order = sheet.settings.order;
   notes = notes_of c sheet ls;
@@ -354,12 +353,12 @@ abbrev pub small : Sheet → Bool
 small s = all_small s.row_sizes && all_small s.column_sizes
 
 -- the questions 4, 6, 7, 15, 8, 9 and 10 in order, then what is made of the content's sides
-unfoldable pub questioned : {A : Type 0} → Sheet → Areas → (Sides → Outcome A) → Outcome A
+unfoldable pub questioned : {A : Type 0} → Sheet → List PrintRange → (Sides → Outcome A) → Outcome A
 questioned s areas rest =
-    ask 4 (one_to_eight areas.count)
-    (ask 6 (formed s (areas_in areas))
-    (ask 7 (in_grid s (areas_in areas))
-    (ask 15 (cells_hold s.settings.cell_limit (areas_in areas))
+    ask 4 (one_to_eight (length areas))
+    (ask 6 (formed s areas)
+    (ask 7 (in_grid s areas)
+    (ask 15 (cells_hold s.settings.cell_limit areas)
     (ask 8 (rises s)
     (ask 9 (small s)
     (and_then (content_sides s.settings) rest))))))
@@ -377,15 +376,15 @@ room_for s l row_room column_room =
     ask 11 (leb (length l.rows) row_room && leb (length l.columns) column_room) (within_limit s l)
 
 -- `plan_pages`; the lent lists are that of the row runs and that of the column runs
-unfoldable pub planned : Sheet → Areas → List ℕ → List ℕ → Outcome Layout
+unfoldable pub planned : Sheet → List PrintRange → List ℕ → List ℕ → Outcome Layout
 unfolding questioned room_for
 planned s areas lent_rows lent_columns =
-    questioned s areas (λ (c : Sides). room_for s (layout c s (areas_in areas)) (room_in lent_rows) (room_in lent_columns))
+    questioned s areas (λ (c : Sides). room_for s (layout c s areas) (room_in lent_rows) (room_in lent_columns))
 
 -- `count_pages`: the same plan, of a call that was lent no list
-unfoldable pub counted : Sheet → Areas → Outcome Layout
+unfoldable pub counted : Sheet → List PrintRange → Outcome Layout
 unfolding questioned within_limit
-counted s areas = questioned s areas (λ (c : Sides). within_limit s (layout c s (areas_in areas)))
+counted s areas = questioned s areas (λ (c : Sides). within_limit s (layout c s areas))
 
 -- an area at a permille: its scale is not searched
 abbrev pub scale_at : ℕ → Scale
@@ -397,14 +396,14 @@ area_room l row_room column_room =
     ask 11 (leb (length l.rows) row_room && leb (length l.columns) column_room) (given l)
 
 -- 10 of the permille, for at 0 there is no capacity; 14 of the area's number, from 1; then 11, and the area's runs at the permille
-unfoldable pub numbered_area : Sides → Sheet → Areas → ℕ → ℕ → List ℕ → List ℕ → Outcome AreaLayout
+unfoldable pub numbered_area : Sides → Sheet → List PrintRange → ℕ → ℕ → List ℕ → List ℕ → Outcome AreaLayout
 unfolding numbered
 numbered_area c s areas n p lent_rows lent_columns =
-    ask 10 (leb 1 p) (and_then (numbered (areas_in areas) n)
+    ask 10 (leb 1 p) (and_then (numbered areas n)
     (λ (g : PrintRange). area_room (area_at c (rows_in s g) (columns_in s g) (scale_at p)) (room_in lent_rows) (room_in lent_columns)))
 
 -- `write_area`
-unfoldable pub area_written : Sheet → Areas → ℕ → ℕ → List ℕ → List ℕ → Outcome AreaLayout
+unfoldable pub area_written : Sheet → List PrintRange → ℕ → ℕ → List ℕ → List ℕ → Outcome AreaLayout
 unfolding questioned numbered_area
 area_written s areas n p lent_rows lent_columns = questioned s areas (λ (c : Sides). numbered_area c s areas n p lent_rows lent_columns)
 
@@ -538,11 +537,11 @@ pub record Cuttable (r : Ready) (is ss : List ℕ) : Type 0 where
   pub low : Low r.fit.page
 
 -- the first of the questions 4, 6, 7, 15, 8 and 9 with the answer no, or 0
-unfoldable pub first_no : Sheet → Areas → ℕ
+unfoldable pub first_no : Sheet → List PrintRange → ℕ
 first_no s areas =
-    no_or 4 (one_to_eight areas.count)
-    (no_or 6 (formed s (areas_in areas))
-    (no_or 7 (in_grid s (areas_in areas))
-    (no_or 15 (cells_hold s.settings.cell_limit (areas_in areas))
+    no_or 4 (one_to_eight (length areas))
+    (no_or 6 (formed s areas)
+    (no_or 7 (in_grid s areas)
+    (no_or 15 (cells_hold s.settings.cell_limit areas)
     (no_or 8 (rises s)
     (no_or 9 (small s) 0)))))

@@ -1,6 +1,6 @@
 -- What the private functions of the plan calls hand to each other: what all areas share, an area that is ready, counted areas, and runs that are
 -- written area by area. Assumes nothing.
-use Rattle.std.specs.Prelude.{◌≡◌, Result, Ok, Err, List, [], ◌++◌, map, ℕ, ◌+◌, ◌*◌, ◌^◌, ◌≤◌, ◌<◌, max, get_or, set, take, drop}
+use Rattle.std.specs.Prelude.{◌≡◌, Result, Ok, Err, List, [], ◌∷◌, ◌++◌, map, ℕ, ◌+◌, ◌*◌, ◌^◌, ◌≤◌, ◌<◌, max, length, get_or, take, drop}
 use Rattle.units.specs.Grid.{last_row, last_column}
 use Rattle.units.specs.Outcome.{Outcome, given, refused}
 use Rattle.units.specs.Refusals.{number_of}
@@ -10,7 +10,6 @@ use Rattle.planner_rules.specs.declared.titles.Axis.TheVariants.{Rows, Columns}
 use Rattle.planner_rules.specs.declared.pages.AreaPlan.{AreaPlan}
 use Rattle.planner_rules.specs.declared.pages.Plan.{Plan}
 use Rattle.planner_rules.specs.declared.planning.PrintRange.{PrintRange}
-use Rattle.planner_rules.specs.declared.planning.Areas.{Areas}
 use Rattle.planner_rules.specs.declared.planning.ReadyTitle.{ReadyTitle}
 use Rattle.planner_rules.specs.declared.planning.Ready.{Ready}
 use Rattle.planner_rules.specs.declared.planning.ReadyArea.{ReadyArea}
@@ -21,7 +20,7 @@ use Rattle.planner_rules.specs.declared.planning.CountedArea.{CountedArea}
 use Rattle.planner_rules.specs.declared.planning.CountedAreas.{CountedAreas}
 use Rattle.planner_rules.specs.declared.planning.Shared.{Shared}
 use Rattle.planner_rules.specs.Slots.{Slots, Rising, below, written}
-use Rattle.planner_rules.specs.Areas.{eight_ranges, no_range, eight_plans, held_plans, over_areas}
+use Rattle.planner_rules.specs.Areas.{no_range, over_areas}
 use Rattle.planner_rules.specs.Titles.{limit_of, widened, body_start, title_total}
 use Rattle.planner_rules.specs.Runs.{Run}
 use Rattle.planner_rules.specs.Lent.{flat, Room, RoomAt}
@@ -35,7 +34,7 @@ use Rattle.planner_rules.specs.Plan.{ready_runs, ready_shifts, ready_overflows, 
 -- ---- what all areas share
 
 -- the questions 4, 6, 7, 15, 8, 9 and 10: the content's sides, or the first no
-abbrev pub asked : Sheet → Areas → Outcome Sides
+abbrev pub asked : Sheet → List PrintRange → Outcome Sides
 asked s areas = questioned s areas (λ (c : Sides). given c)
 
 -- the sides
@@ -72,12 +71,12 @@ pub record FineArea (g : PrintRange) : Type 0 where
   pub columns_inside : g.last_column ≤ last_column
 
 -- one to eight of them
-pub record FineAreas (areas : Areas) : Type 0 where
-  pub few : areas.count ≤ 8
-  pub each : (k : ℕ) → k < areas.count → FineArea (get_or (eight_ranges areas) k no_range)
+pub record FineAreas (areas : List PrintRange) : Type 0 where
+  pub few : length areas ≤ 8
+  pub each : (k : ℕ) → k < length areas → FineArea (get_or areas k no_range)
 
 -- what was prepared of a sheet: what its areas share, or the first no
-pub record SharedBy (x : Shared) (s : Sheet) (areas : Areas) : Type 0 where
+pub record SharedBy (x : Shared) (s : Sheet) (areas : List PrintRange) : Type 0 where
   pub goes_on : asked s areas ≡ given (sides_in x)
   pub settings_are : x.settings ≡ s.settings
   pub row_title_is : x.rows.asked ≡ s.row_title
@@ -85,7 +84,7 @@ pub record SharedBy (x : Shared) (s : Sheet) (areas : Areas) : Type 0 where
   pub settled : Settled x s
   pub fine : FineAreas areas
 
-abbrev pub IsPrepared : Result Shared Refusal → Sheet → Areas → Type 0
+abbrev pub IsPrepared : Result Shared Refusal → Sheet → List PrintRange → Type 0
 IsPrepared (Ok x) s areas = SharedBy x s areas
 IsPrepared (Err r) s areas = asked s areas ≡ refused (number_of r)
 
@@ -168,7 +167,7 @@ pub record Few (a : CountedArea) : Type 0 where
 -- what areas come to together
 abbrev pub counted_of : List AreaLayout → CountedAreas
 counted_of ls = record {
-  areas = held_plans (map plan_in ls);
+  areas = record { items = map plan_in ls };
   rows = over_areas (λ (l : AreaLayout). (plan_in l).row_runs) ls;
   columns = over_areas (λ (l : AreaLayout). (plan_in l).column_runs) ls;
   pages = over_areas (λ (l : AreaLayout). pages_in (plan_in l)) ls;
@@ -200,20 +199,23 @@ plan_from x all = record {
   };
 }
 
--- n areas have few runs and notes
-pub record FewAll (all : CountedAreas) (n : ℕ) : Type 0 where
-  pub rows_few : all.rows ≤ n * 2 ^ 20
-  pub columns_few : all.columns ≤ n * 2 ^ 20
-  pub pages_few : all.pages ≤ n * 2 ^ 40
-  pub clamped_few : all.notes.clamped ≤ n
-  pub unreachable_few : all.notes.unreachable ≤ n
-  pub expansions_few : all.notes.expansions ≤ n * 2 ^ 21
-  pub overflows_few : all.notes.overflows ≤ n * 2 ^ 21
+-- how many areas were counted
+abbrev pub counted_areas : CountedAreas → ℕ
+counted_areas all = length all.areas.items
 
--- an area more, which is the one after the first n
-pub record Added (r all : CountedAreas) (n : ℕ) (a : CountedArea) : Type 0 where
-  pub plans_are : eight_plans r.areas ≡ set (eight_plans all.areas) n a.area
-  pub count_is : r.areas.count ≡ n + 1
+-- so many areas have few runs and notes
+pub record FewAll (all : CountedAreas) : Type 0 where
+  pub rows_few : all.rows ≤ counted_areas all * 2 ^ 20
+  pub columns_few : all.columns ≤ counted_areas all * 2 ^ 20
+  pub pages_few : all.pages ≤ counted_areas all * 2 ^ 40
+  pub clamped_few : all.notes.clamped ≤ counted_areas all
+  pub unreachable_few : all.notes.unreachable ≤ counted_areas all
+  pub expansions_few : all.notes.expansions ≤ counted_areas all * 2 ^ 21
+  pub overflows_few : all.notes.overflows ≤ counted_areas all * 2 ^ 21
+
+-- an area more, behind the others
+pub record Added (r all : CountedAreas) (a : CountedArea) : Type 0 where
+  pub plans_are : r.areas.items ≡ all.areas.items ++ a.area ∷ []
   pub rows_are : r.rows ≡ all.rows + a.area.row_runs
   pub columns_are : r.columns ≡ all.columns + a.area.column_runs
   pub pages_are : r.pages ≡ all.pages + pages_in a.area

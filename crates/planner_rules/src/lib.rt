@@ -13,7 +13,7 @@ pub use lists::{AxisLists, MergeList, SheetLists, SlotList};
 pub use pages::{AreaPlan, AreaPlans, Notes, Page, PageOrder, PageRun, Place, Plan, Spot};
 pub use partition::AxisSetup;
 pub use planning::{
-    AreaNotes, Areas, AxisRange, ContentSides, CountedArea, CountedAreas, FinalCut, Frames,
+    AreaNotes, AxisRange, ContentSides, CountedArea, CountedAreas, FinalCut, Frames,
     PrintRange, Ready, ReadyArea, ReadyTitle, Request, RunCounts, Settings, Shared,
 };
 pub use runs::{Cut, Frame, RUN_NUMBERS, RunEnd, Tally};

@@ -1,4 +1,5 @@
 // Pages: document 01, section "Pages".
+use arrayvec::ArrayVec;
 
 #[derive(Clone, Copy)]
 pub enum PageOrder {
@@ -22,7 +23,7 @@ pub struct Notes {
 
 // What an area came to: its scale, 1 where no permille fits it, how many runs of rows and of columns its pages are made of, and whether its
 // bodies are empty.
-#[derive(Clone, Copy)]
+#[derive(Clone, Copy, Default)]
 pub struct AreaPlan {
     pub permille: u16,
     pub unreachable: u64,
@@ -32,22 +33,11 @@ pub struct AreaPlan {
     pub columns_empty: bool,
 }
 
-// What at most eight areas came to, in job order. (Eight fields: an enum that holds an array is not covered.)
-#[derive(Clone, Copy)]
-pub struct AreaPlans {
-    pub count: usize,
-    pub first: AreaPlan,
-    pub second: AreaPlan,
-    pub third: AreaPlan,
-    pub fourth: AreaPlan,
-    pub fifth: AreaPlan,
-    pub sixth: AreaPlan,
-    pub seventh: AreaPlan,
-    pub eighth: AreaPlan,
-}
+// What the areas came to, in job order. Eight have room, and no more are asked for.
+pub type AreaPlans = ArrayVec<AreaPlan, 8>;
 
 // A finished plan. Its runs stand in the lists that were lent to it, area after area.
-#[derive(Clone, Copy)]
+#[derive(Drop)]
 pub struct Plan {
     pub areas: AreaPlans,
     pub pages: u64,

@@ -31,25 +31,11 @@ pub struct PrintRange {
     pub last_column: u32,
 }
 
-// The print areas, one to eight, in job order.
+// What is asked of a plan beside its lists: settings, areas, one to eight in job order, and titles.
 #[derive(Clone, Copy)]
-pub struct Areas {
-    pub count: usize,
-    pub first: PrintRange,
-    pub second: PrintRange,
-    pub third: PrintRange,
-    pub fourth: PrintRange,
-    pub fifth: PrintRange,
-    pub sixth: PrintRange,
-    pub seventh: PrintRange,
-    pub eighth: PrintRange,
-}
-
-// What is asked of a plan beside its lists: settings, areas and titles.
-#[derive(Clone, Copy)]
-pub struct Request {
+pub struct Request<'a> {
     pub settings: Settings,
-    pub areas: Areas,
+    pub areas: &'a [PrintRange],
     pub row_title: Title,
     pub column_title: Title,
 }
@@ -133,7 +119,7 @@ pub struct CountedArea {
 }
 
 // What the areas were counted to: each, all their runs of rows and of columns, their pages and their notes.
-#[derive(Clone, Copy)]
+#[derive(Drop)]
 pub struct CountedAreas {
     pub areas: AreaPlans,
     pub rows: usize,
