@@ -1,8 +1,6 @@
 // Several print areas: document 02, request T-02.
 #![tactic(auto)]
 
-mod eight;
 mod union;
 
-pub use eight::{area_at, at_most_eight, plan_at, with_plan};
 pub use union::{cells_hold, union_cells};

@@ -1,12 +1,10 @@
 // How many cells lie in at least one area. From one row where an area starts or has ended to the next, each row has as many. Those of a row
 // are counted by stretches: cells that areas hold, and behind them cells that none does. One look at the areas finds a stretch.
 ghost use Rattle.std.specs.Prelude.{◌≡◌, ◌+◌, ◌≤◌, ◌<◌};
-ghost use Rattle.planner_rules.specs.Areas.{areas_in};
 ghost use Rattle.planner_rules.specs.Union as definition;
 ghost use Rattle.planner_areas.specs.Edges as edges;
 
-use crate::eight::{at_most_eight, eight_ranges};
-use planner_rules::{Areas, PrintRange};
+use planner_rules::PrintRange;
 
 // How many rows and columns the grid has.
 const ROWS: u64 = 1_048_576;
@@ -101,7 +99,7 @@ fn row_cells(ranges: &[PrintRange], row: u64) -> u64
 }
 
 // The cells of the grid that lie in at least one of some areas, each counted once.
-fn cells_of(ranges: &[PrintRange]) -> u64
+pub fn union_cells(ranges: &[PrintRange]) -> u64
     ensures { result ≡ definition.union_cells ranges.now }
 {
     let mut cells = 0;
@@ -115,18 +113,10 @@ fn cells_of(ranges: &[PrintRange]) -> u64
     cells
 }
 
-// The same of the areas of a job.
-pub fn union_cells(areas: Areas) -> u64
-    ensures { result ≡ definition.union_cells (areas_in areas) }
-{
-    let eight = eight_ranges(areas);
-    cells_of(&eight[..at_most_eight(areas.count)])
-}
-
 // 15: no more cells than the limit lie in at least one area. Without a limit none is counted.
 #[inline(always)]
-pub fn cells_hold(limit: Option<u64>, areas: Areas) -> bool
-    ensures { result ≡ definition.cells_hold limit (areas_in areas) }
+pub fn cells_hold(limit: Option<u64>, areas: &[PrintRange]) -> bool
+    ensures { result ≡ definition.cells_hold limit areas.now }
 {
     match limit {
         None => true,

@@ -3,16 +3,14 @@
 
 ghost use Rattle.std.specs.Prelude.{◌≡◌, fold, bit_or, ◌/◌, ◌&&◌};
 ghost use Rattle.units.specs.Refusals.{number_of};
-ghost use Rattle.planner_rules.specs.Questions.{no_or, equally_long, all_ordered, all_within, rising, rising_within, all_small};
-ghost use Rattle.planner_rules.specs.Areas.{areas_in, every_area, upright, inside_grid};
+ghost use Rattle.planner_rules.specs.Questions.{no_or, equally_long, all_ordered, all_within, rising, rising_within, all_small, well_formed};
+ghost use Rattle.planner_rules.specs.Areas.{every_area, upright, inside_grid};
 ghost use Rattle.planner_rules.specs.Plan as call;
 ghost use Rattle.planner_rules.specs.Asked.{sheet_asked};
 ghost use Rattle.planner_rules.specs.Partition as partition;
 
-use planner_areas::{area_at, at_most_eight, cells_hold};
-use planner_rules::{
-    Areas, AxisSetup, MergeList, PrintRange, RUN_NUMBERS, Request, SheetLists, SlotList,
-};
+use planner_areas::cells_hold;
+use planner_rules::{AxisSetup, MergeList, PrintRange, RUN_NUMBERS, Request, SheetLists, SlotList};
 use units::{LARGEST_SIZE, MAX_WORKSHEET_COLUMN, MAX_WORKSHEET_ROW, Refusal};
 
 // How many runs a list of so many numbers has room for.
@@ -78,42 +76,22 @@ pub fn all_small(sizes: &[u64]) -> bool
     bits_of(sizes) <= LARGEST_SIZE
 }
 
-// What the areas answer to 6 and to 7.
-#[derive(Clone, Copy)]
-struct AreasAsked {
-    upright: bool,
-    inside: bool,
+// 6 of the areas: no first row and no first column is past its last.
+fn all_upright(areas: &[PrintRange]) -> bool
+    ensures { result ≡ every_area upright areas.now }
+{
+    areas.iter().all(|range| {
+        (range.first_row <= range.last_row) & (range.first_column <= range.last_column)
+    })
 }
 
-// 6 of an area: its first row and its first column are not past its last.
-fn is_upright(range: PrintRange) -> bool
-    ensures { result ≡ upright range }
+// 7 of the areas: each last cell is in the grid.
+fn all_inside(areas: &[PrintRange]) -> bool
+    ensures { result ≡ every_area inside_grid areas.now }
 {
-    (range.first_row <= range.last_row) & (range.first_column <= range.last_column)
-}
-
-// 7 of an area: its last cell is in the grid.
-fn is_inside(range: PrintRange) -> bool
-    ensures { result ≡ inside_grid range }
-{
-    (range.last_row <= MAX_WORKSHEET_ROW) & (range.last_column <= MAX_WORKSHEET_COLUMN as u32)
-}
-
-fn ask_areas(areas: Areas) -> AreasAsked
-    ensures upright_value { result.upright ≡ every_area upright (areas_in areas) }
-    ensures inside_value { result.inside ≡ every_area inside_grid (areas_in areas) }
-{
-    let count = at_most_eight(areas.count);
-    let mut upright = true;
-    let mut inside = true;
-    let mut i = 0;
-    while i < count {
-        let range = area_at(areas, i);
-        upright = upright & is_upright(range);
-        inside = inside & is_inside(range);
-        i += 1;
-    }
-    AreasAsked { upright, inside }
+    areas.iter().all(|range| {
+        (range.last_row <= MAX_WORKSHEET_ROW) & (range.last_column <= MAX_WORKSHEET_COLUMN as u32)
+    })
 }
 
 // 6 of the lists of an axis: equally long, and no first is above its last.
@@ -127,11 +105,39 @@ fn formed(slots: SlotList, merges: MergeList) -> bool
         & pairs_ordered(merges)
 }
 
+// 6 of a sheet and its areas.
+fn sheet_formed(request: &Request, lists: &SheetLists) -> bool
+    ensures { result ≡ call.formed (sheet_asked request.now lists.now) request.now.areas.now }
+{
+    let SheetLists { rows, columns } = *lists;
+    formed(rows.slots, rows.merges)
+        & formed(columns.slots, columns.merges)
+        & (rows.merges.firsts.len() == columns.merges.firsts.len())
+        & all_upright(request.areas)
+}
+
+// 7 of them.
+fn in_grid(request: &Request, lists: &SheetLists) -> bool
+    ensures { result ≡ call.in_grid (sheet_asked request.now lists.now) request.now.areas.now }
+{
+    all_within(lists.rows.merges.lasts, MAX_WORKSHEET_ROW)
+        & all_within(lists.columns.merges.lasts, MAX_WORKSHEET_COLUMN as u32)
+        & all_inside(request.areas)
+}
+
 // A question: it refuses where its answer is no.
 fn ask(yes: bool, no: Refusal) -> Result<(), Refusal>
     ensures { partition.no_of result ≡ no_or (number_of no) yes 0 }
 {
     if yes { Ok(()) } else { Err(no) }
+}
+
+// 6 of one axis.
+fn axis_formed(setup: AxisSetup, slots: SlotList, merges: MergeList) -> bool
+    ensures { result ≡ well_formed setup.first setup.last slots.entry.indexes.now slots.entry.sizes.now
+        merges.entry.firsts.now merges.entry.lasts.now }
+{
+    formed(slots, merges) & (setup.first <= setup.last)
 }
 
 // The questions 6 to 9 of one axis: the first whose answer is no refuses.
@@ -144,8 +150,7 @@ pub fn partition_refusal(
     ensures { partition.no_of result ≡ partition.first_no limit setup slots.entry.indexes.now slots.entry.sizes.now
         merges.entry.firsts.now merges.entry.lasts.now }
 {
-    let six = formed(slots, merges) & (setup.first <= setup.last);
-    ask(six, Refusal::MalformedLists)?;
+    ask(axis_formed(setup, slots, merges), Refusal::MalformedLists)?;
     let seven = (setup.last <= limit) & all_within(merges.lasts, limit);
     ask(seven, Refusal::OutsideGrid)?;
     ask(
@@ -157,28 +162,21 @@ pub fn partition_refusal(
 
 // The questions 4, 6, 7, 15, 8 and 9: the first whose answer is no refuses. Cells are counted only where 4, 6 and 7 are answered with yes.
 pub fn plan_refusal(request: &Request, lists: &SheetLists) -> Result<(), Refusal>
-    ensures { partition.no_of result ≡ call.first_no (sheet_asked request.now lists.now) request.now.areas }
+    ensures { partition.no_of result ≡ call.first_no (sheet_asked request.now lists.now) request.now.areas.now }
 {
-    let SheetLists { rows, columns } = *lists;
     let areas = request.areas;
-    let asked = ask_areas(areas);
-    let four = (1 <= areas.count) & (areas.count <= 8);
-    let six = formed(rows.slots, rows.merges)
-        & formed(columns.slots, columns.merges)
-        & (rows.merges.firsts.len() == columns.merges.firsts.len())
-        & asked.upright;
-    let seven = all_within(rows.merges.lasts, MAX_WORKSHEET_ROW)
-        & all_within(columns.merges.lasts, MAX_WORKSHEET_COLUMN as u32)
-        & asked.inside;
+    let four = (1 <= areas.len()) & (areas.len() <= 8);
     ask(four, Refusal::MisplacedRecord)?;
-    ask(six, Refusal::MalformedLists)?;
-    ask(seven, Refusal::OutsideGrid)?;
+    ask(sheet_formed(request, lists), Refusal::MalformedLists)?;
+    ask(in_grid(request, lists), Refusal::OutsideGrid)?;
     let fifteen = cells_hold(request.settings.cell_limit, areas);
-    let eight = rising_within(rows.slots.indexes, MAX_WORKSHEET_ROW)
-        & rising_within(columns.slots.indexes, MAX_WORKSHEET_COLUMN as u32);
-    let nine = all_small(rows.slots.sizes) & all_small(columns.slots.sizes);
     ask(fifteen, Refusal::TooManyCells)?;
+    let rows = lists.rows.slots;
+    let columns = lists.columns.slots;
+    let eight = rising_within(rows.indexes, MAX_WORKSHEET_ROW)
+        & rising_within(columns.indexes, MAX_WORKSHEET_COLUMN as u32);
     ask(eight, Refusal::IndexesNotRising)?;
+    let nine = all_small(rows.sizes) & all_small(columns.sizes);
     ask(nine, Refusal::SizeOutOfRange)
 }
 

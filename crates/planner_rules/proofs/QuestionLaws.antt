@@ -12,6 +12,8 @@ use Rattle.std.specs.Prelude.{fold}
 use Rattle.std.specs.List.{list_all, zip}
 use lib.ListN.{length, get_or, drop}
 use borrow.Author.Tests.{le-leb, lt-leb, leb-true, ltb-true}
+use Rattle.planner_rules.specs.declared.planning.PrintRange.{PrintRange}
+use Rattle.planner_rules.specs.Areas.{every_area}
 use Rattle.planner_rules.specs.Slots.{Slots}
 use Rattle.units.specs.Outcome.{Outcome, refused}
 use Rattle.units.specs.Refusals.{number_of}
@@ -50,15 +52,14 @@ positive no.PageListTooShort = omega arith
 positive no.NoSuchNumber = omega arith
 positive no.TooManyCells = omega arith
 
--- one question that was refused: its answer is no, and the refusal has its number
-pub said_no : (n : ℕ) (b : Bool) (r : Refusal) → number_of r ≡ no_or n b 0 → (b ≡ false) × (number_of r ≡ n)
-said_no n true r e = absurd (omega (arith, positive r))
-said_no n false r e = (refl, e)
+-- one question that was put as a test: where it refused, its number is that of the first no; where it did not, what comes after it is asked
+pub stopped : (n : ℕ) (a b : Bool) (k : ℕ) (r : Refusal) → b ≡ a → number_of r ≡ no_or n b 0 → no_or n a k ≡ number_of r
+stopped n true b k r e f = absurd (omega (arith, positive r, rw e at f))
+stopped n false b k r e f = sym (rw e at f)
 
--- one that was not
-pub said_yes : (n : ℕ) (b : Bool) → 0 < n → 0 ≡ no_or n b 0 → b ≡ true
-said_yes n true p e = refl
-said_yes n false p e = absurd (omega arith)
+pub passed : (n : ℕ) (a b : Bool) (k : ℕ) → 0 < n → b ≡ a → 0 ≡ no_or n b 0 → no_or n a k ≡ k
+passed n true b k p e f = refl
+passed n false b k p e f = absurd (omega (arith, rw e at f))
 
 -- no number refuses nothing
 pub no_number : {A : Type 0} (o : Outcome A) → 0 < 0 → o ≡ refused 0
@@ -71,6 +72,11 @@ unfolding all_ordered
 ordered_all [] ls = refl
 ordered_all (f ∷ fs) [] = refl
 ordered_all (f ∷ fs) (l ∷ ls) = ap (λ (b : Bool). leb f l && b) (ordered_all fs ls)
+
+pub every_all : (p : PrintRange → Bool) (gs : List PrintRange) → list_all p gs ≡ every_area p gs
+unfolding every_area
+every_all p [] = refl
+every_all p (g ∷ gs) = ap (λ (b : Bool). p g && b) (every_all p gs)
 
 pub within_all : (limit : ℕ) (xs : List ℕ) → list_all (λ x. leb x limit) xs ≡ all_within limit xs
 unfolding all_within

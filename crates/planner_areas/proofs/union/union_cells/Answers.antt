@@ -3,7 +3,7 @@ use Rattle.std.proofs.Common.{◌≡◌, ◌-◌, sym, arith}
 use Rattle.std.proofs.Math.Nat.{mul-le-mul_left}
 use Rattle.planner_rules.specs.Union.{cells_in, union_cells}
 use Rattle.planner_areas.proofs.Totals.{above_none, band}
-use Rattle.planner_areas.proofs.union.cells_of.Goals as goal
+use Rattle.planner_areas.proofs.union.union_cells.Goals as goal
 
 pub loop-row-init : goal.loop-row-init
 loop-row-init c = (omega arith, omega arith, sym (above_none c.args.ranges.now))
