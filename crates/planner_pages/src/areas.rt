@@ -1,10 +1,8 @@
 // Walks over the areas of a plan.
-ghost use Rattle.std.specs.Prelude.{◌≡◌, ◌≤◌, ◌<◌, ◌^◌, ltb, length, take};
-ghost use Rattle.planner_rules.specs.Areas.{plans_in};
+ghost use Rattle.std.specs.Prelude.{◌≡◌, ◌<◌, ◌^◌, ltb};
 ghost use Rattle.planner_rules.specs.Pages as section;
 
-use planner_areas::{at_most_eight, plan_at};
-use planner_rules::{AreaPlan, AreaPlans, RunCounts, Spot};
+use planner_rules::{AreaPlan, RunCounts, Spot};
 
 // Whether an area has more pages than so many: by division, for the product of its run counts may be too large for a number.
 pub(crate) fn has_more(area: AreaPlan, before: usize) -> bool
@@ -17,39 +15,32 @@ pub(crate) fn has_more(area: AreaPlan, before: usize) -> bool
 }
 
 // The spot of the page that has so many pages before it; past the last area where there is none, and then how many are left.
-pub(crate) fn walk(areas: AreaPlans, before: usize) -> Spot
-    ensures { result ≡ section.walk_from 0 before (plans_in areas) }
+pub(crate) fn walk(areas: &[AreaPlan], before: usize) -> Spot
+    ensures { result ≡ section.walk_from 0 before areas.now }
 {
-    let end = at_most_eight(areas.count);
     let mut rest = before;
-    let mut i = 0;
-    while i < end {
-        let area = plan_at(areas, i);
-        if has_more(area, rest) {
+    for (i, area) in areas.iter().enumerate() {
+        if has_more(*area, rest) {
             return Spot {
                 area: i,
                 before: rest,
             };
         }
         rest -= area.row_runs * area.column_runs;
-        i += 1;
     }
     Spot {
-        area: i,
+        area: areas.len(),
         before: rest,
     }
 }
 
 // 11: two lists with room for so many runs hold the runs of all areas. By what is left of the room, for a sum may be too large for a number.
-pub(crate) fn runs_fit(areas: AreaPlans, row_room: usize, column_room: usize) -> bool
-    ensures { result ≡ section.runs_held (plans_in areas) row_room column_room }
+pub(crate) fn runs_fit(areas: &[AreaPlan], row_room: usize, column_room: usize) -> bool
+    ensures { result ≡ section.runs_held areas.now row_room column_room }
 {
-    let end = at_most_eight(areas.count);
     let mut rows = row_room;
     let mut columns = column_room;
-    let mut i = 0;
-    while i < end {
-        let area = plan_at(areas, i);
+    for area in areas {
         if area.row_runs > rows {
             return false;
         }
@@ -58,26 +49,21 @@ pub(crate) fn runs_fit(areas: AreaPlans, row_room: usize, column_room: usize) ->
         }
         rows -= area.row_runs;
         columns -= area.column_runs;
-        i += 1;
     }
     true
 }
 
-// How many runs stand before those of an area.
-pub(crate) fn runs_before(areas: AreaPlans, at: usize) -> RunCounts
-    requires at_in_bounds { at ≤ length (plans_in areas) }
-    requires rows_fit { section.row_runs (plans_in areas) < 2 ^ 64 }
-    requires columns_fit { section.column_runs (plans_in areas) < 2 ^ 64 }
-    ensures { (result.rows ≡ section.row_runs (take at (plans_in areas))) × (result.columns ≡ section.column_runs (take at (plans_in areas))) }
+// How many runs areas have together.
+pub(crate) fn runs_of(areas: &[AreaPlan]) -> RunCounts
+    requires rows_fit { section.row_runs areas.now < 2 ^ 64 }
+    requires columns_fit { section.column_runs areas.now < 2 ^ 64 }
+    ensures { (result.rows ≡ section.row_runs areas.now) × (result.columns ≡ section.column_runs areas.now) }
 {
     let mut rows = 0;
     let mut columns = 0;
-    let mut i = 0;
-    while i < at {
-        let area = plan_at(areas, i);
+    for area in areas {
         rows += area.row_runs;
         columns += area.column_runs;
-        i += 1;
     }
     RunCounts { rows, columns }
 }

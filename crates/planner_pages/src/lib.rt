@@ -5,12 +5,11 @@ mod areas;
 
 ghost use Rattle.std.specs.Prelude.{◌≡◌, ◌+◌, ◌≤◌, ◌<◌, length};
 ghost use Rattle.units.specs.Refusals.{outcome};
-ghost use Rattle.planner_rules.specs.Areas.{plans_in, over_areas};
+ghost use Rattle.planner_rules.specs.Areas.{over_areas};
 ghost use Rattle.planner_rules.specs.Lent.{room_in};
 ghost use Rattle.planner_rules.specs.Pages as section;
 
-use crate::areas::{has_more, runs_before, runs_fit, walk};
-use planner_areas::{at_most_eight, plan_at};
+use crate::areas::{has_more, runs_fit, runs_of, walk};
 use planner_compare::index_of;
 use planner_questions::room_in;
 use planner_rules::{
@@ -81,23 +80,33 @@ fn page_at(
     }
 }
 
-// The page at a spot, over the lists of runs that were lent to the plan.
-fn spot_page(plan: Plan, spot: Spot, row_runs: &[u64], column_runs: &[u64]) -> Page
-    requires rows_fit { section.row_runs (plans_in plan.areas) ≤ room_in row_runs.now }
-    requires columns_fit { section.column_runs (plans_in plan.areas) ≤ room_in column_runs.now }
-    requires stands { section.Stands (plans_in plan.areas) spot }
-    ensures { result ≡ section.spot_page plan.order (plans_in plan.areas) row_runs.now column_runs.now spot }
+// 11: the two lists hold the runs of all areas of a plan.
+fn holds_runs(plan: &Plan, row_runs: &[u64], column_runs: &[u64]) -> bool
+    ensures { result ≡ section.holds_runs plan.now row_runs.now column_runs.now }
 {
-    let areas = plan.areas;
-    let area = plan_at(areas, spot.area);
-    let runs = runs_before(areas, spot.area);
-    let order = plan.order;
-    page_at(order, area, runs, spot.before, row_runs, column_runs)
+    runs_fit(
+        plan.areas.as_slice(),
+        room_in(row_runs.len()),
+        room_in(column_runs.len()),
+    )
+}
+
+// The page at a spot, over the lists of runs that were lent to the plan.
+fn spot_page(plan: &Plan, spot: Spot, row_runs: &[u64], column_runs: &[u64]) -> Page
+    requires rows_fit { section.row_runs plan.now.areas.items ≤ room_in row_runs.now }
+    requires columns_fit { section.column_runs plan.now.areas.items ≤ room_in column_runs.now }
+    requires stands { section.Stands plan.now.areas.items spot }
+    ensures { result ≡ section.spot_page plan.now.order plan.now.areas.items row_runs.now column_runs.now spot }
+{
+    let areas = plan.areas.as_slice();
+    let area = areas[spot.area];
+    let runs = runs_of(&areas[..spot.area]);
+    page_at(plan.order, area, runs, spot.before, row_runs, column_runs)
 }
 
 // Where the page with a number stands.
-pub fn page_spot(plan: Plan, number: u64) -> Option<Spot>
-    ensures { result ≡ section.spot_of plan number }
+pub fn page_spot(plan: &Plan, number: u64) -> Option<Spot>
+    ensures { result ≡ section.spot_of plan.now number }
 {
     if number == 0 {
         return None;
@@ -106,9 +115,9 @@ pub fn page_spot(plan: Plan, number: u64) -> Option<Spot>
     if before >= plan.pages {
         return None;
     }
-    let areas = plan.areas;
+    let areas = plan.areas.as_slice();
     let spot = walk(areas, before as usize);
-    if spot.area < at_most_eight(areas.count) {
+    if spot.area < areas.len() {
         Some(spot)
     } else {
         None
@@ -147,15 +156,14 @@ pub fn area_page(
 
 // The page of a plan with a number from 1 to its count, over the lists of runs that were lent to the plan.
 pub fn page_numbered(
-    plan: Plan,
+    plan: &Plan,
     number: u64,
     row_runs: &[u64],
     column_runs: &[u64],
 ) -> Result<Page, Refusal>
-    ensures { outcome result ≡ section.page_numbered plan row_runs.now column_runs.now number }
+    ensures { outcome result ≡ section.page_numbered plan.now row_runs.now column_runs.now number }
 {
-    let areas = plan.areas;
-    if !runs_fit(areas, room_in(row_runs.len()), room_in(column_runs.len())) {
+    if !holds_runs(plan, row_runs, column_runs) {
         return Err(Refusal::ListTooShort);
     }
     let Some(spot) = page_spot(plan, number) else {
@@ -165,35 +173,34 @@ pub fn page_numbered(
 }
 
 // The page of a plan that has so many pages before it.
-fn page_after(before: usize, plan: Plan, row_runs: &[u64], column_runs: &[u64]) -> Page
-    requires rows_fit { section.row_runs (plans_in plan.areas) ≤ room_in row_runs.now }
-    requires columns_fit { section.column_runs (plans_in plan.areas) ≤ room_in column_runs.now }
-    requires before_bound { before < over_areas section.pages_in (plans_in plan.areas) }
-    ensures { result ≡ section.page_after plan row_runs.now column_runs.now before }
+fn page_after(before: usize, plan: &Plan, row_runs: &[u64], column_runs: &[u64]) -> Page
+    requires rows_fit { section.row_runs plan.now.areas.items ≤ room_in row_runs.now }
+    requires columns_fit { section.column_runs plan.now.areas.items ≤ room_in column_runs.now }
+    requires before_bound { before < over_areas section.pages_in plan.now.areas.items }
+    ensures { result ≡ section.page_after plan.now row_runs.now column_runs.now before }
 {
-    let areas = plan.areas;
+    let areas = plan.areas.as_slice();
     let spot = walk(areas, before);
     spot_page(plan, spot, row_runs, column_runs)
 }
 
 // How many pages a plan has: a walk that takes off as many as it says tells whether its areas have so many.
-fn page_count(plan: Plan) -> u64
-    ensures { result ≡ section.page_count plan }
+fn page_count(plan: &Plan) -> u64
+    ensures { result ≡ section.page_count plan.now }
 {
-    let areas = plan.areas;
+    let areas = plan.areas.as_slice();
     let spot = walk(areas, plan.pages as usize);
-    if spot.area < at_most_eight(areas.count) {
+    if spot.area < areas.len() {
         return plan.pages;
     }
     plan.pages - spot.before as u64
 }
 
 // What `list_pages` answers where so many pages have room.
-fn listing(room: usize, plan: Plan, row_runs: &[u64], column_runs: &[u64]) -> Result<u64, Refusal>
-    ensures { outcome result ≡ section.list_pages plan row_runs.now column_runs.now room }
+fn listing(room: usize, plan: &Plan, row_runs: &[u64], column_runs: &[u64]) -> Result<u64, Refusal>
+    ensures { outcome result ≡ section.list_pages plan.now row_runs.now column_runs.now room }
 {
-    let areas = plan.areas;
-    if !runs_fit(areas, room_in(row_runs.len()), room_in(column_runs.len())) {
+    if !holds_runs(plan, row_runs, column_runs) {
         return Err(Refusal::ListTooShort);
     }
     let count = page_count(plan);
@@ -217,15 +224,15 @@ fn count_in(answer: Result<u64, Refusal>) -> usize
 // or refuses and writes nothing.
 pub fn list_pages(
     pages: &mut [Page],
-    plan: Plan,
+    plan: &Plan,
     row_runs: &[u64],
     column_runs: &[u64],
 ) -> Result<u64, Refusal>
     ensures { let rows = row_runs.now in
         let columns = column_runs.now in
         let old = pages.old in
-        let listed = section.list_pages plan rows columns (length old) in
-        (outcome result ≡ listed) × (pages.new ≡ section.pages_lent listed (section.pages_of plan rows columns) old) }
+        let listed = section.list_pages plan.now rows columns (length old) in
+        (outcome result ≡ listed) × (pages.new ≡ section.pages_lent listed (section.pages_of plan.now rows columns) old) }
 {
     let answer = listing(pages.len(), plan, row_runs, column_runs);
     let count = count_in(answer);

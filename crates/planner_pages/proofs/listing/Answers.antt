@@ -4,22 +4,19 @@ use Rattle.planner_rules.specs.Pages.{holds_runs}
 use Rattle.planner_rules.proofs.ListLaws.{list_refused, list_long, list_fits}
 use Rattle.planner_pages.proofs.listing.Goals as goal
 
-pub returns-then-not-runs_fit : goal.returns-then-not-runs_fit
-returns-then-not-runs_fit c =
+pub returns-then-not-holds_runs : goal.returns-then-not-holds_runs
+returns-then-not-holds_runs c =
     let a = c.args in
-    let asked : c.runs_fit.result ≡ holds_runs a.plan a.row_runs.now a.column_runs.now = rw (c.room_in.ensures, c.room_in-2.ensures) at c.runs_fit.ensures in
-    list_refused a.plan a.room a.row_runs.now a.column_runs.now (sym asked ∙ c.if-not-runs_fit.true)
+    list_refused a.plan.now a.room a.row_runs.now a.column_runs.now (sym c.holds_runs.ensures ∙ c.if-not-holds_runs.true)
 
 pub returns-then-count-room : goal.returns-then-count-room
 returns-then-count-room c =
     let a = c.args in
-    let asked : c.runs_fit.result ≡ holds_runs a.plan a.row_runs.now a.column_runs.now = rw (c.room_in.ensures, c.room_in-2.ensures) at c.runs_fit.ensures in
-    list_long a.plan a.room a.row_runs.now a.column_runs.now (sym asked ∙ c.if-not-runs_fit.false)
+    list_long a.plan.now a.room a.row_runs.now a.column_runs.now (sym c.holds_runs.ensures ∙ c.if-not-holds_runs.false)
     c.page_count-count.result c.page_count-count.ensures c.if-count-room.true
 
 pub returns : goal.returns
 returns c =
     let a = c.args in
-    let asked : c.runs_fit.result ≡ holds_runs a.plan a.row_runs.now a.column_runs.now = rw (c.room_in.ensures, c.room_in-2.ensures) at c.runs_fit.ensures in
-    list_fits a.plan a.room a.row_runs.now a.column_runs.now (sym asked ∙ c.if-not-runs_fit.false)
+    list_fits a.plan.now a.room a.row_runs.now a.column_runs.now (sym c.holds_runs.ensures ∙ c.if-not-holds_runs.false)
     c.page_count-count.result c.page_count-count.ensures c.if-count-room.false

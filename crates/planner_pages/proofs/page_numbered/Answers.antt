@@ -5,42 +5,36 @@ use Rattle.planner_rules.specs.Pages.{holds_runs}
 use Rattle.planner_rules.proofs.PagesCode.{rooms_of, page_few, page_missing, page_stands, page_found}
 use Rattle.planner_pages.proofs.page_numbered.Goals as goal
 
-pub returns-then-not-runs_fit : goal.returns-then-not-runs_fit
-returns-then-not-runs_fit c =
+pub returns-then-not-holds_runs : goal.returns-then-not-holds_runs
+returns-then-not-holds_runs c =
     let a = c.args in
-    let asked : c.runs_fit.result ≡ holds_runs a.plan a.row_runs.now a.column_runs.now = rw (c.room_in.ensures, c.room_in-2.ensures) at c.runs_fit.ensures in
-    page_few a.plan a.row_runs.now a.column_runs.now a.number (sym asked ∙ c.if-not-runs_fit.true)
+    page_few a.plan.now a.row_runs.now a.column_runs.now a.number (sym c.holds_runs.ensures ∙ c.if-not-holds_runs.true)
 
 pub spot_page-requires-clause-rows_fit : goal.spot_page-requires-clause-rows_fit
 spot_page-requires-clause-rows_fit c =
     let a = c.args in
-    let asked : c.runs_fit.result ≡ holds_runs a.plan a.row_runs.now a.column_runs.now = rw (c.room_in.ensures, c.room_in-2.ensures) at c.runs_fit.ensures in
-    (rooms_of a.plan a.row_runs.now a.column_runs.now (sym asked ∙ c.if-not-runs_fit.false)).0
+    (rooms_of a.plan.now a.row_runs.now a.column_runs.now (sym c.holds_runs.ensures ∙ c.if-not-holds_runs.false)).0
 
 pub spot_page-requires-clause-columns_fit : goal.spot_page-requires-clause-columns_fit
 spot_page-requires-clause-columns_fit c =
     let a = c.args in
-    let asked : c.runs_fit.result ≡ holds_runs a.plan a.row_runs.now a.column_runs.now = rw (c.room_in.ensures, c.room_in-2.ensures) at c.runs_fit.ensures in
-    (rooms_of a.plan a.row_runs.now a.column_runs.now (sym asked ∙ c.if-not-runs_fit.false)).1
+    (rooms_of a.plan.now a.row_runs.now a.column_runs.now (sym c.holds_runs.ensures ∙ c.if-not-holds_runs.false)).1
 
 pub spot_page-requires-clause-stands : goal.spot_page-requires-clause-stands
 spot_page-requires-clause-stands c =
     let a = c.args in
-    let asked : c.runs_fit.result ≡ holds_runs a.plan a.row_runs.now a.column_runs.now = rw (c.room_in.ensures, c.room_in-2.ensures) at c.runs_fit.ensures in
-    page_stands a.plan a.row_runs.now a.column_runs.now a.number (sym asked ∙ c.if-not-runs_fit.false) c.page_spot.result c.page_spot.ensures
+    page_stands a.plan.now a.row_runs.now a.column_runs.now a.number (sym c.holds_runs.ensures ∙ c.if-not-holds_runs.false) c.page_spot.result c.page_spot.ensures
     c.in-Some.spot c.in-Some.is
 
 pub returns : goal.returns
 returns c =
     let a = c.args in
-    let asked : c.runs_fit.result ≡ holds_runs a.plan a.row_runs.now a.column_runs.now = rw (c.room_in.ensures, c.room_in-2.ensures) at c.runs_fit.ensures in
     ap given c.spot_page.ensures
-    ∙ page_found a.plan a.row_runs.now a.column_runs.now a.number (sym asked ∙ c.if-not-runs_fit.false) c.page_spot.result
+    ∙ page_found a.plan.now a.row_runs.now a.column_runs.now a.number (sym c.holds_runs.ensures ∙ c.if-not-holds_runs.false) c.page_spot.result
     c.page_spot.ensures c.in-Some.spot c.in-Some.is
 
 pub returns-in_default : goal.returns-in_default
 returns-in_default c =
     let a = c.args in
-    let asked : c.runs_fit.result ≡ holds_runs a.plan a.row_runs.now a.column_runs.now = rw (c.room_in.ensures, c.room_in-2.ensures) at c.runs_fit.ensures in
-    page_missing a.plan a.row_runs.now a.column_runs.now a.number (sym asked ∙ c.if-not-runs_fit.false) c.page_spot.result c.page_spot.ensures
+    page_missing a.plan.now a.row_runs.now a.column_runs.now a.number (sym c.holds_runs.ensures ∙ c.if-not-holds_runs.false) c.page_spot.result c.page_spot.ensures
     c.in_default.is

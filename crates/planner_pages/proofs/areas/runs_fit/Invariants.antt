@@ -1,15 +1,10 @@
--- What is left of the rooms holds the areas that are left where the rooms hold all, and how the loop ends.
-use Rattle.std.proofs.Common.{◌-◌, ◌≡◌, ◌≤◌, length, drop}
-use Rattle.planner_rules.specs.Areas.{plans_in}
+-- What is left of the rooms holds the areas that are left where the rooms hold all.
+use Rattle.std.proofs.Common.{◌≡◌, ◌≤◌, length, drop}
 use Rattle.planner_rules.specs.Pages as section
 use Rattle.planner_pages.proofs.areas.runs_fit.Given as goal
 
-abbrev pub invariant-loop-i : goal.invariant-loop-i
-invariant-loop-i l = record {
-  within : l.i ≤ l.end;
-  end_is : l.end ≡ length (plans_in l.areas);
-  held : section.runs_held (drop l.i (plans_in l.areas)) l.rows l.columns ≡ section.runs_held (plans_in l.areas) l.row_room l.column_room;
+abbrev pub invariant-loop-area : goal.invariant-loop-area
+invariant-loop-area l = record {
+  within : l.area-index ≤ length l.areas;
+  held : section.runs_held (drop l.area-index l.areas) l.rows l.columns ≡ section.runs_held l.areas l.row_room l.column_room;
 }
-
-abbrev pub decreases-loop-i : goal.decreases-loop-i
-decreases-loop-i l = l.end - l.i
