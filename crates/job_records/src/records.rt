@@ -5,9 +5,10 @@ ghost use Rattle.job_records.specs.Marks.{bytes_of};
 
 use crate::little_endian::{signed, u16_at, u32_at, u64_at};
 use crate::marks::Mark;
+use arrayvec::ArrayVec;
 
 // A rectangle of cells.
-#[derive(Clone, Copy)]
+#[derive(Clone, Copy, Default)]
 pub struct Range {
     pub first_row: u32,
     pub first_column: u16,
@@ -15,19 +16,8 @@ pub struct Range {
     pub last_column: u16,
 }
 
-// The print areas of a job, at most eight, in job order; what stands past their count is no area.
-#[derive(Clone, Copy)]
-pub struct JobAreas {
-    pub count: usize,
-    pub first: Range,
-    pub second: Range,
-    pub third: Range,
-    pub fourth: Range,
-    pub fifth: Range,
-    pub sixth: Range,
-    pub seventh: Range,
-    pub eighth: Range,
-}
+// The print areas of a job, in job order. Eight have room, and no job has more.
+pub type JobAreas = ArrayVec<Range, 8>;
 
 // A measured row or column. The size stands first: behind the index a range would end inside it, and a `Record` would be written in halves.
 #[derive(Clone, Copy)]

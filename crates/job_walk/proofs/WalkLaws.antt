@@ -1,21 +1,24 @@
 -- Laws for the loops that walk the records of a job. Assumes nothing.
 use mathlib.Core.Path.{◌≡◌, refl, sym, ap, ◌∙◌}
 use mathlib.Core.Bool.{Bool, true, false, not, cond}
-use mathlib.Core.List.{List, [], ◌∷◌}
+use mathlib.Core.List.{List, [], ◌∷◌, ◌++◌, map}
 use Prim.Native.Nat.{ℕ, zero, suc, ◌-◌, ◌≤◌, ◌<◌}
 use native.Mathlib.Decide.{dec_le}
 use native.Mathlib.Nat.{lt_of_not-le}
 use native.Mathlib.Omega.{arith}
 use lib.Dec.{ltb, eqb}
-use lib.ListN.{length, take, drop, length-take, drop_of_length-le}
+use lib.ListN.{length, take, drop, length-map}
 use lib.Seq.{drop-nil, take_all}
 use borrow.Author.Tests.{eq-eqb, ne_eqb, eqb-true, lt-ltb, le-ltb}
+use Rattle.job_records.specs.declared.records.Range.{Range}
 use Rattle.job_records.specs.declared.records.Record.{Record}
+use Rattle.job_records.specs.declared.records.Record.TheVariants.{Area}
 use Rattle.job_records.specs.declared.records.Head.{Head}
 use Rattle.std.specs.Prelude.{Option, Some, None}
 use Rattle.job_records.specs.Records.{AR, head_record, step_outcome, step, rank, is_end, goes_on, records, marked}
-use Rattle.job_walk.specs.Areas.{nowhere, range_from, areas_held, areas_from}
+use Rattle.job_walk.specs.Areas.{range_from, areas_from}
 use Rattle.job_walk.specs.Walk.{before, first_of, in_place, Sorted}
+use Rattle.job_walk.proofs.Arms.{only_area}
 use Rattle.job_records.proofs.RecordLaws.{records_more, records_stop, step_is, step_used, part, length_part}
 
 -- ---- marks that never fall
@@ -198,24 +201,39 @@ module _ {k : ℕ} {l : List Record} {f : Option Record} (w : Looked k l f) wher
       go [] h = let z : ◌≡◌ {A = ℕ} 0 1 = cc in absurd (omega arith)
       go (o ∷ t) h = let j : o ≡ q = cc in sym (ap (λ (y : Record). g (y ∷ t)) j ∙ p t)
 
--- ---- the first so many areas
+-- ---- the loop that collects the areas
 
--- one of them stands where it stands among all
-pub among_counted : (before count : ℕ) (rs : List Record) → before < count → range_from (drop before rs) ≡ range_from (drop before (take count rs))
-among_counted before zero rs h = absurd (omega arith)
-among_counted zero (suc count) [] h = refl
-among_counted zero (suc count) (r ∷ rs) h = refl
-among_counted (suc before) (suc count) [] h = refl
-among_counted (suc before) (suc count) (r ∷ rs) h = among_counted before count rs (omega arith)
+-- the areas from some bytes on
+abbrev pub ranges_left : List ℕ → List Range
+ranges_left s = map range_from (in_place AR (records s))
 
--- past them there is none
-pub past_counted : (before count : ℕ) (rs : List Record) → count ≤ before → nowhere ≡ range_from (drop before (take count rs))
-past_counted before count rs h = rw (drop_of_length-le (take count rs) {i = before} (omega (arith, length-take count rs)))
+module _ (s : List ℕ) {f : Option Head} (e : f ≡ before (step s)) where
+  pub area_end : f ≡ None → ranges_left s ≡ []
+  unfolding in_place
+  area_end h = rw (walk_end s e h)
 
--- in order, as many as there are, they are the areas of the job
-pub all_areas : (count : ℕ) (rs : List Record) → Sorted 0 rs → count ≡ length (marked AR rs)
-    → areas_held count (take count (in_place AR rs)) ≡ areas_from (marked AR rs)
-all_areas count rs s e =
-    ap (λ (xs : List Record). areas_held count (take count xs)) (is_in_place 0 AR rs s)
-    ∙ ap (λ (xs : List Record). areas_held count xs) (take_all count (marked AR rs) (omega arith))
-    ∙ ap (λ (n : ℕ). areas_held n (marked AR rs)) e
+  module _ {h : Head} (k : f ≡ Some h) where
+    pub area_past : AR < rank h.found → ranges_left s ≡ []
+    unfolding in_place
+    area_past l = rw (walk_on s e k, lt-ltb AR (rank h.found) l)
+
+    pub area_here : (a : Range) → h.found ≡ Area a → ranges_left s ≡ a ∷ ranges_left (take (length s - h.bytes) (drop h.bytes s))
+    unfolding in_place
+    area_here a i = rw (walk_on s e k, i)
+
+    pub area_on : rank h.found ≤ AR → ((a : Range) → h.found ≡ Area a → ⊥) → ranges_left (take (length s - h.bytes) (drop h.bytes s)) ≡ ranges_left s
+    unfolding in_place
+    area_on l q = rw (walk_on s e k, le-ltb AR (rank h.found) l, ne_eqb (rank h.found) AR (λ i. only_area h.found i q))
+
+-- those that were collected are the first eight, where no more are left or they are eight
+pub collected : (xs left all : List Range) → xs ++ left ≡ all → length xs ≤ 8 → left ≡ [] → xs ≡ take 8 all
+collected xs left all e h n = sym (take_all 8 xs h) ∙ ap (take 8) (sym (append-nil xs) ∙ ap (λ (ys : List Range). xs ++ ys) (sym n) ∙ e)
+
+pub collected_eight : (xs left all : List Range) → xs ++ left ≡ all → length xs ≡ 8 → xs ≡ take 8 all
+collected_eight xs left all e h = ? 
+
+-- in order, and no more than eight, they are the areas of the job
+pub all_areas : (rs : List Record) → Sorted 0 rs → length (marked AR rs) ≤ 8 → take 8 (areas_from (in_place AR rs)).items ≡ (areas_from (marked AR rs)).items
+all_areas rs s h =
+    ap (λ (xs : List Record). take 8 (map range_from xs)) (is_in_place 0 AR rs s)
+    ∙ take_all 8 (map range_from (marked AR rs)) (omega (arith, length-map (marked AR rs) range_from))

@@ -7,7 +7,7 @@ ghost use Rattle.job_records.specs.Records.{step, records, UC, AR};
 ghost use Rattle.job_walk.specs.Walk as walk;
 ghost use Rattle.job_walk.specs.Areas as section;
 
-use job_records::{Head, JobAreas, Mark, Range, Record, read_record};
+use job_records::{Head, JobAreas, Mark, Record, read_record};
 
 // The next record before the EN, or none.
 pub fn next_record(s: &[u8]) -> Option<Head>
@@ -51,53 +51,23 @@ pub fn cell_limit_of(bytes: &[u8]) -> Option<u64>
     }
 }
 
-fn nowhere() -> Range
-    ensures { result ≡ section.nowhere }
+// The areas, in job order: at most eight, for no job has more.
+pub fn areas_of(bytes: &[u8]) -> JobAreas
+    ensures { result.items ≡ take 8 (section.areas_from (walk.in_place AR (records bytes.now))).items }
 {
-    Range {
-        first_row: 0,
-        first_column: 0,
-        last_row: 0,
-        last_column: 0,
+    let mut areas = JobAreas::new();
+    let mut s = bytes;
+    while let Some(head) = next_record(s) {
+        if head.found.mark() > Mark::Area {
+            return areas;
+        }
+        if areas.is_full() {
+            return areas;
+        }
+        if let Record::Area(cells) = head.found {
+            areas.push(cells);
+        }
+        s = &s[head.bytes..];
     }
-}
-
-// The area that has so many before it.
-fn area_of(bytes: &[u8], before: usize) -> Range
-    ensures { result ≡ section.range_from (drop before (walk.in_place AR (records bytes.now))) }
-{
-    let Some(found) = find_record(bytes, Mark::Area, before) else {
-        return nowhere();
-    };
-    let Record::Area(cells) = found else {
-        unreachable!()
-    };
-    cells
-}
-
-// The same of the first so many areas: past them nothing is looked for.
-fn counted_area(bytes: &[u8], before: usize, count: usize) -> Range
-    ensures { result ≡ section.range_from (drop before (take count (walk.in_place AR (records bytes.now)))) }
-{
-    if before >= count {
-        return nowhere();
-    }
-    area_of(bytes, before)
-}
-
-// The first so many areas, at most eight, and that count.
-pub fn areas_of(bytes: &[u8], count: usize) -> JobAreas
-    ensures { result ≡ section.areas_held count (take count (walk.in_place AR (records bytes.now))) }
-{
-    JobAreas {
-        count,
-        first: counted_area(bytes, 0, count),
-        second: counted_area(bytes, 1, count),
-        third: counted_area(bytes, 2, count),
-        fourth: counted_area(bytes, 3, count),
-        fifth: counted_area(bytes, 4, count),
-        sixth: counted_area(bytes, 5, count),
-        seventh: counted_area(bytes, 6, count),
-        eighth: counted_area(bytes, 7, count),
-    }
+    areas
 }

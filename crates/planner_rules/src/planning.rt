@@ -23,7 +23,7 @@ pub struct Settings {
     pub cell_limit: Option<u64>,
 }
 
-#[derive(Clone, Copy)]
+#[derive(Clone, Copy, Default)]
 pub struct PrintRange {
     pub first_row: u32,
     pub first_column: u32,
