@@ -3,7 +3,6 @@
 
 ghost use Rattle.std.specs.Prelude.{◌≡◌, ◌<◌, ◌^◌, length};
 ghost use Rattle.job_records.specs.Records.{rank, AR, records, marked};
-ghost use Rattle.job_walk.specs.Walk.{Sorted};
 ghost use Rattle.job_questions.specs.Verdict.{asked, follows, firsts_ok, grid_ok, size_ok, question15, repeats, verdict_lent, verdict};
 ghost use Rattle.job_records.specs.Marks.{place};
 ghost use Rattle.units.specs.Refusals.{outcome};
@@ -12,7 +11,7 @@ ghost use Rattle.job_questions.specs.Pass.{start, advanced, after, surveyed, ans
 
 use job_records::{Mark, Range, Record, Slot, read_record};
 use job_settings::areas_for;
-use job_walk::{areas_of, cell_limit_of};
+use job_walk::{SortedJob, areas_of, cell_limit_of};
 use planner_areas::cells_hold;
 use std::ops::BitAnd;
 use units::{LARGEST_SIZE, MAX_WORKSHEET_COLUMN, MAX_WORKSHEET_ROW, Refusal};
@@ -262,17 +261,16 @@ impl Default for State {
     }
 }
 
-// 15 of a job with so many areas, whose records are in order.
-fn cells_ok(bytes: &[u8], count: usize) -> bool
-    requires sorted { Sorted 0 (records bytes.now) }
-    requires count_value { count ≡ length (marked AR (records bytes.now)) }
-    ensures { result ≡ question15 bytes.now }
+// 15 of a job with so many areas.
+fn cells_ok(job: SortedJob<'_>, count: usize) -> bool
+    requires { count ≡ length (marked AR (records job.bytes.now)) }
+    ensures { result ≡ question15 job.entry.bytes.now }
 {
-    let limit = cell_limit_of(bytes);
+    let limit = cell_limit_of(job.bytes);
     let Some(_) = limit else {
         return true;
     };
-    let read = areas_of(bytes, count);
+    let read = areas_of(job.bytes, count);
     let areas = areas_for(read);
     cells_hold(limit, areas)
 }
@@ -295,7 +293,11 @@ fn first_no(bytes: &[u8], equally_long: bool, t: State) -> Result<(), Refusal>
     if !t.fine.grid {
         return Err(Refusal::OutsideGrid);
     }
-    let held = cells_ok(bytes, areas);
+    let job = SortedJob {
+        bytes,
+        first: Mark::Paper,
+    };
+    let held = cells_ok(job, areas);
     let rising = (t.rows < BEYOND) & (t.columns < BEYOND);
     if !held {
         return Err(Refusal::TooManyCells);

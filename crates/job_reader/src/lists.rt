@@ -4,7 +4,7 @@ ghost use Rattle.planner_rules.specs.Slots.{written};
 ghost use Rattle.job_records.specs.Records.{RW, MR, BR, rank, step, records, marked, values, field};
 ghost use Rattle.units.specs.Refusals.{outcome};
 ghost use Rattle.job_records.specs.Marks.{place};
-ghost use Rattle.job_walk.specs.Walk.{before, Sorted};
+ghost use Rattle.job_walk.specs.Walk.{before};
 ghost use Rattle.job_reader.specs.Walk.{of_kind, Past, is_slot, is_break, measured};
 ghost use Rattle.job_reader.specs.Walk as walk;
 ghost use Rattle.job_reader.specs.Reading.{lists_in, even_lists, fit_in, admitted, admitted_to, Room, AllWritten, JobRead};
@@ -13,7 +13,7 @@ use crate::settings::settings_of;
 use job_questions::{Items, MOST_AREAS, check_job_lent};
 use job_records::{Head, Mark, Range, Record};
 use job_settings::JobSettings;
-use job_walk::next_record;
+use job_walk::{SortedJob, next_record};
 use units::{Fixed, Refusal};
 
 // What a job holds besides its lists.
@@ -92,66 +92,64 @@ fn next_of(s: &[u8], wanted: Mark) -> Option<Head>
 }
 
 // How many bytes stand before the first record that may repeat.
-fn settings_end(bytes: &[u8]) -> usize
-    requires { Sorted 0 (records bytes.now) }
-    ensures { Past RW bytes.now result }
+fn settings_end(job: SortedJob<'_>) -> usize
+    ensures { Past RW job.entry.bytes.now result }
 {
-    let mut s = bytes;
+    let mut s = job.bytes;
     while let Some(head) = next_record(s) {
         if head.found.mark() > Mark::ColumnTitle {
-            return bytes.len() - s.len();
+            return job.bytes.len() - s.len();
         }
         s = &s[head.bytes..];
     }
-    bytes.len() - s.len()
+    job.bytes.len() - s.len()
 }
 
-// Writes the slots with this mark, which stand at the head, and answers how many bytes they have.
-fn write_slots(bytes: &[u8], wanted: Mark, indexes: &mut [u32], sizes: &mut [u64]) -> usize
-    requires sorted { Sorted (place wanted) (records bytes.now) }
-    requires wanted_value { is_slot (place wanted) ≡ true }
-    requires bytes_in_bounds { length (marked (place wanted) (records bytes.now)) ≤ length indexes.old }
+// Writes the slots of the first kind, which stand at the head, and answers how many bytes they have.
+fn write_slots(job: SortedJob<'_>, indexes: &mut [u32], sizes: &mut [u64]) -> usize
+    requires first_value { is_slot (place job.first) ≡ true }
+    requires bytes_in_bounds { length (marked (place job.first) (records job.bytes.now)) ≤ length indexes.old }
     requires indexes_len { length indexes.old ≡ length sizes.old }
-    ensures past { Past (place wanted + 1) bytes.now result }
-    ensures indexes_after { indexes.new ≡ written (values (place wanted) 0 (records bytes.now)) indexes.old }
-    ensures sizes_after { sizes.new ≡ written (values (place wanted) 1 (records bytes.now)) sizes.old }
+    ensures past { Past (place job.entry.first + 1) job.entry.bytes.now result }
+    ensures indexes_after { indexes.new ≡ written (values (place job.entry.first) 0 (records job.entry.bytes.now)) indexes.old }
+    ensures sizes_after { sizes.new ≡ written (values (place job.entry.first) 1 (records job.entry.bytes.now)) sizes.old }
 {
     // The place goes by hand: it is one in each list, beside a walk that ends with the mark and not with a list.
-    let mut s = bytes;
+    let mut s = job.bytes;
     let mut k: usize = 0;
-    while let Some(head) = next_of(s, wanted) {
+    while let Some(head) = next_of(s, job.first) {
         s = &s[head.bytes..];
         let slot = slot_of(head.found);
         indexes[k] = slot.index;
         sizes[k] = slot.size;
         k += 1;
     }
-    bytes.len() - s.len()
+    job.bytes.len() - s.len()
 }
 
 // Writes the merges, which stand at the head, and answers how many bytes they have.
 fn write_merges(
-    bytes: &[u8],
+    job: SortedJob<'_>,
     first_rows: &mut [u32],
     first_columns: &mut [u32],
     last_rows: &mut [u32],
     last_columns: &mut [u32],
 ) -> usize
-    requires sorted { Sorted MR (records bytes.now) }
-    requires bytes_in_bounds { length (marked MR (records bytes.now)) ≤ length first_rows.old }
+    requires first_value { place job.first ≡ MR }
+    requires bytes_in_bounds { length (marked (place job.first) (records job.bytes.now)) ≤ length first_rows.old }
     requires first_columns_len { length first_rows.old ≡ length first_columns.old }
     requires last_rows_len { length first_rows.old ≡ length last_rows.old }
     requires last_columns_len { length first_rows.old ≡ length last_columns.old }
-    ensures past { Past BR bytes.now result }
-    ensures first_rows_after { first_rows.new ≡ written (values MR 0 (records bytes.now)) first_rows.old }
-    ensures first_columns_after { first_columns.new ≡ written (values MR 1 (records bytes.now)) first_columns.old }
-    ensures last_rows_after { last_rows.new ≡ written (values MR 2 (records bytes.now)) last_rows.old }
-    ensures last_columns_after { last_columns.new ≡ written (values MR 3 (records bytes.now)) last_columns.old }
+    ensures past { Past (place job.entry.first + 1) job.entry.bytes.now result }
+    ensures first_rows_after { first_rows.new ≡ written (values (place job.entry.first) 0 (records job.entry.bytes.now)) first_rows.old }
+    ensures first_columns_after { first_columns.new ≡ written (values (place job.entry.first) 1 (records job.entry.bytes.now)) first_columns.old }
+    ensures last_rows_after { last_rows.new ≡ written (values (place job.entry.first) 2 (records job.entry.bytes.now)) last_rows.old }
+    ensures last_columns_after { last_columns.new ≡ written (values (place job.entry.first) 3 (records job.entry.bytes.now)) last_columns.old }
 {
     // The place goes by hand, as for slots.
-    let mut s = bytes;
+    let mut s = job.bytes;
     let mut k: usize = 0;
-    while let Some(head) = next_of(s, Mark::Merge) {
+    while let Some(head) = next_of(s, job.first) {
         s = &s[head.bytes..];
         let cells = cells_of(head.found);
         first_rows[k] = cells.first_row;
@@ -160,45 +158,46 @@ fn write_merges(
         last_columns[k] = cells.last_column as u32;
         k += 1;
     }
-    bytes.len() - s.len()
+    job.bytes.len() - s.len()
 }
 
-// Writes the breaks with this mark, which stand at the head, and answers how many bytes they have.
-fn write_breaks(bytes: &[u8], wanted: Mark, breaks: &mut [u32]) -> usize
-    requires sorted { Sorted (place wanted) (records bytes.now) }
-    requires wanted_value { is_break (place wanted) ≡ true }
-    requires bytes_in_bounds { length (marked (place wanted) (records bytes.now)) ≤ length breaks.old }
-    ensures past { Past (place wanted + 1) bytes.now result }
-    ensures breaks_after { breaks.new ≡ written (values (place wanted) 0 (records bytes.now)) breaks.old }
+// Writes the breaks of the first kind, which stand at the head, and answers how many bytes they have.
+fn write_breaks(job: SortedJob<'_>, breaks: &mut [u32]) -> usize
+    requires first_value { is_break (place job.first) ≡ true }
+    requires bytes_in_bounds { length (marked (place job.first) (records job.bytes.now)) ≤ length breaks.old }
+    ensures past { Past (place job.entry.first + 1) job.entry.bytes.now result }
+    ensures breaks_after { breaks.new ≡ written (values (place job.entry.first) 0 (records job.entry.bytes.now)) breaks.old }
 {
     // The place goes by hand, as for slots.
-    let mut s = bytes;
+    let mut s = job.bytes;
     let mut k: usize = 0;
-    while let Some(head) = next_of(s, wanted) {
+    while let Some(head) = next_of(s, job.first) {
         s = &s[head.bytes..];
         breaks[k] = break_of(head.found);
         k += 1;
     }
-    bytes.len() - s.len()
+    job.bytes.len() - s.len()
 }
 
 // Writes all items to the front of lists that hold them.
-fn write_items(bytes: &[u8], lent: &mut JobLists<'_>)
-    requires sorted { Sorted 0 (records bytes.now) }
-    requires room { Room bytes.now (lists_in lent.old) }
-    ensures { AllWritten bytes.now (lists_in lent.old) (lists_in lent.new) }
+fn write_items(job: SortedJob<'_>, lent: &mut JobLists<'_>)
+    requires { Room job.bytes.now (lists_in lent.old) }
+    ensures { AllWritten job.entry.bytes.now (lists_in lent.old) (lists_in lent.new) }
 {
-    let at_rows = settings_end(bytes);
-    let rows = &bytes[at_rows..];
-    let at_columns = write_slots(rows, Mark::Row, lent.row_indexes, lent.row_sizes);
-    let columns = &rows[at_columns..];
-    let at_merges = write_slots(
-        columns,
-        Mark::Column,
-        lent.column_indexes,
-        lent.column_sizes,
-    );
-    let merges = &columns[at_merges..];
+    let rows = SortedJob {
+        bytes: &job.bytes[settings_end(job)..],
+        first: Mark::Row,
+    };
+    let at_columns = write_slots(rows, lent.row_indexes, lent.row_sizes);
+    let columns = SortedJob {
+        bytes: &rows.bytes[at_columns..],
+        first: Mark::Column,
+    };
+    let at_merges = write_slots(columns, lent.column_indexes, lent.column_sizes);
+    let merges = SortedJob {
+        bytes: &columns.bytes[at_merges..],
+        first: Mark::Merge,
+    };
     let at_breaks = write_merges(
         merges,
         lent.merge_first_rows,
@@ -206,9 +205,16 @@ fn write_items(bytes: &[u8], lent: &mut JobLists<'_>)
         lent.merge_last_rows,
         lent.merge_last_columns,
     );
-    let breaks = &merges[at_breaks..];
-    let at_last = write_breaks(breaks, Mark::RowBreak, lent.row_breaks);
-    write_breaks(&breaks[at_last..], Mark::ColumnBreak, lent.column_breaks);
+    let breaks = SortedJob {
+        bytes: &merges.bytes[at_breaks..],
+        first: Mark::RowBreak,
+    };
+    let at_last = write_breaks(breaks, lent.row_breaks);
+    let last = SortedJob {
+        bytes: &breaks.bytes[at_last..],
+        first: Mark::ColumnBreak,
+    };
+    write_breaks(last, lent.column_breaks);
 }
 
 fn fit_in(items: Items, room: Items) -> bool
@@ -264,7 +270,11 @@ pub fn read_job(bytes: &[u8], lent: &mut JobLists<'_>) -> Result<Job, Refusal>
     ensures { JobRead bytes.now result (lists_in lent.old) (lists_in lent.new) }
 {
     let items = admit_to(bytes, lent)?;
-    write_items(bytes, lent);
-    let settings = settings_of(bytes, items.areas);
+    let job = SortedJob {
+        bytes,
+        first: Mark::Paper,
+    };
+    write_items(job, lent);
+    let settings = settings_of(job, items.areas);
     Ok(Job { settings, items })
 }

@@ -22,24 +22,6 @@ use Rattle.job_records.specs.Records.{used, onto, records_from, records, rest_fr
 
 -- ---- the record of a mark
 
--- what the default of a `match` on the numbers of the marks tells: that the number is none of them, each beside the one before
-abbrev pub NoneOf : List Mark → ℕ → Type 0 → Type 0
-NoneOf [] x N = N
-NoneOf (m ∷ ms) x N = NoneOf ms x (N × (x ≡ number_of m → ⊥))
-
-kept : (ms : List Mark) (x : ℕ) (N : Type 0) → NoneOf ms x N → N
-kept [] x N p = p
-kept (m ∷ ms) x N p = (kept ms x (N × (x ≡ number_of m → ⊥)) p).0
-
-none : (ms : List Mark) (x : ℕ) (N : Type 0) → NoneOf ms x N → None ≡ spelled_by x ms
-none [] x N p = refl
-none (m ∷ ms) x N p =
-    rw (ne_eqb x (number_of m) (kept ms x (N × (x ≡ number_of m → ⊥)) p).1) (none ms x (N × (x ≡ number_of m → ⊥)) p)
-
-pub no_mark : (x : ℕ) → NoneOf marks x (Unit {0}) → None ≡ mark_of x
-unfolding mark_of
-no_mark x p = none marks x (Unit {0}) p
-
 -- the format of a mark
 abbrev format_of : Mark → Format
 format_of m = record { mark = number_of m; kind = kind_of m; bytes = bytes_of m }

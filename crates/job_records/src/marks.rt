@@ -27,75 +27,34 @@ pub enum Mark {
     End,
 }
 
-// A mark's two bytes, as the number that they spell. The format gives these numbers, which do not rise with the marks: no tag of `Mark` is one.
-const PC: u16 = 0x4350;
-
-const LA: u16 = 0x414c;
-
-const MG: u16 = 0x474d;
-
-const SC: u16 = 0x4353;
-
-const FW: u16 = 0x5746;
-
-const FH: u16 = 0x4846;
-
-const FT: u16 = 0x5446;
-
-const OD: u16 = 0x444f;
-
-const HD: u16 = 0x4448;
-
-const LP: u16 = 0x504c;
-
-const UC: u16 = 0x4355;
-
-const AR: u16 = 0x5241;
-
-const TR: u16 = 0x5254;
-
-const TC: u16 = 0x4354;
-
-const RW: u16 = 0x5752;
-
-const CL: u16 = 0x4c43;
-
-const MR: u16 = 0x524d;
-
-const BR: u16 = 0x5242;
-
-const BC: u16 = 0x4342;
-
-const EN: u16 = 0x4e45;
-
 impl Mark {
-    // The mark whose bytes spell a number.
+    // The mark whose bytes spell a number. The format gives these bytes, which do not rise with the marks: no tag of `Mark` is one.
     #[tactic(auto, unfolding(crate::specs::Marks::mark_of))]
     #[inline(always)]
     pub fn spelled(number: u16) -> Option<Mark>
         ensures { result ≡ mark_of number }
     {
-        let mark = match number {
-            PC => Mark::Paper,
-            LA => Mark::Landscape,
-            MG => Mark::Margins,
-            SC => Mark::Percent,
-            FW => Mark::FitWidth,
-            FH => Mark::FitHeight,
-            FT => Mark::Fit,
-            OD => Mark::Order,
-            HD => Mark::Headings,
-            LP => Mark::PageLimit,
-            UC => Mark::CellLimit,
-            AR => Mark::Area,
-            TR => Mark::RowTitle,
-            TC => Mark::ColumnTitle,
-            RW => Mark::Row,
-            CL => Mark::Column,
-            MR => Mark::Merge,
-            BR => Mark::RowBreak,
-            BC => Mark::ColumnBreak,
-            EN => Mark::End,
+        let mark = match number.to_le_bytes() {
+            [b'P', b'C'] => Mark::Paper,
+            [b'L', b'A'] => Mark::Landscape,
+            [b'M', b'G'] => Mark::Margins,
+            [b'S', b'C'] => Mark::Percent,
+            [b'F', b'W'] => Mark::FitWidth,
+            [b'F', b'H'] => Mark::FitHeight,
+            [b'F', b'T'] => Mark::Fit,
+            [b'O', b'D'] => Mark::Order,
+            [b'H', b'D'] => Mark::Headings,
+            [b'L', b'P'] => Mark::PageLimit,
+            [b'U', b'C'] => Mark::CellLimit,
+            [b'A', b'R'] => Mark::Area,
+            [b'T', b'R'] => Mark::RowTitle,
+            [b'T', b'C'] => Mark::ColumnTitle,
+            [b'R', b'W'] => Mark::Row,
+            [b'C', b'L'] => Mark::Column,
+            [b'M', b'R'] => Mark::Merge,
+            [b'B', b'R'] => Mark::RowBreak,
+            [b'B', b'C'] => Mark::ColumnBreak,
+            [b'E', b'N'] => Mark::End,
             _ => return None,
         };
         Some(mark)

@@ -1,14 +1,12 @@
 -- Document 01, section "Jobs": what is meant by a setting of a job, also where its record is not there. Assumes nothing.
-use Rattle.std.specs.Prelude.{ℕ, Bool, false, cond, ◌||◌, eqb, Option, Some, None, is_some, unwrap_or, option_map}
+use Rattle.std.specs.Prelude.{List, map, ℕ, Bool, false, cond, ◌||◌, eqb, Option, Some, None, is_some, unwrap_or, option_map}
 use Rattle.geometry.specs.declared.paper.Margins.{Margins}
 use Rattle.planner_rules.specs.declared.pages.PageOrder.{PageOrder}
 use Rattle.planner_rules.specs.declared.pages.PageOrder.TheVariants.{DownThenOver, OverThenDown}
 use Rattle.planner_rules.specs.declared.planning.Settings.{Settings}
 use Rattle.planner_rules.specs.declared.planning.PrintRange.{PrintRange}
-use Rattle.planner_rules.specs.declared.planning.Areas.{Areas}
 use Rattle.job_records.specs.LittleEndian.{f64_of}
 use Rattle.job_records.specs.declared.records.Range.{Range}
-use Rattle.job_records.specs.declared.records.JobAreas.{JobAreas}
 use Rattle.job_records.specs.declared.records.MarginBits.{MarginBits}
 use Rattle.job_settings.specs.declared.JobSettings.{JobSettings}
 
@@ -72,15 +70,5 @@ abbrev pub range_for : Range → PrintRange
 range_for a = record { first_row = a.first_row; first_column = a.first_column; last_row = a.last_row; last_column = a.last_column }
 
 -- the areas as the planner takes them
-abbrev pub areas_for : JobAreas → Areas
-areas_for j = record {
-  count = j.count;
-  first = range_for j.first;
-  second = range_for j.second;
-  third = range_for j.third;
-  fourth = range_for j.fourth;
-  fifth = range_for j.fifth;
-  sixth = range_for j.sixth;
-  seventh = range_for j.seventh;
-  eighth = range_for j.eighth;
-}
+abbrev pub areas_for : List Range → List PrintRange
+areas_for = map range_for

@@ -4,12 +4,13 @@
 ghost use Rattle.std.specs.Prelude.{◌≡◌};
 ghost use Rattle.job_settings.specs.Meaning as section;
 
+use arrayvec::ArrayVec;
 use geometry::Margins;
 use job_records::{JobAreas, MarginBits, Range, float};
-use planner_rules::{Areas, PageOrder, PrintRange, Settings, Title};
+use planner_rules::{PageOrder, PrintRange, Settings, Title};
 
 // The settings of a job, in the order of their records.
-#[derive(Clone, Copy)]
+#[derive(Drop)]
 pub struct JobSettings {
     pub paper: Option<u16>,
     pub landscape: bool,
@@ -85,8 +86,8 @@ fn order_for(order: Option<u8>) -> PageOrder
 }
 
 // The settings as the planner takes them. No `From`: what is absent gets the format's default here, which is more than a change of type.
-pub fn settings_for(read: JobSettings) -> Settings
-    ensures { result ≡ section.settings_for read }
+pub fn settings_for(read: &JobSettings) -> Settings
+    ensures { result ≡ section.settings_for read.now }
 {
     Settings {
         paper: read.paper,
@@ -115,19 +116,13 @@ pub fn range_for(cells: Range) -> PrintRange
     }
 }
 
-// The areas as the planner takes them. No `From`, as for a range.
-pub fn areas_for(read: JobAreas) -> Areas
-    ensures { result ≡ section.areas_for read }
+// The areas as the planner takes them.
+pub fn areas_for(read: &JobAreas) -> ArrayVec<PrintRange, 8>
+    ensures { result.items ≡ section.areas_for read.now.items }
 {
-    Areas {
-        count: read.count,
-        first: range_for(read.first),
-        second: range_for(read.second),
-        third: range_for(read.third),
-        fourth: range_for(read.fourth),
-        fifth: range_for(read.fifth),
-        sixth: range_for(read.sixth),
-        seventh: range_for(read.seventh),
-        eighth: range_for(read.eighth),
+    let mut areas = ArrayVec::new();
+    for cells in read.as_slice() {
+        areas.push(range_for(*cells));
     }
+    areas
 }

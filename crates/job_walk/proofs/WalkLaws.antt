@@ -9,14 +9,18 @@ use native.Mathlib.Omega.{arith}
 use lib.Dec.{ltb, eqb}
 use lib.ListN.{length, take, drop, length-map}
 use lib.Seq.{drop-nil, take_all}
+use Rattle.std.proofs.lemmas.List.{append-nil, take-append-le}
 use borrow.Author.Tests.{eq-eqb, ne_eqb, eqb-true, lt-ltb, le-ltb}
 use Rattle.job_records.specs.declared.records.Range.{Range}
 use Rattle.job_records.specs.declared.records.Record.{Record}
 use Rattle.job_records.specs.declared.records.Record.TheVariants.{Area}
 use Rattle.job_records.specs.declared.records.Head.{Head}
 use Rattle.std.specs.Prelude.{Option, Some, None}
-use Rattle.job_records.specs.Records.{AR, head_record, step_outcome, step, rank, is_end, goes_on, records, marked}
+use Rattle.job_records.proofs.MarkLaws.{some_place}
+use Rattle.job_records.specs.Records.{AR, mark_before, head_record, step_outcome, step, rank, is_end, goes_on, records, marked}
 use Rattle.job_walk.specs.Areas.{range_from, areas_from}
+use Rattle.job_walk.specs.declared.sorted.SortedJob.{SortedJob}
+use Rattle.job_records.specs.Marks.{place}
 use Rattle.job_walk.specs.Walk.{before, first_of, in_place, Sorted}
 use Rattle.job_walk.proofs.Arms.{only_area}
 use Rattle.job_records.proofs.RecordLaws.{records_more, records_stop, step_is, step_used, part, length_part}
@@ -27,6 +31,11 @@ pub sorted_less : (i j : ℕ) (rs : List Record) → i ≤ j → Sorted j rs →
 sorted_less i j [] h w = tt
 sorted_less i j (r ∷ rs) h w = (omega (arith, w.0), w.1)
 
+-- no mark stands before the first place
+pub sorted_first : (rs : List Record) → Sorted 0 rs → Sorted 1 rs
+sorted_first [] w = tt
+sorted_first (r ∷ rs) w = (omega (arith, some_place (mark_before r)), w.1)
+
 pub sorted_above : (k j : ℕ) (rs : List Record) → k < j → Sorted j rs → marked k rs ≡ []
 unfolding marked
 sorted_above k j [] h w = refl
@@ -34,7 +43,7 @@ sorted_above k j (r ∷ rs) h w =
     rw (ne_eqb (rank r) k (λ q. omega (arith, w.0))) (sorted_above k (rank r) rs (omega (arith, w.0)) w.1)
 
 -- then all records with a mark are in place
-pub is_in_place : (j k : ℕ) (rs : List Record) → Sorted j rs → in_place k rs ≡ marked k rs
+is_in_place : (j k : ℕ) (rs : List Record) → Sorted j rs → in_place k rs ≡ marked k rs
 unfolding in_place marked
 is_in_place j k [] w = refl
 is_in_place j k (r ∷ rs) w =
@@ -44,6 +53,9 @@ is_in_place j k (r ∷ rs) w =
           rw (lt-ltb k (rank r) (lt_of_not-le h))
           (sym (sorted_above k (rank r) (r ∷ rs) (lt_of_not-le h) (omega arith, w.1)))
     ]
+
+pub marked_in_place : (k : ℕ) (job : SortedJob) → in_place k (records job.bytes.now) ≡ marked k (records job.bytes.now)
+marked_in_place k job = is_in_place (place job.first) k (records job.bytes.now) job.sorted
 
 -- ---- the next record
 
@@ -182,8 +194,8 @@ pub record Looked (k : ℕ) (l : List Record) (f : Option Record) : Type 0 where
 pub looked_in_place : (k n : ℕ) (s : List ℕ) {f : Option Record} → f ≡ looked k n s → Looked k (drop n (in_place k (records s))) f
 looked_in_place k n s e = record { is = e; ranked = λ r h. looked_rank k n (records s) r (sym e ∙ h) }
 
-pub looked_marked : (k : ℕ) (s : List ℕ) {f : Option Record} → Sorted 0 (records s) → f ≡ looked k 0 s → Looked k (marked k (records s)) f
-looked_marked k s w e = record { is = e ∙ ap first_of (is_in_place 0 k (records s) w); ranked = (looked_in_place k 0 s e).ranked }
+pub looked_marked : (k : ℕ) (job : SortedJob) {f : Option Record} → f ≡ looked k 0 job.bytes.now → Looked k (marked k (records job.bytes.now)) f
+looked_marked k job e = record { is = e ∙ ap first_of (marked_in_place k job); ranked = (looked_in_place k 0 job.bytes.now e).ranked }
 
 module _ {k : ℕ} {l : List Record} {f : Option Record} (w : Looked k l f) where
   -- what is made of the records, where there is none and where there is one
@@ -227,13 +239,17 @@ module _ (s : List ℕ) {f : Option Head} (e : f ≡ before (step s)) where
 
 -- those that were collected are the first eight, where no more are left or they are eight
 pub collected : (xs left all : List Range) → xs ++ left ≡ all → length xs ≤ 8 → left ≡ [] → xs ≡ take 8 all
-collected xs left all e h n = sym (take_all 8 xs h) ∙ ap (take 8) (sym (append-nil xs) ∙ ap (λ (ys : List Range). xs ++ ys) (sym n) ∙ e)
+collected xs left all e h n =
+    let whole : xs ≡ all = sym (append-nil xs) ∙ ap (λ (ys : List Range). xs ++ ys) (sym n) ∙ e in
+    sym (take_all 8 xs h) ∙ ap (take 8) whole
 
 pub collected_eight : (xs left all : List Range) → xs ++ left ≡ all → length xs ≡ 8 → xs ≡ take 8 all
-collected_eight xs left all e h = ? 
+collected_eight xs left all e h = sym (take_all 8 xs (omega arith)) ∙ sym (take-append-le 8 xs left (omega arith)) ∙ ap (take 8) e
 
 -- in order, and no more than eight, they are the areas of the job
-pub all_areas : (rs : List Record) → Sorted 0 rs → length (marked AR rs) ≤ 8 → take 8 (areas_from (in_place AR rs)).items ≡ (areas_from (marked AR rs)).items
-all_areas rs s h =
-    ap (λ (xs : List Record). take 8 (map range_from xs)) (is_in_place 0 AR rs s)
+pub all_areas : (job : SortedJob) → let rs = records job.bytes.now in
+    length (marked AR rs) ≤ 8 → take 8 (areas_from (in_place AR rs)).items ≡ (areas_from (marked AR rs)).items
+all_areas job h =
+    let rs = records job.bytes.now in
+    ap (λ (xs : List Record). take 8 (map range_from xs)) (marked_in_place AR job)
     ∙ take_all 8 (map range_from (marked AR rs)) (omega (arith, length-map (marked AR rs) range_from))

@@ -1,5 +1,7 @@
 -- How the records of a job are walked: one by one, and up to those of a mark. Assumes nothing.
 use Rattle.std.specs.Prelude.{cond, List, [], ◌∷◌, ℕ, ◌≤◌, eqb, ltb, Option, Some, None}
+use mathlib.Core.HLevel.{×_prop, Unit-prop}
+use native.Mathlib.Bridge.{le_prop}
 use Rattle.job_records.specs.Records.{rank, is_end}
 use Rattle.job_records.specs.declared.records.Record.{Record}
 use Rattle.job_records.specs.declared.records.Head.{Head}
@@ -23,3 +25,8 @@ in_place k (r ∷ rs) = cond (ltb k (rank r)) [] (cond (eqb (rank r) k) (r ∷ i
 abbrev pub Sorted : ℕ → List Record → Type 0
 Sorted k [] = Unit {0}
 Sorted k (r ∷ rs) = (k ≤ rank r) × Sorted (rank r) rs
+
+-- of which there is one proof at most
+pub sorted_prop : (k : ℕ) (rs : List Record) → IsProp (Sorted k rs)
+sorted_prop k [] = Unit-prop
+sorted_prop k (r ∷ rs) = ×_prop le_prop (sorted_prop (rank r) rs)

@@ -7,7 +7,10 @@ ghost use Rattle.job_records.specs.Records.{step, records, UC, AR};
 ghost use Rattle.job_walk.specs.Walk as walk;
 ghost use Rattle.job_walk.specs.Areas as section;
 
+mod sorted;
+
 use job_records::{Head, JobAreas, Mark, Record, read_record};
+pub use sorted::SortedJob;
 
 // The next record before the EN, or none.
 pub fn next_record(s: &[u8]) -> Option<Head>

@@ -11,8 +11,9 @@ use Rattle.planner_rules.specs.declared.planning.Areas.{Areas}
 use Rattle.job_records.specs.Records.{UC, records, marked}
 use Rattle.job_settings.specs.Meaning.{areas_for}
 use Rattle.job_walk.specs.Areas.{cell_limit_from}
-use Rattle.job_walk.specs.Walk.{Sorted, in_place}
-use Rattle.job_walk.proofs.WalkLaws.{is_in_place, all_areas}
+use Rattle.job_walk.specs.declared.sorted.SortedJob.{SortedJob}
+use Rattle.job_walk.specs.Walk.{in_place}
+use Rattle.job_walk.proofs.WalkLaws.{marked_in_place, all_areas}
 use Rattle.job_questions.proofs.cells_ok.Goals as goal
 
 -- "absent means no limit"
@@ -21,16 +22,16 @@ unfolding cells_hold
 no_limit l gs e = rw e
 
 -- the limit that was found is the job's
-limit_is : (l : Option ℕ) (s : List ℕ) → Sorted 0 (records s) → l ≡ cell_limit_from (in_place UC (records s)) → l ≡ cell_limit_from (marked UC (records s))
-limit_is l s w e = e ∙ ap cell_limit_from (is_in_place 0 UC (records s) w)
+limit_is : (l : Option ℕ) (job : SortedJob) → l ≡ cell_limit_from (in_place UC (records job.bytes.now))
+    → l ≡ cell_limit_from (marked UC (records job.bytes.now))
+limit_is l job e = e ∙ ap cell_limit_from (marked_in_place UC job)
 
 pub returns-in_default : goal.returns-in_default
 returns-in_default c =
-    no_limit _ _ (sym (limit_is _ c.args.bytes.now c.requires.sorted c.cell_limit_of-limit.ensures) ∙ c.in_default.is)
+    no_limit _ _ (sym (limit_is _ c.args.job c.cell_limit_of-limit.ensures) ∙ c.in_default.is)
 
 pub returns : goal.returns
 returns c =
-    let rs = records c.args.bytes.now in
-    let limit = limit_is c.cell_limit_of-limit.result c.args.bytes.now c.requires.sorted c.cell_limit_of-limit.ensures in
-    let areas = c.areas_for-areas.ensures ∙ ap areas_for (c.areas_of-read.ensures ∙ all_areas c.args.count rs c.requires.sorted c.requires.count_value) in
+    let limit = limit_is c.cell_limit_of-limit.result c.args.job c.cell_limit_of-limit.ensures in
+    let areas = c.areas_for-areas.ensures ∙ ap areas_for (c.areas_of-read.ensures ∙ all_areas c.args.count c.args.job c.requires) in
     c.cells_hold.ensures ∙ ap₂ (λ (x : Option ℕ) (y : Areas). cells_hold x (areas_in y)) limit areas

@@ -1,6 +1,7 @@
 -- `first_no` answers the first no: the questions before it are answered yes.
 use mathlib.Core.Path.{sym, ◌∙◌}
 use borrow.Author.Tests.{not-true, not-false}
+use Rattle.job_walk.proofs.WalkLaws.{sorted_first}
 use Rattle.job_questions.specs.Pass.{answer}
 use Rattle.job_questions.proofs.PassLaws.{no_here, yes_here, none_no, sorted_after, areas_after}
 use Rattle.planner_rules.proofs.QuestionLaws.{both}
@@ -25,12 +26,11 @@ returns-then-not-t-2 c =
     yes_here _ _ _ _ c.if-not-t-areas.false
     (yes_here _ _ _ _ (not-false _ c.if-not-t.false) (yes_here _ _ _ _ c.if-not-equally_long-t.false (no_here _ _ _ (not-true _ c.if-not-t-2.true))))
 
-pub cells_ok-held-requires-clause-sorted : goal.cells_ok-held-requires-clause-sorted
-cells_ok-held-requires-clause-sorted c =
-    sorted_after c.args.t _ c.requires (both c.args.t.ordered _ c.if-not-t-areas.false).0
+pub invariant_of-job : goal.invariant_of-job
+invariant_of-job c = record { sorted = sorted_first _ (sorted_after c.args.t _ c.requires (both c.args.t.ordered _ c.if-not-t-areas.false).0) }
 
-pub cells_ok-held-requires-clause-count_value : goal.cells_ok-held-requires-clause-count_value
-cells_ok-held-requires-clause-count_value c = areas_after c.args.t _ c.requires
+pub cells_ok-held-requires : goal.cells_ok-held-requires
+cells_ok-held-requires c = areas_after c.args.t _ c.requires
 
 pub returns-then-not-held : goal.returns-then-not-held
 unfolding answer

@@ -1,22 +1,18 @@
 -- `job_reader::lists::read_job` meets its contract.
+use Rattle.job_walk.proofs.WalkLaws.{sorted_first}
 use Rattle.job_questions.proofs.PassLaws.{handed_on}
 use Rattle.job_reader.specs.Reading.{lists_in}
 use Rattle.job_reader.proofs.ReadingLaws.{admitted_is, given_sorted, given_areas, given_room, job_given, job_refused}
 use Rattle.job_reader.proofs.lists.read_job.Goals as goal
 
-pub write_items-requires-clause-sorted : goal.write_items-requires-clause-sorted
-write_items-requires-clause-sorted c =
-    given_sorted {l = lists_in c.args.lent.now} (admitted_is c.admit_to.ensures c.in_ok-items.was)
+pub invariant_of-job : goal.invariant_of-job
+invariant_of-job c = record { sorted = sorted_first _ (given_sorted {l = lists_in c.args.lent.now} (admitted_is c.admit_to.ensures c.in_ok-items.was)) }
 
-pub write_items-requires-clause-room : goal.write_items-requires-clause-room
-write_items-requires-clause-room c = given_room {l = lists_in c.args.lent.now} (admitted_is c.admit_to.ensures c.in_ok-items.was)
+pub write_items-requires : goal.write_items-requires
+write_items-requires c = given_room {l = lists_in c.args.lent.now} (admitted_is c.admit_to.ensures c.in_ok-items.was)
 
-pub settings_of-settings-requires-clause-sorted : goal.settings_of-settings-requires-clause-sorted
-settings_of-settings-requires-clause-sorted c =
-    given_sorted {l = lists_in c.args.lent.now} (admitted_is c.admit_to.ensures c.in_ok-items.was)
-
-pub settings_of-settings-requires-clause-areas_value : goal.settings_of-settings-requires-clause-areas_value
-settings_of-settings-requires-clause-areas_value c =
+pub settings_of-settings-requires : goal.settings_of-settings-requires
+settings_of-settings-requires c =
     given_areas {l = lists_in c.args.lent.now} (admitted_is c.admit_to.ensures c.in_ok-items.was)
 
 pub returns-in_err-items : goal.returns-in_err-items

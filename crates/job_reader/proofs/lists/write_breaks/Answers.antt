@@ -18,7 +18,7 @@ pub slice_bounds-s-start : goal.slice_bounds-s-start
 slice_bounds-s-start c = omega (arith, (kind_next c.loop-head.invariant.going c.next_of.ensures c.in-Some.is).used.within)
 
 pub break_of-requires : goal.break_of-requires
-break_of-requires c = rw (kind_next c.loop-head.invariant.going c.next_of.ensures c.in-Some.is).rank_is c.requires.wanted_value
+break_of-requires c = rw (kind_next c.loop-head.invariant.going c.next_of.ensures c.in-Some.is).rank_is c.requires.first_value
 
 pub bounds-breaks-k : goal.bounds-breaks-k
 bounds-breaks-k c =

@@ -7,8 +7,8 @@ use Rattle.job_reader.proofs.lists.write_breaks.Given as goal
 
 abbrev pub invariant-loop-head : goal.invariant-loop-head
 invariant-loop-head l = record {
-  going : Going (place l.wanted) (place l.wanted + 1) l.bytes l.s;
-  numbers : Numbers (place l.wanted) 0 l.bytes l.s l.k l.initial.breaks l.breaks;
+  going : Going (place l.job.first) (place l.job.first + 1) l.job.bytes.now l.s;
+  numbers : Numbers (place l.job.first) 0 l.job.bytes.now l.s l.k l.initial.breaks l.breaks;
 }
 
 abbrev pub decreases-loop-head : goal.decreases-loop-head

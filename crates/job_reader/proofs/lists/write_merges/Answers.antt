@@ -1,5 +1,5 @@
 -- `job_reader::lists::write_merges` meets its contract.
-use Rattle.std.proofs.Common.{ap, arith}
+use Rattle.std.proofs.Common.{ap, ◌∙◌, arith}
 use Rattle.job_records.specs.declared.records.Range.{Range}
 use Rattle.job_reader.proofs.WalkLaws.{kind_done, kind_next}
 use Rattle.job_reader.proofs.Lent.{one_room, one_store, one_done}
@@ -31,7 +31,7 @@ pub slice_bounds-s-start : goal.slice_bounds-s-start
 slice_bounds-s-start c = omega (arith, (kind_next c.loop-head.invariant.going c.next_of.ensures c.in-Some.is).used.within)
 
 pub cells_of-cells-requires : goal.cells_of-cells-requires
-cells_of-cells-requires c = (kind_next c.loop-head.invariant.going c.next_of.ensures c.in-Some.is).rank_is
+cells_of-cells-requires c = (kind_next c.loop-head.invariant.going c.next_of.ensures c.in-Some.is).rank_is ∙ c.requires.first_value
 
 pub bounds-first_rows-k : goal.bounds-first_rows-k
 bounds-first_rows-k c = one_room c.loop-head.invariant.first_rows (kind_next c.loop-head.invariant.going c.next_of.ensures c.in-Some.is).head

@@ -23,7 +23,7 @@ pub slice_bounds-s-start : goal.slice_bounds-s-start
 slice_bounds-s-start c = omega (arith, (kind_next c.loop-head.invariant.going c.next_of.ensures c.in-Some.is).used.within)
 
 pub slot_of-slot-requires : goal.slot_of-slot-requires
-slot_of-slot-requires c = rw (kind_next c.loop-head.invariant.going c.next_of.ensures c.in-Some.is).rank_is c.requires.wanted_value
+slot_of-slot-requires c = rw (kind_next c.loop-head.invariant.going c.next_of.ensures c.in-Some.is).rank_is c.requires.first_value
 
 pub bounds-indexes-k : goal.bounds-indexes-k
 bounds-indexes-k c = one_room c.loop-head.invariant.indexes (kind_next c.loop-head.invariant.going c.next_of.ensures c.in-Some.is).head

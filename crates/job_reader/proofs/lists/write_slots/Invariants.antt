@@ -7,9 +7,9 @@ use Rattle.job_reader.proofs.lists.write_slots.Given as goal
 
 abbrev pub invariant-loop-head : goal.invariant-loop-head
 invariant-loop-head l = record {
-  going : Going (place l.wanted) (place l.wanted + 1) l.bytes l.s;
-  indexes : Numbers (place l.wanted) 0 l.bytes l.s l.k l.initial.indexes l.indexes;
-  sizes : Numbers (place l.wanted) 1 l.bytes l.s l.k l.initial.sizes l.sizes;
+  going : Going (place l.job.first) (place l.job.first + 1) l.job.bytes.now l.s;
+  indexes : Numbers (place l.job.first) 0 l.job.bytes.now l.s l.k l.initial.indexes l.indexes;
+  sizes : Numbers (place l.job.first) 1 l.job.bytes.now l.s l.k l.initial.sizes l.sizes;
 }
 
 abbrev pub decreases-loop-head : goal.decreases-loop-head

@@ -8,17 +8,17 @@ use Rattle.job_walk.proofs.WalkLaws.{looked_marked, from_none, from_one}
 use Rattle.job_reader.proofs.settings.flag_of.Goals as goal
 
 pub returns-in_err-x : goal.returns-in_err-x
-returns-in_err-x c = c.from_residual.ensures ∙ from_none (looked_marked (place c.args.wanted) c.args.bytes.now c.requires.sorted c.find_record.ensures) flag_from c.in_err-x.was refl
+returns-in_err-x c = c.from_residual.ensures ∙ from_none (looked_marked (place c.args.wanted) c.args.job c.find_record.ensures) flag_from c.in_err-x.was refl
 
 -- a record with such a mark that is of no such kind
 pub unreachable-requires : goal.unreachable-requires
 unreachable-requires c =
-    let l = looked_marked (place c.args.wanted) c.args.bytes.now c.requires.sorted c.find_record.ensures in
-    let ranked : is_flag (rank c.in_ok-x.field-0) ≡ true = ap is_flag (l.ranked _ c.in_ok-x.was) ∙ c.requires.wanted_value in
+    let l = looked_marked (place c.args.wanted) c.args.job c.find_record.ensures in
+    let ranked : is_flag (rank c.in_ok-x.field-0) ≡ true = ap is_flag (l.ranked _ c.in_ok-x.was) ∙ c.requires in
     search rules
 
 pub returns-in-Fit : goal.returns-in-Fit
-returns-in-Fit c = from_one (looked_marked (place c.args.wanted) c.args.bytes.now c.requires.sorted c.find_record.ensures) flag_from c.in_ok-x.was c.in-Fit.is (λ t. refl)
+returns-in-Fit c = from_one (looked_marked (place c.args.wanted) c.args.job c.find_record.ensures) flag_from c.in_ok-x.was c.in-Fit.is (λ t. refl)
 
 pub returns-in-Order : goal.returns-in-Order
-returns-in-Order c = from_one (looked_marked (place c.args.wanted) c.args.bytes.now c.requires.sorted c.find_record.ensures) flag_from c.in_ok-x.was c.in-Order.is (λ t. refl)
+returns-in-Order c = from_one (looked_marked (place c.args.wanted) c.args.job c.find_record.ensures) flag_from c.in_ok-x.was c.in-Order.is (λ t. refl)

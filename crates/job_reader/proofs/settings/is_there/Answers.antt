@@ -16,5 +16,5 @@ one_there (r ∷ rs) = refl
 pub returns : goal.returns
 returns c =
     c.is_some.ensures
-    ∙ ap is_some (looked_marked (place c.args.wanted) c.args.bytes.now c.requires c.find_record.ensures).is
-    ∙ one_there (marked (place c.args.wanted) (records c.args.bytes.now))
+    ∙ ap is_some (looked_marked (place c.args.wanted) c.args.job c.find_record.ensures).is
+    ∙ one_there (marked (place c.args.wanted) (records c.args.job.bytes.now))

@@ -1,13 +1,12 @@
 -- `job_reader::settings::settings_of` meets its contract.
 use Rattle.std.proofs.Common.{ap, ◌∙◌}
-use Rattle.job_records.specs.Records.{UC, records}
+use Rattle.job_records.specs.Records.{UC}
 use Rattle.job_walk.specs.Areas.{cell_limit_from}
-use Rattle.job_walk.proofs.WalkLaws.{is_in_place, all_areas}
+use Rattle.job_walk.proofs.WalkLaws.{marked_in_place, all_areas}
 use Rattle.job_reader.proofs.settings.settings_of.Goals as goal
 
 pub returns : goal.returns
 returns c =
-    let rs = records c.args.bytes.now in
     rw (
       c.number_of.ensures,
       c.is_there.ensures,
@@ -19,8 +18,8 @@ returns c =
       c.flag_of-2.ensures,
       c.is_there-2.ensures,
       c.limit_of.ensures,
-      c.cell_limit_of.ensures ∙ ap cell_limit_from (is_in_place 0 UC rs c.requires.sorted),
-      c.areas_of.ensures ∙ all_areas _ rs c.requires.sorted c.requires.areas_value,
+      c.cell_limit_of.ensures ∙ ap cell_limit_from (marked_in_place UC c.args.job),
+      c.areas_of.ensures ∙ all_areas _ c.args.job c.requires,
       c.title_of.ensures,
       c.title_of-2.ensures,
     )

@@ -9,20 +9,20 @@ use Rattle.job_reader.proofs.settings.title_of.Goals as goal
 
 pub returns-in_default : goal.returns-in_default
 returns-in_default c =
-    from_none (looked_marked (place c.args.wanted) c.args.bytes.now c.requires.sorted c.find_record.ensures) title_from c.in_default.is refl
+    from_none (looked_marked (place c.args.wanted) c.args.job c.find_record.ensures) title_from c.in_default.is refl
 
 -- a record with such a mark that is of no such kind
 pub unreachable-requires : goal.unreachable-requires
 unreachable-requires c =
-    let l = looked_marked (place c.args.wanted) c.args.bytes.now c.requires.sorted c.find_record.ensures in
-    let ranked : is_title (rank c.in-Some.found) ≡ true = ap is_title (l.ranked _ c.in-Some.is) ∙ c.requires.wanted_value in
+    let l = looked_marked (place c.args.wanted) c.args.job c.find_record.ensures in
+    let ranked : is_title (rank c.in-Some.found) ≡ true = ap is_title (l.ranked _ c.in-Some.is) ∙ c.requires in
     search rules
 
 pub returns-in-TitleRows : goal.returns-in-TitleRows
 returns-in-TitleRows c =
-    from_one (looked_marked (place c.args.wanted) c.args.bytes.now c.requires.sorted c.find_record.ensures) title_from c.in-Some.is c.in-TitleRows.is (λ t. refl)
+    from_one (looked_marked (place c.args.wanted) c.args.job c.find_record.ensures) title_from c.in-Some.is c.in-TitleRows.is (λ t. refl)
 
 pub returns-in-TitleColumns : goal.returns-in-TitleColumns
 returns-in-TitleColumns c =
     rw (c.from.ensures, c.from-in-TitleColumns.ensures)
-    (from_one (looked_marked (place c.args.wanted) c.args.bytes.now c.requires.sorted c.find_record.ensures) title_from c.in-Some.is c.in-TitleColumns.is (λ t. refl))
+    (from_one (looked_marked (place c.args.wanted) c.args.job c.find_record.ensures) title_from c.in-Some.is c.in-TitleColumns.is (λ t. refl))

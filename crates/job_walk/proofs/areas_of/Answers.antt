@@ -1,0 +1,51 @@
+-- Each turn goes on by a record, and takes it over where it is an area.
+use Rattle.std.proofs.Common.{List, ◌++◌, sym, ap, ◌∙◌, arith, eqb-true}
+use Rattle.std.proofs.lemmas.Bool.{eqb-false}
+use Rattle.std.proofs.lemmas.List.{append_assoc}
+use Rattle.job_records.specs.declared.records.Range.{Range}
+use Rattle.job_records.specs.Marks.{place}
+use Rattle.job_records.specs.declared.marks.Mark.TheVariants.{Area}
+use Rattle.job_records.proofs.MarkLaws.{later_place, no_later_place}
+use Rattle.job_walk.proofs.WalkLaws.{ranges_left, walk_used, area_end, area_past, area_here, area_on, collected, collected_eight}
+use Rattle.job_walk.proofs.areas_of.Goals as goal
+use Rattle.job_walk.proofs.areas_of.Goals.{in-Area, in_default-found}
+
+pub returns-then-gt : goal.returns-then-gt
+returns-then-gt c =
+    let l = c.loop-head in
+    let past = later_place c.mark.result Area (sym c.gt.ensures ∙ c.if-gt.true) in
+    collected _ _ _ l.invariant.1 l.invariant.0 (area_past l.s.now c.next_record.ensures c.in-Some.is (omega (arith, past, ap place c.mark.ensures)))
+
+pub returns-then-is_full : goal.returns-then-is_full
+returns-then-is_full c = collected_eight _ _ _ c.loop-head.invariant.1 (eqb-true _ 8 (sym c.is_full.ensures.value ∙ c.if-is_full.true))
+
+pub slice_bounds-s-count : goal.slice_bounds-s-count
+slice_bounds-s-count c = (walk_used c.loop-head.s.now c.next_record.ensures c.in-Some.is).within
+
+pub slice_bounds-s-start : goal.slice_bounds-s-start
+slice_bounds-s-start c = omega (arith, (walk_used c.loop-head.s.now c.next_record.ensures c.in-Some.is).within)
+
+pub loop-head-smaller : goal.loop-head-smaller
+loop-head-smaller c = (walk_used c.loop-head.s.now c.next_record.ensures c.in-Some.is).less
+
+pub loop-head-preserved : goal.loop-head-preserved
+loop-head-preserved c =
+    let l = c.loop-head in
+    elim c.match-head.branch [
+      | in-Area w ↦
+          let next = area_here l.s.now c.next_record.ensures c.in-Some.is w.in-Area.cells w.in-Area.is in
+          let room = eqb-false _ 8 (sym c.is_full.ensures.value ∙ c.if-is_full.false) in
+          rw w.areas-is (
+            omega (arith, w.push.ensures.len, room, l.invariant.0),
+            rw w.push.ensures.items (append_assoc l.areas.items _ _ ∙ ap (λ (rs : List Range). l.areas.items ++ rs) (sym next) ∙ l.invariant.1),
+          )
+      | in_default-found w ↦
+          let few = no_later_place c.mark.result Area (sym c.gt.ensures ∙ c.if-gt.false) in
+          let same = area_on l.s.now c.next_record.ensures c.in-Some.is (omega (arith, few, ap place c.mark.ensures)) w.in_default-found.not-Area in
+          rw w.areas-is (l.invariant.0, ap (λ (rs : List Range). l.areas.items ++ rs) same ∙ l.invariant.1)
+    ]
+
+pub returns : goal.returns
+returns c =
+    let l = c.loop-head in
+    collected _ _ _ l.invariant.1 l.invariant.0 (area_end l.s.now c.next_record.ensures c.in_default.is)
