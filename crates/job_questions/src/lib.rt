@@ -1,7 +1,7 @@
 // The questions 1 to 9 and 15 put to a job, all but 15 in one pass over its records: document 01, section "Questions in order".
 #![tactic(auto)]
 
-ghost use Rattle.std.specs.Prelude.{◌≡◌, ◌<◌, ◌^◌, length};
+ghost use Rattle.std.specs.Prelude.{◌≤◌, ◌≡◌, ◌<◌, ◌^◌, length};
 ghost use Rattle.job_records.specs.Records.{rank, AR, records, marked};
 ghost use Rattle.job_questions.specs.Verdict.{asked, follows, firsts_ok, grid_ok, size_ok, question15, repeats, verdict_lent, verdict};
 ghost use Rattle.job_records.specs.Marks.{place};
@@ -261,18 +261,18 @@ impl Default for State {
     }
 }
 
-// 15 of a job with so many areas.
-fn cells_ok(job: SortedJob<'_>, count: usize) -> bool
-    requires { count ≡ length (marked AR (records job.bytes.now)) }
+// 15 of a job with no more than eight areas.
+fn cells_ok(job: SortedJob<'_>) -> bool
+    requires { length (marked AR (records job.bytes.now)) ≤ 8 }
     ensures { result ≡ question15 job.entry.bytes.now }
 {
     let limit = cell_limit_of(job.bytes);
     let Some(_) = limit else {
         return true;
     };
-    let read = areas_of(job.bytes, count);
-    let areas = areas_for(read);
-    cells_hold(limit, areas)
+    let read = areas_of(job.bytes);
+    let areas = areas_for(&read);
+    cells_hold(limit, areas.as_slice())
 }
 
 // The first of the questions 4 to 7, 15, 8 and 9 that is answered no, if one is. Slices that make up one list are equally long, or not.
@@ -297,7 +297,7 @@ fn first_no(bytes: &[u8], equally_long: bool, t: State) -> Result<(), Refusal>
         bytes,
         first: Mark::Paper,
     };
-    let held = cells_ok(job, areas);
+    let held = cells_ok(job);
     let rising = (t.rows < BEYOND) & (t.columns < BEYOND);
     if !held {
         return Err(Refusal::TooManyCells);

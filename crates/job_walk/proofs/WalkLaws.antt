@@ -11,6 +11,7 @@ use lib.ListN.{length, take, drop, length-map}
 use lib.Seq.{drop-nil, take_all}
 use Rattle.std.proofs.lemmas.List.{append-nil, take-append-le}
 use borrow.Author.Tests.{eq-eqb, ne_eqb, eqb-true, lt-ltb, le-ltb}
+use Rattle.arrayvec.specs.ArrayVec.{ArrayVec}
 use Rattle.job_records.specs.declared.records.Range.{Range}
 use Rattle.job_records.specs.declared.records.Record.{Record}
 use Rattle.job_records.specs.declared.records.Record.TheVariants.{Area}
@@ -247,9 +248,13 @@ pub collected_eight : (xs left all : List Range) → xs ++ left ≡ all → leng
 collected_eight xs left all e h = sym (take_all 8 xs (omega arith)) ∙ sym (take-append-le 8 xs left (omega arith)) ∙ ap (take 8) e
 
 -- in order, and no more than eight, they are the areas of the job
-pub all_areas : (job : SortedJob) → let rs = records job.bytes.now in
-    length (marked AR rs) ≤ 8 → take 8 (areas_from (in_place AR rs)).items ≡ (areas_from (marked AR rs)).items
-all_areas job h =
-    let rs = records job.bytes.now in
-    ap (λ (xs : List Record). take 8 (map range_from xs)) (marked_in_place AR job)
-    ∙ take_all 8 (map range_from (marked AR rs)) (omega (arith, length-map (marked AR rs) range_from))
+module _ (job : SortedJob) (few : length (marked AR (records job.bytes.now)) ≤ 8) where
+  abbrev all : List Record
+  all = marked AR (records job.bytes.now)
+
+  first_eight : take 8 (areas_from (in_place AR (records job.bytes.now))).items ≡ (areas_from all).items
+  first_eight =
+      ap (λ (xs : List Record). take 8 (map range_from xs)) (marked_in_place AR job) ∙ take_all 8 (map range_from all) (omega (arith, length-map all range_from))
+
+  pub all_areas : (a : ArrayVec Range) → a.items ≡ take 8 (areas_from (in_place AR (records job.bytes.now))).items → a ≡ areas_from all
+  all_areas a e = λ i. record { items = (e ∙ first_eight) i }

@@ -3,11 +3,11 @@ use mathlib.Core.Path.{◌≡◌, sym, ap, ap₂, ◌∙◌}
 use mathlib.Core.Bool.{true}
 use mathlib.Core.List.{List}
 use Prim.Native.Nat.{ℕ}
-use Rattle.planner_rules.specs.Areas.{areas_in}
 use Rattle.planner_rules.specs.Union.{cells_hold}
 use Rattle.std.specs.Prelude.{Option, None}
 use Rattle.planner_rules.specs.declared.planning.PrintRange.{PrintRange}
-use Rattle.planner_rules.specs.declared.planning.Areas.{Areas}
+use Rattle.arrayvec.specs.ArrayVec.{ArrayVec}
+use Rattle.job_records.specs.declared.records.Range.{Range}
 use Rattle.job_records.specs.Records.{UC, records, marked}
 use Rattle.job_settings.specs.Meaning.{areas_for}
 use Rattle.job_walk.specs.Areas.{cell_limit_from}
@@ -33,5 +33,5 @@ returns-in_default c =
 pub returns : goal.returns
 returns c =
     let limit = limit_is c.cell_limit_of-limit.result c.args.job c.cell_limit_of-limit.ensures in
-    let areas = c.areas_for-areas.ensures ∙ ap areas_for (c.areas_of-read.ensures ∙ all_areas c.args.count c.args.job c.requires) in
-    c.cells_hold.ensures ∙ ap₂ (λ (x : Option ℕ) (y : Areas). cells_hold x (areas_in y)) limit areas
+    let read = c.areas_for-areas.ensures ∙ ap (λ (a : ArrayVec Range). areas_for a.items) (all_areas c.args.job c.requires _ c.areas_of-read.ensures) in
+    c.cells_hold.ensures ∙ ap₂ cells_hold limit (c.as_slice.ensures.value ∙ read)

@@ -1,6 +1,8 @@
 -- `first_no` answers the first no: the questions before it are answered yes.
 use mathlib.Core.Path.{sym, ◌∙◌}
-use borrow.Author.Tests.{not-true, not-false}
+use native.Mathlib.Omega.{arith}
+use lib.Dec.{leb}
+use borrow.Author.Tests.{not-true, not-false, leb-true}
 use Rattle.job_walk.proofs.WalkLaws.{sorted_first}
 use Rattle.job_questions.specs.Pass.{answer}
 use Rattle.job_questions.proofs.PassLaws.{no_here, yes_here, none_no, sorted_after, areas_after}
@@ -30,7 +32,9 @@ pub invariant_of-job : goal.invariant_of-job
 invariant_of-job c = record { sorted = sorted_first _ (sorted_after c.args.t _ c.requires (both c.args.t.ordered _ c.if-not-t-areas.false).0) }
 
 pub cells_ok-held-requires : goal.cells_ok-held-requires
-cells_ok-held-requires c = areas_after c.args.t _ c.requires
+cells_ok-held-requires c =
+    let few = both (leb 1 c.args.t.items.areas) (leb c.args.t.items.areas 8) (both c.args.t.ordered _ c.if-not-t-areas.false).1 in
+    omega (arith, areas_after c.args.t _ c.requires, leb-true _ _ few.1)
 
 pub returns-then-not-held : goal.returns-then-not-held
 unfolding answer

@@ -19,7 +19,7 @@ returns c =
       c.is_there-2.ensures,
       c.limit_of.ensures,
       c.cell_limit_of.ensures ∙ ap cell_limit_from (marked_in_place UC c.args.job),
-      c.areas_of.ensures ∙ all_areas _ c.args.job c.requires,
+      all_areas c.args.job c.requires _ c.areas_of.ensures,
       c.title_of.ensures,
       c.title_of-2.ensures,
     )
