@@ -23,7 +23,8 @@ loop-i-preserved c =
       counted =
           counted_next (sides_in a.self.now.shared.now) _ (eight_ranges a.areas) l.i _ (omega (arith, c.loop-i-test.true, c.requires.fine_areas.few))
           c.area_at-range.ensures
-          (omega (arith, c.loop-i-test.true, c.requires.fine_areas.few)) l.all _ _ l.invariant.counted (rw (of.sheet_is, of.range_is) at c.count.ensures.counted)
+          (omega (arith, c.loop-i-test.true, c.requires.fine_areas.few)) l.all _ _ l.invariant.counted
+          (rw (of.sheet_is, of.range_is) at c.count.ensures.counted)
           c.add_area-all.ensures.added;
       few = c.add_area-all.ensures.few_added;
     }

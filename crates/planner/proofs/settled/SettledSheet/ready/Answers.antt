@@ -6,10 +6,16 @@ use Rattle.planner_rules.proofs.AreaLaws.{row_startable, column_startable}
 use Rattle.planner.proofs.settled.SettledSheet.ready.Goals as goal
 
 pub ready_axis-requires : goal.ready_axis-requires
-ready_axis-requires c = rw (ap (λ (a : AxisInput). a.first) (c.axis_range-row_axis.ensures [] [] [] [] [])) (row_startable c.args.self.now.shared.now _ c.args.self.now.settled c.args.range c.requires.fine_area)
+ready_axis-requires c =
+    let s = c.args.self.now in
+    rw (ap (λ (a : AxisInput). a.first) (c.axis_range-row_axis.ensures [] [] [] [] []))
+    (row_startable s.shared.now _ s.settled c.args.range c.requires.fine_area)
 
 pub ready_axis-requires-2 : goal.ready_axis-requires-2
-ready_axis-requires-2 c = rw (ap (λ (a : AxisInput). a.first) (c.axis_range-column_axis.ensures [] [] [] [] [])) (column_startable c.args.self.now.shared.now _ c.args.self.now.settled c.args.range c.requires.fine_area)
+ready_axis-requires-2 c =
+    let s = c.args.self.now in
+    rw (ap (λ (a : AxisInput). a.first) (c.axis_range-column_axis.ensures [] [] [] [] []))
+    (column_startable s.shared.now _ s.settled c.args.range c.requires.fine_area)
 
 pub invariant_of-result : goal.invariant_of-result
 invariant_of-result c =

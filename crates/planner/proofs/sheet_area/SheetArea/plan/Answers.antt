@@ -68,7 +68,8 @@ returns-in_err-ask_room c =
     let all = all_counted x _ a.self.now.ready.range _ c.count-one.ensures.counted _ _ c.no_areas.ensures c.add_area-counted.ensures.added in
     let e : c.from_residual.result ≡ Err c.in_err-ask_room.field-0.0 = search rules in
     rw e (refuses_plan _ _ a.row_runs.now a.column_runs.now
-    (room_refused (sides_in x) _ gs _ all (room_in a.row_runs.now) (room_in a.column_runs.now) _ c.in_err-ask_room.ensures (positive c.in_err-ask_room.field-0.0)))
+    (room_refused (sides_in x) _ gs _ all (room_in a.row_runs.now) (room_in a.column_runs.now) _ c.in_err-ask_room.ensures
+    (positive c.in_err-ask_room.field-0.0)))
 
 pub write_by-requires-clause-writable : goal.write_by-requires-clause-writable
 write_by-requires-clause-writable c =
