@@ -1,6 +1,6 @@
 // One area: ready to be cut, its scale, counted and written. Document 01, sections "Scale" and "Pages", and document 02, T-02.
-ghost use Rattle.std.specs.Prelude.{◌≡◌, cond, ◌&&◌, []};
-ghost use Rattle.planner_rules.specs.Scale.{fixed_scale, fit_scale, scale_of, fit_passes, Low};
+ghost use Rattle.std.specs.Prelude.{◌≡◌, []};
+ghost use Rattle.planner_rules.specs.Scale.{scale_of};
 ghost use Rattle.planner_rules.specs.Asked.{sheet_by};
 ghost use Rattle.planner_rules.specs.Plan as call;
 ghost use Rattle.planner_rules.specs.Steps as step;
@@ -9,8 +9,9 @@ use crate::cut::{count_cut, write_cut};
 use crate::fitted::FittedAxis;
 use crate::memory::in_memory;
 use crate::places::place_of;
-use crate::scale::{fit_scale, frame_at};
+use crate::scale::fit_scale;
 use crate::settled::SettledSheet;
+use crate::sheet_area::SheetArea;
 use crate::slots::Measured;
 use planner_rules::{
     AreaNotes, AreaPlan, Axis, AxisLists, AxisRange, ChosenScale, CountedArea, FinalCut, Fit,
@@ -19,6 +20,13 @@ use planner_rules::{
 use planner_setup::{axis_range, fixed_scale, looked_at};
 use planner_titles::body_start;
 use units::Fixed;
+
+// What an area came to, and what its runs go by there.
+#[derive(Clone, Copy)]
+pub(crate) struct FramedCount {
+    pub counted: CountedArea,
+    pub frames: Frames,
+}
 
 // Finds the body of an axis beside its title.
 #[inline(always)]
@@ -49,16 +57,22 @@ fn ready_axis(axis: AxisRange, side: Fixed, title: ReadyTitle, indexes: &[u32]) 
     }
 }
 
-// What the runs of both axes go by at a permille.
+// An axis of an area with the slots of its body.
 #[inline(always)]
-pub(crate) fn frames_at(ready: ReadyArea, permille: u16) -> Frames
-    requires low_rows { Low ready.rows.fit.page }
-    requires low_columns { Low ready.columns.fit.page }
-    ensures { result ≡ step.frames_of ready permille }
+fn fitted<'a>(ready: Ready, axis: AxisLists<'a>) -> FittedAxis<'a>
+    requires { call.Cuttable ready axis.slots.indexes.now axis.slots.sizes.now }
+    ensures fit_is { result.fit ≡ ready.fit }
+    ensures merges_are { (result.merges.firsts.now ≡ axis.entry.merges.firsts.now) × (result.merges.lasts.now ≡ axis.entry.merges.lasts.now) }
+    ensures slots_are { let slots = axis.entry.slots in
+        (result.slots.indexes.now ≡ call.within ready slots.indexes.now) × (result.slots.sizes.now ≡ call.within ready slots.sizes.now) }
 {
-    Frames {
-        rows: frame_at(ready.rows.fit, permille),
-        columns: frame_at(ready.columns.fit, permille),
+    FittedAxis {
+        fit: ready.fit,
+        merges: axis.merges,
+        slots: Measured {
+            indexes: &axis.slots.indexes[ready.from..ready.to],
+            sizes: &axis.slots.sizes[ready.from..ready.to],
+        },
     }
 }
 
@@ -87,12 +101,12 @@ fn area_from(scale: ChosenScale, rows: FinalCut, columns: FinalCut) -> CountedAr
     }
 }
 
-impl SettledSheet<'_> {
+impl<'a> SettledSheet<'a> {
     // Finds both bodies of an area.
-    pub(crate) fn ready(&self, range: PrintRange) -> ReadyArea
+    pub(crate) fn ready(&self, range: PrintRange) -> SheetArea<'a>
         requires fine_area { step.FineArea range }
-        ensures { let lists = self.now.lists.now in
-            result ≡ step.ready_in self.now.shared.now range lists.rows.slots.indexes.now lists.columns.slots.indexes.now }
+        ensures sheet_is { result.sheet ≡ self.now }
+        ensures range_is { result.ready.range ≡ range }
     {
         let Shared {
             settings,
@@ -103,128 +117,126 @@ impl SettledSheet<'_> {
         let lists = self.lists;
         let row_axis = axis_range(Axis::Rows, settings, range, rows.asked);
         let column_axis = axis_range(Axis::Columns, settings, range, columns.asked);
-        ReadyArea {
-            range,
-            rows: ready_axis(row_axis, sides.height, rows, lists.rows.slots.indexes),
-            columns: ready_axis(
-                column_axis,
-                sides.width,
-                columns,
-                lists.columns.slots.indexes,
-            ),
+        SheetArea {
+            sheet: *self,
+            ready: ReadyArea {
+                range,
+                rows: ready_axis(row_axis, sides.height, rows, lists.rows.slots.indexes),
+                columns: ready_axis(
+                    column_axis,
+                    sides.width,
+                    columns,
+                    lists.columns.slots.indexes,
+                ),
+            },
+        }
+    }
+}
+
+impl<'a> SheetArea<'a> {
+    // The rows of its body.
+    #[inline(always)]
+    fn rows(&self) -> FittedAxis<'a>
+        ensures fit_is { result.fit ≡ self.now.ready.rows.fit }
+        ensures merges_are { let merges = self.now.sheet.lists.now.rows.merges in
+            (result.merges.firsts.now ≡ merges.firsts.now) × (result.merges.lasts.now ≡ merges.lasts.now) }
+        ensures slots_are { let slots = self.now.sheet.lists.now.rows.slots in
+            let ready = self.now.ready.rows in
+            (result.slots.indexes.now ≡ call.within ready slots.indexes.now) × (result.slots.sizes.now ≡ call.within ready slots.sizes.now) }
+    {
+        fitted(self.ready.rows, self.sheet.lists.rows)
+    }
+
+    // The columns of its body.
+    #[inline(always)]
+    fn columns(&self) -> FittedAxis<'a>
+        ensures fit_is { result.fit ≡ self.now.ready.columns.fit }
+        ensures merges_are { let merges = self.now.sheet.lists.now.columns.merges in
+            (result.merges.firsts.now ≡ merges.firsts.now) × (result.merges.lasts.now ≡ merges.lasts.now) }
+        ensures slots_are { let slots = self.now.sheet.lists.now.columns.slots in
+            let ready = self.now.ready.columns in
+            (result.slots.indexes.now ≡ call.within ready slots.indexes.now) × (result.slots.sizes.now ≡ call.within ready slots.sizes.now) }
+    {
+        fitted(self.ready.columns, self.sheet.lists.columns)
+    }
+
+    // What the runs of both axes go by at a permille.
+    #[inline(always)]
+    fn frames_at(&self, permille: u16) -> Frames
+        ensures { result ≡ step.frames_of self.now.ready permille }
+    {
+        Frames {
+            rows: self.rows().frame_at(permille),
+            columns: self.columns().frame_at(permille),
         }
     }
 
-    // The scale of an area: by fitting, or by percent.
+    // Its scale: by fitting, or by percent.
     #[inline(always)]
-    pub(crate) fn choose_scale(&self, ready: ReadyArea) -> ChosenScale
-        requires cuttable_rows { let slots = self.now.lists.now.rows.slots in call.Cuttable ready.rows slots.indexes.now slots.sizes.now }
-        requires cuttable_columns { let slots = self.now.lists.now.columns.slots in call.Cuttable ready.columns slots.indexes.now slots.sizes.now }
-        ensures { let settings = self.now.shared.now.settings in
-            let rows = self.now.lists.now.rows in
-            let columns = self.now.lists.now.columns in
-            scale_of result ≡ cond settings.fit
-            (fit_scale
-            (λ p. fit_passes ready.rows.fit rows.merges.firsts.now rows.merges.lasts.now
-            (call.within ready.rows rows.slots.indexes.now) (call.within ready.rows rows.slots.sizes.now) p && fit_passes
-            ready.columns.fit columns.merges.firsts.now columns.merges.lasts.now
-            (call.within ready.columns columns.slots.indexes.now) (call.within ready.columns columns.slots.sizes.now) p))
-            (fixed_scale settings.percent) }
+    fn choose_scale(&self) -> ChosenScale
+        ensures { let shared = self.now.sheet.shared.now in
+            let sheet = sheet_by shared self.now.sheet.lists.now in
+            let range = self.now.ready.range in
+            scale_of result ≡ call.chosen_scale shared.settings (step.sides_in shared) (call.rows_in sheet range) (call.columns_in sheet range) }
     {
-        if !self.shared.settings.fit {
-            return fixed_scale(self.shared.settings.percent);
+        let settings = self.sheet.shared.settings;
+        if settings.fit {
+            return fit_scale(self.rows(), self.columns());
         }
-        let ReadyArea { rows, columns, .. } = ready;
-        let SheetLists {
-            rows: row_lists,
-            columns: column_lists,
-        } = *self.lists;
-        let row_axis = FittedAxis {
-            fit: rows.fit,
-            merges: row_lists.merges,
-            slots: Measured {
-                indexes: &row_lists.slots.indexes[rows.from..rows.to],
-                sizes: &row_lists.slots.sizes[rows.from..rows.to],
-            },
-        };
-        let column_axis = FittedAxis {
-            fit: columns.fit,
-            merges: column_lists.merges,
-            slots: Measured {
-                indexes: &column_lists.slots.indexes[columns.from..columns.to],
-                sizes: &column_lists.slots.sizes[columns.from..columns.to],
-            },
-        };
-        fit_scale(row_axis, column_axis)
+        fixed_scale(settings.percent)
     }
 
-    // Counts the final cuts of an area at a scale. With fit on, no break is looked at.
+    // Counts its final cuts at a scale. With fit on, no break is looked at.
     #[inline(always)]
-    pub(crate) fn count_at(
-        &self,
-        ready: ReadyArea,
-        frames: Frames,
-        scale: ChosenScale,
-    ) -> CountedArea
-        requires cuttable_rows { let slots = self.now.lists.now.rows.slots in call.Cuttable ready.rows slots.indexes.now slots.sizes.now }
-        requires cuttable_columns { let slots = self.now.lists.now.columns.slots in call.Cuttable ready.columns slots.indexes.now slots.sizes.now }
-        requires frames_are { frames ≡ step.frames_of ready scale.permille }
-        ensures counted { let fit = self.now.shared.now.settings.fit in
-            let rows = self.now.lists.now.rows in
-            let columns = self.now.lists.now.columns in
-            let row_cut = step.ready_cut ready.rows scale.permille rows.slots.indexes.now rows.slots.sizes.now
-            rows.merges.firsts.now rows.merges.lasts.now (call.looked_at fit rows.breaks.now) in
-            let column_cut = step.ready_cut ready.columns scale.permille columns.slots.indexes.now columns.slots.sizes.now
-            columns.merges.firsts.now columns.merges.lasts.now (call.looked_at fit columns.breaks.now) in
-            result ≡ step.area_from row_cut column_cut (scale_of scale) }
-        ensures few_cut { step.FewCut result }
+    pub(crate) fn count_at(&self, scale: ChosenScale) -> FramedCount
+        ensures counted { let shared = self.now.sheet.shared.now in
+            let sheet = sheet_by shared self.now.sheet.lists.now in
+            let range = self.now.ready.range in
+            result.counted ≡ call.counted_at (step.sides_in shared) (call.rows_in sheet range) (call.columns_in sheet range) (scale_of scale) }
+        ensures few_cut { step.FewCut result.counted }
+        ensures frames_are { result.frames ≡ step.frames_of self.now.ready result.counted.area.permille }
     {
-        let fit = self.shared.settings.fit;
-        let SheetLists { rows, columns } = *self.lists;
+        let fit = self.sheet.shared.settings.fit;
+        let SheetLists { rows, columns } = *self.sheet.lists;
         let row_breaks = in_memory(rows.breaks);
         let column_breaks = in_memory(columns.breaks);
         let row_kept = looked_at(fit, row_breaks.len());
         let column_kept = looked_at(fit, column_breaks.len());
+        let frames = self.frames_at(scale.permille);
         let row_cut = count_cut(
-            ready.rows,
+            self.rows(),
             frames.rows,
             scale.permille,
-            AxisLists {
-                breaks: &row_breaks[..row_kept],
-                ..rows
-            },
+            &row_breaks[..row_kept],
         );
         let column_cut = count_cut(
-            ready.columns,
+            self.columns(),
             frames.columns,
             scale.permille,
-            AxisLists {
-                breaks: &column_breaks[..column_kept],
-                ..columns
-            },
+            &column_breaks[..column_kept],
         );
-        area_from(scale, row_cut, column_cut)
+        FramedCount {
+            counted: area_from(scale, row_cut, column_cut),
+            frames,
+        }
     }
 
-    // Counts an area at the scale that is chosen for it.
+    // Counts it at the scale that is chosen for it.
     #[inline(always)]
-    pub(crate) fn count_area(&self, range: PrintRange) -> CountedArea
-        requires fine_area { step.FineArea range }
-        ensures counted { let shared = self.now.shared.now in
-            result ≡ (call.area_layout (step.sides_in shared) (sheet_by shared self.now.lists.now) range).counted }
-        ensures few { step.Few result }
+    pub(crate) fn count(&self) -> FramedCount
+        ensures counted { let shared = self.now.sheet.shared.now in
+            let sheet = sheet_by shared self.now.sheet.lists.now in
+            result.counted ≡ (call.area_layout (step.sides_in shared) sheet self.now.ready.range).counted }
+        ensures few { step.Few result.counted }
+        ensures frames_are { result.frames ≡ step.frames_of self.now.ready result.counted.area.permille }
     {
-        let ready = self.ready(range);
-        let scale = self.choose_scale(ready);
-        let frames = frames_at(ready, scale.permille);
-        self.count_at(ready, frames, scale)
+        self.count_at(self.choose_scale())
     }
 
-    // Writes the runs of an area that is ready, from a place in each list on.
+    // Writes its runs by their frames, from a place in each list on.
     #[inline(always)]
-    pub(crate) fn write_ready(
+    pub(crate) fn write_by(
         &self,
-        ready: ReadyArea,
         frames: Frames,
         area: AreaPlan,
         row_at: usize,
@@ -232,72 +244,57 @@ impl SettledSheet<'_> {
         row_runs: &mut [u64],
         column_runs: &mut [u64],
     )
-        requires writable { let shared = self.now.shared.now in
-            step.Writable shared (sheet_by shared self.now.lists.now) ready.range area row_at column_at row_runs.old column_runs.old }
-        requires is_ready { let lists = self.now.lists.now in
-            ready ≡ step.ready_in self.now.shared.now ready.range lists.rows.slots.indexes.now lists.columns.slots.indexes.now }
-        requires frames_are { frames ≡ step.frames_of ready area.permille }
-        ensures { let shared = self.now.shared.now in
-            let sheet = sheet_by shared self.now.lists.now in
-            (row_runs.new ≡ step.put_at (step.rows_at shared sheet ready.range area.permille) row_at row_runs.old)
-            × (column_runs.new ≡ step.put_at (step.columns_at shared sheet ready.range area.permille) column_at column_runs.old) }
+        requires writable { let shared = self.now.sheet.shared.now in
+            let sheet = sheet_by shared self.now.sheet.lists.now in
+            step.Writable shared sheet self.now.ready.range area row_at column_at row_runs.old column_runs.old }
+        requires frames_are { frames ≡ step.frames_of self.now.ready area.permille }
+        ensures { let shared = self.now.sheet.shared.now in
+            let sheet = sheet_by shared self.now.sheet.lists.now in
+            let range = self.now.ready.range in
+            (row_runs.new ≡ step.put_at (step.rows_at shared sheet range area.permille) row_at row_runs.old)
+            × (column_runs.new ≡ step.put_at (step.columns_at shared sheet range area.permille) column_at column_runs.old) }
     {
-        let fit = self.shared.settings.fit;
-        let SheetLists { rows, columns } = *self.lists;
+        let fit = self.sheet.shared.settings.fit;
+        let SheetLists { rows, columns } = *self.sheet.lists;
         let row_kept = looked_at(fit, rows.breaks.len());
         let column_kept = looked_at(fit, columns.breaks.len());
         write_cut(
-            ready.rows,
+            self.rows(),
             frames.rows,
             area.rows_empty,
-            ready.range.first_row,
-            AxisLists {
-                breaks: &rows.breaks[..row_kept],
-                ..rows
-            },
+            self.ready.range.first_row,
+            &rows.breaks[..row_kept],
             &mut row_runs[row_at..],
         );
         write_cut(
-            ready.columns,
+            self.columns(),
             frames.columns,
             area.columns_empty,
-            ready.range.first_column,
-            AxisLists {
-                breaks: &columns.breaks[..column_kept],
-                ..columns
-            },
+            self.ready.range.first_column,
+            &columns.breaks[..column_kept],
             &mut column_runs[column_at..],
         );
     }
 
-    // Writes the runs of an area, from a place in each list on.
-    pub(crate) fn write_runs(
+    // Writes its runs as they were counted, from a place in each list on.
+    pub(crate) fn write(
         &self,
-        range: PrintRange,
         area: AreaPlan,
         row_at: usize,
         column_at: usize,
         row_runs: &mut [u64],
         column_runs: &mut [u64],
     )
-        requires fine_area { step.FineArea range }
-        requires writable { let shared = self.now.shared.now in
-            step.Writable shared (sheet_by shared self.now.lists.now) range area row_at column_at row_runs.old column_runs.old }
-        ensures { let shared = self.now.shared.now in
-            let sheet = sheet_by shared self.now.lists.now in
+        requires writable { let shared = self.now.sheet.shared.now in
+            let sheet = sheet_by shared self.now.sheet.lists.now in
+            step.Writable shared sheet self.now.ready.range area row_at column_at row_runs.old column_runs.old }
+        ensures { let shared = self.now.sheet.shared.now in
+            let sheet = sheet_by shared self.now.sheet.lists.now in
+            let range = self.now.ready.range in
             (row_runs.new ≡ step.put_at (step.rows_at shared sheet range area.permille) row_at row_runs.old)
             × (column_runs.new ≡ step.put_at (step.columns_at shared sheet range area.permille) column_at column_runs.old) }
     {
-        let ready = self.ready(range);
-        let frames = frames_at(ready, area.permille);
-        self.write_ready(
-            ready,
-            frames,
-            area,
-            row_at,
-            column_at,
-            row_runs,
-            column_runs,
-        );
+        let frames = self.frames_at(area.permille);
+        self.write_by(frames, area, row_at, column_at, row_runs, column_runs);
     }
 }

@@ -105,7 +105,7 @@ impl SettledSheet<'_> {
         let mut i = 0;
         while i < areas.count {
             let range = area_at(areas, i);
-            let counted = self.count_area(range);
+            let counted = self.ready(range).count().counted;
             all = add_area(all, i, counted);
             i += 1;
         }
@@ -135,7 +135,8 @@ impl SettledSheet<'_> {
         while i < areas.count {
             let range = area_at(areas, i);
             let area = plan_at(plans, i);
-            self.write_runs(range, area, row_at, column_at, row_runs, column_runs);
+            self.ready(range)
+                .write(area, row_at, column_at, row_runs, column_runs);
             row_at += area.row_runs * RUN_NUMBERS;
             column_at += area.column_runs * RUN_NUMBERS;
             i += 1;

@@ -14,6 +14,7 @@ mod plan;
 mod runs;
 mod scale;
 mod settled;
+mod sheet_area;
 mod slots;
 mod title;
 

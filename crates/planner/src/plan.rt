@@ -6,13 +6,15 @@ ghost use Rattle.planner_rules.specs.Lent.{room_in};
 ghost use Rattle.planner_rules.specs.Areas.{areas_in};
 ghost use Rattle.planner_rules.specs.Demand.{CoversPairs, FewestPlan, LargestPlan};
 ghost use Rattle.planner_rules.specs.Asked.{sheet_asked, sheet_by};
+ghost use Rattle.planner_rules.specs.Partition.{no_of};
 ghost use Rattle.planner_rules.specs.Plan as call;
 ghost use Rattle.planner_rules.specs.Steps as step;
 
-use crate::area::frames_at;
+use crate::area::FramedCount;
 use crate::areas::{add_area, no_areas};
 use crate::memory::in_memory;
 use crate::settled::SettledSheet;
+use crate::sheet_area::SheetArea;
 use crate::title::ready_title;
 use planner_areas::area_at;
 use planner_questions::{plan_refusal, room_in, room_refusal};
@@ -92,28 +94,70 @@ fn plan_of(shared: &Shared, counted: CountedAreas) -> Plan
     }
 }
 
-impl SettledSheet<'_> {
+impl SheetArea<'_> {
     // Counts an area that stands alone and, where its runs have room and its pages are within the limit, writes it.
     #[inline(always)]
-    fn plan_one(
-        &self,
-        range: PrintRange,
-        row_runs: &mut [u64],
-        column_runs: &mut [u64],
-    ) -> Result<Plan, Refusal>
-        requires fine_area { step.FineArea range }
-        ensures { let shared = self.now.shared.now in
-            let sheet = sheet_by shared self.now.lists.now in
-            let layout = call.layout (step.sides_in shared) sheet (range ∷ []) in
+    fn plan(&self, row_runs: &mut [u64], column_runs: &mut [u64]) -> Result<Plan, Refusal>
+        ensures { let shared = self.now.sheet.shared.now in
+            let sheet = sheet_by shared self.now.sheet.lists.now in
+            let layout = call.layout (step.sides_in shared) sheet (self.now.ready.range ∷ []) in
             call.Planned (call.room_for sheet layout (room_in row_runs.old) (room_in column_runs.old)) (outcome result)
             row_runs.old column_runs.old row_runs.new column_runs.new }
     {
-        let ready = self.ready(range);
-        let scale = self.choose_scale(ready);
-        let frames = frames_at(ready, scale.permille);
-        let one = self.count_at(ready, frames, scale);
-        let none = no_areas();
-        let counted = add_area(none, 0, one);
+        let one = self.count();
+        let counted = add_area(no_areas(), 0, one.counted);
+        self.sheet.ask_room(&counted, row_runs, column_runs)?;
+        self.write_by(one.frames, one.counted.area, 0, 0, row_runs, column_runs);
+        Ok(plan_of(self.sheet.shared, counted))
+    }
+
+    // Counts an area at a permille and, where its runs have room, writes them.
+    fn write_at(
+        &self,
+        permille: u16,
+        row_runs: &mut [u64],
+        column_runs: &mut [u64],
+    ) -> Result<RunCounts, Refusal>
+        ensures { let shared = self.now.sheet.shared.now in
+            let sheet = sheet_by shared self.now.sheet.lists.now in
+            let range = self.now.ready.range in
+            let area = call.area_at (step.sides_in shared) (call.rows_in sheet range) (call.columns_in sheet range) (call.scale_at permille) in
+            call.AreaWrote (call.area_room area (room_in row_runs.old) (room_in column_runs.old)) (outcome result)
+            row_runs.old column_runs.old row_runs.new column_runs.new }
+    {
+        let scale = ChosenScale {
+            permille,
+            clamp: 0,
+            unreachable: 0,
+        };
+        let FramedCount { counted, frames } = self.count_at(scale);
+        let area = counted.area;
+        let rows = area.row_runs;
+        let columns = area.column_runs;
+        if rows > room_in(row_runs.len()) {
+            return Err(Refusal::ListTooShort);
+        }
+        if columns > room_in(column_runs.len()) {
+            return Err(Refusal::ListTooShort);
+        }
+        self.write_by(frames, area, 0, 0, row_runs, column_runs);
+        Ok(RunCounts { rows, columns })
+    }
+}
+
+impl SettledSheet<'_> {
+    // 11 and 12 of counted areas and two lent lists.
+    #[inline(always)]
+    fn ask_room(
+        &self,
+        counted: &CountedAreas,
+        row_runs: &[u64],
+        column_runs: &[u64],
+    ) -> Result<(), Refusal>
+        ensures { let all = counted.now in
+            let limit = self.now.shared.now.settings.page_limit in
+            no_of result ≡ call.room_no all.rows all.columns all.pages (room_in row_runs.now) (room_in column_runs.now) limit }
+    {
         room_refusal(
             counted.rows,
             counted.columns,
@@ -121,12 +165,10 @@ impl SettledSheet<'_> {
             room_in(row_runs.len()),
             room_in(column_runs.len()),
             self.shared.settings.page_limit,
-        )?;
-        self.write_ready(ready, frames, one.area, 0, 0, row_runs, column_runs);
-        Ok(plan_of(self.shared, counted))
+        )
     }
 
-    // The same of several areas, all counted before one is written.
+    // Counts several areas and, where their runs have room and their pages are within the limit, writes them: all are counted before one is written.
     #[inline(never)]
     fn plan_several(
         &self,
@@ -142,14 +184,7 @@ impl SettledSheet<'_> {
             row_runs.old column_runs.old row_runs.new column_runs.new }
     {
         let counted = self.count_areas(areas);
-        room_refusal(
-            counted.rows,
-            counted.columns,
-            counted.pages,
-            room_in(row_runs.len()),
-            room_in(column_runs.len()),
-            self.shared.settings.page_limit,
-        )?;
+        self.ask_room(&counted, row_runs, column_runs)?;
         self.write_areas(areas, counted.areas, row_runs, column_runs);
         Ok(plan_of(self.shared, counted))
     }
@@ -170,7 +205,7 @@ impl SettledSheet<'_> {
             row_runs.old column_runs.old row_runs.new column_runs.new }
     {
         if areas.count == 1 {
-            return self.plan_one(areas.first, row_runs, column_runs);
+            return self.ready(areas.first).plan(row_runs, column_runs);
         }
         self.plan_several(areas, row_runs, column_runs)
     }
@@ -187,42 +222,6 @@ impl SettledSheet<'_> {
             return Err(Refusal::TooManyPages);
         }
         Ok(plan_of(self.shared, counted))
-    }
-
-    // Counts an area at a permille and, where its runs have room, writes them.
-    fn write_range(
-        &self,
-        range: PrintRange,
-        permille: u16,
-        row_runs: &mut [u64],
-        column_runs: &mut [u64],
-    ) -> Result<RunCounts, Refusal>
-        requires fine_area { step.FineArea range }
-        ensures { let shared = self.now.shared.now in
-            let sheet = sheet_by shared self.now.lists.now in
-            let area = call.area_at (step.sides_in shared) (call.rows_in sheet range) (call.columns_in sheet range) (call.scale_at permille) in
-            call.AreaWrote (call.area_room area (room_in row_runs.old) (room_in column_runs.old)) (outcome result)
-            row_runs.old column_runs.old row_runs.new column_runs.new }
-    {
-        let ready = self.ready(range);
-        let scale = ChosenScale {
-            permille,
-            clamp: 0,
-            unreachable: 0,
-        };
-        let frames = frames_at(ready, permille);
-        let counted = self.count_at(ready, frames, scale);
-        let area = counted.area;
-        let rows = area.row_runs;
-        let columns = area.column_runs;
-        if rows > room_in(row_runs.len()) {
-            return Err(Refusal::ListTooShort);
-        }
-        if columns > room_in(column_runs.len()) {
-            return Err(Refusal::ListTooShort);
-        }
-        self.write_ready(ready, frames, area, 0, 0, row_runs, column_runs);
-        Ok(RunCounts { rows, columns })
     }
 
     // 10 of the permille, 14 of the area's number, and the area's runs.
@@ -250,7 +249,7 @@ impl SettledSheet<'_> {
             return Err(Refusal::NoSuchNumber);
         }
         let range = area_at(areas, (number - 1) as usize);
-        self.write_range(range, permille, row_runs, column_runs)
+        self.ready(range).write_at(permille, row_runs, column_runs)
     }
 }
 

@@ -125,6 +125,7 @@ fn put_run(list: &mut [u64], at: usize, first: u32, last: u32, size: u64, mark: 
 }
 
 // Writes the run of an axis without slots to the front of a lent list: at the range's first, size 0.
+// That the list has room is said of the runs that a call writes: a struct that kept it would hold the list with all that cuts them, for one call.
 pub(crate) fn write_empty(first: u32, list: &mut [u64])
     requires { Room (or_empty first []) list.old }
     ensures { list.new ≡ written (flat (or_empty first [])) list.old }

@@ -3,14 +3,13 @@ ghost use Rattle.std.specs.Prelude.{◌≡◌, false, cond, ◌&&◌, ◌+◌, �
 ghost use Rattle.planner_rules.specs.Slots.{Slots};
 ghost use Rattle.planner_rules.specs.Runs.{runs};
 ghost use Rattle.planner_rules.specs.Scale.{capacity_of, fits_side, all_fit, meets, halve, fit_scale, space_of, scale_of, titled, Low, fit_passes, Fitted};
-ghost use Rattle.planner_rules.specs.Plan.{ready_frame};
 ghost use Rattle.planner_rules.specs.Scale as section;
 
 use crate::fitted::FittedAxis;
 use crate::page::ScaledPage;
 use crate::runs::Cutter;
 use crate::slots::Measured;
-use planner_rules::{ChosenScale, Fit, Frame, Title};
+use planner_rules::{ChosenScale, Title};
 use planner_setup::{meets_target, middle_of};
 use units::Fixed;
 
@@ -26,7 +25,7 @@ fn length_of(n: u64) -> Fixed
 }
 
 // The capacity at a permille beside so many units of titles.
-fn capacity_at(page: ScaledPage, titles: u64) -> u64
+pub(crate) fn capacity_at(page: ScaledPage, titles: u64) -> u64
     requires { titles ≤ 2 ^ 50 }
     ensures { result ≡ capacity_of (space_of page.side) page.permille titles }
 {
@@ -95,30 +94,6 @@ pub(crate) fn excess(fits: bool) -> u64
     if fits { 0 } else { 1 }
 }
 
-// What the runs of an axis go by at a permille.
-pub(crate) fn frame_at(fit: Fit, permille: u16) -> Frame
-    requires { Low fit.page }
-    ensures { result ≡ ready_frame fit permille }
-{
-    let side = fit.page;
-    let page = ScaledPage { side, permille };
-    let stretch = fit.stretch;
-    let title = stretch.title;
-    let untitled = capacity_at(page, 0);
-    let titled = if side.titles == 0 {
-        untitled
-    } else {
-        capacity_at(page, side.titles)
-    };
-    Frame {
-        untitled,
-        titled,
-        title,
-        lo: stretch.lo,
-        hi: stretch.hi,
-    }
-}
-
 // Whether the runs of slots fit the page and meet the target: no more are cut once the answer is known.
 fn runs_pass(page: ScaledPage, cutter: Cutter, target: u16, slots: Measured) -> bool
     ensures { let k = cutter.entry.frame in
@@ -159,7 +134,7 @@ fn fit_passes(axis: FittedAxis, permille: u16) -> bool
         return empty_fits(page);
     }
     let cutter = Cutter {
-        frame: frame_at(fit, permille),
+        frame: axis.frame_at(permille),
         merges: axis.merges,
     };
     runs_pass(page, cutter, fit.target, axis.slots)
@@ -167,8 +142,10 @@ fn fit_passes(axis: FittedAxis, permille: u16) -> bool
 
 // Whether both axes pass at a permille: rows, then columns.
 fn both_pass(rows: FittedAxis, columns: FittedAxis, permille: u16) -> bool
-    ensures { result ≡ fit_passes rows.entry.fit rows.entry.merges.firsts.now rows.entry.merges.lasts.now rows.entry.slots.indexes.now rows.entry.slots.sizes.now permille
-        && fit_passes columns.entry.fit columns.entry.merges.firsts.now columns.entry.merges.lasts.now columns.entry.slots.indexes.now columns.entry.slots.sizes.now permille }
+    ensures { let r = rows.entry in
+        let c = columns.entry in
+        result ≡ fit_passes r.fit r.merges.firsts.now r.merges.lasts.now r.slots.indexes.now r.slots.sizes.now permille
+        && fit_passes c.fit c.merges.firsts.now c.merges.lasts.now c.slots.indexes.now c.slots.sizes.now permille }
 {
     if !fit_passes(rows, permille) {
         return false;
@@ -178,8 +155,10 @@ fn both_pass(rows: FittedAxis, columns: FittedAxis, permille: u16) -> bool
 
 // The halving from 100 to 1,000.
 fn halved_permille(rows: FittedAxis, columns: FittedAxis) -> u16
-    ensures { result ≡ halve (λ p. fit_passes rows.entry.fit rows.entry.merges.firsts.now rows.entry.merges.lasts.now rows.entry.slots.indexes.now rows.entry.slots.sizes.now p
-        && fit_passes columns.entry.fit columns.entry.merges.firsts.now columns.entry.merges.lasts.now columns.entry.slots.indexes.now columns.entry.slots.sizes.now p) 10 100 1000 }
+    ensures { let r = rows.entry in
+        let c = columns.entry in
+        result ≡ halve (λ p. fit_passes r.fit r.merges.firsts.now r.merges.lasts.now r.slots.indexes.now r.slots.sizes.now p
+        && fit_passes c.fit c.merges.firsts.now c.merges.lasts.now c.slots.indexes.now c.slots.sizes.now p) 10 100 1000 }
 {
     // Over numbers, of which there is no list: the library's search by halving goes over the elements of one.
     let mut low: u16 = 100;
@@ -197,8 +176,10 @@ fn halved_permille(rows: FittedAxis, columns: FittedAxis) -> u16
 
 // The scale at which both axes fit: 100 with a note where they do not fit there, and else by halving.
 pub(crate) fn fit_scale(rows: FittedAxis, columns: FittedAxis) -> ChosenScale
-    ensures { scale_of result ≡ fit_scale (λ p. fit_passes rows.entry.fit rows.entry.merges.firsts.now rows.entry.merges.lasts.now rows.entry.slots.indexes.now rows.entry.slots.sizes.now p
-        && fit_passes columns.entry.fit columns.entry.merges.firsts.now columns.entry.merges.lasts.now columns.entry.slots.indexes.now columns.entry.slots.sizes.now p) }
+    ensures { let r = rows.entry in
+        let c = columns.entry in
+        scale_of result ≡ fit_scale (λ p. fit_passes r.fit r.merges.firsts.now r.merges.lasts.now r.slots.indexes.now r.slots.sizes.now p
+        && fit_passes c.fit c.merges.firsts.now c.merges.lasts.now c.slots.indexes.now c.slots.sizes.now p) }
 {
     if !both_pass(rows, columns, 100) {
         return ChosenScale {

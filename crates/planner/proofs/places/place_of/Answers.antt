@@ -11,7 +11,8 @@ use Rattle.planner.proofs.places.place_of.Goals as goal
 
 no_lower : (is : List ℕ) → Rising is → IsNonDecreasingBy (λ i. i) is
 no_lower is r =
-    IsNonDecreasingBy-from_default (λ i. i) is 0 (λ i j h l. split j i (λ g. let e : i ≡ j = omega arith in rw e (omega arith)) (λ g. omega (arith, r i j (omega arith) l)))
+    IsNonDecreasingBy-from_default (λ i. i) is 0 (λ i j h l.
+    split j i (λ g. let e : i ≡ j = omega arith in rw e (omega arith)) (λ g. omega (arith, r i j (omega arith) l)))
 
 point_is : (limit : ℕ) (is : List ℕ) (n : ℕ) → Rising is → n ≤ length is
     → IsPartitionPoint (λ i. ltb i limit ≡ true) (λ i. ltb i limit ≡ false) is n → n ≡ below limit is

@@ -52,16 +52,21 @@ pub returns : goal.returns
 returns c =
     let a = c.args in
     let sheet = sheet_asked a.request.now a.lists.now in
+    let row_lists = a.lists.now.rows in
+    let column_lists = a.lists.now.columns in
     let sides : content_sides a.request.now.settings ≡ given (sides_of c.in_ok-sides.sides) = sym c.in_ok-sides.ensures in
     let rows =
-    subst (λ (n : ℕ). TitleReady c.ready_title-row_title.result n a.lists.now.rows.slots.indexes.now a.lists.now.rows.slots.sizes.now a.lists.now.rows.merges.firsts.now a.lists.now.rows.merges.lasts.now)
+    subst
+    (λ (n : ℕ).
+    TitleReady c.ready_title-row_title.result n row_lists.slots.indexes.now row_lists.slots.sizes.now row_lists.merges.firsts.now row_lists.merges.lasts.now)
     c.limit.ensures (rw c.in_memory.ensures.same at c.ready_title-row_title.ensures.title_ready) in
     let columns =
     subst
     (λ (n : ℕ).
-    TitleReady c.ready_title-column_title.result n a.lists.now.columns.slots.indexes.now a.lists.now.columns.slots.sizes.now a.lists.now.columns.merges.firsts.now a.lists.now.columns.merges.lasts.now)
+    TitleReady c.ready_title-column_title.result n column_lists.slots.indexes.now column_lists.slots.sizes.now column_lists.merges.firsts.now
+    column_lists.merges.lasts.now)
     c.limit-2.ensures (rw c.in_memory-2.ensures.same at c.ready_title-column_title.ensures.title_ready) in
-    let few : length a.lists.now.rows.merges.firsts.now + length a.lists.now.columns.merges.firsts.now < 2 ^ 64 =
+    let few : length row_lists.merges.firsts.now + length column_lists.merges.firsts.now < 2 ^ 64 =
     omega (arith, c.in_memory.ensures.few, c.in_memory-2.ensures.few) in
     shared_by sheet a.request.now.areas
     (all_yes sheet a.request.now.areas _ c.in_ok-plan_refusal.ensures (omega arith)) _

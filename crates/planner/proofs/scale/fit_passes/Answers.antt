@@ -14,7 +14,8 @@ returns-then-axis-eq0 c =
     let a = c.args in
     let body = body_for a.axis.fit.stretch a.axis.merges.firsts.now a.axis.merges.lasts.now a.axis.slots.indexes.now a.axis.slots.sizes.now in
     c.empty_fits.ensures ∙ no_runs (space_of a.axis.fit.page) body a.axis.fit.target a.permille
-    (none (run (ready_frame a.axis.fit a.permille) a.axis.merges.firsts.now a.axis.merges.lasts.now) a.axis.slots.indexes.now a.axis.slots.sizes.now (omega (arith, c.if-axis-eq0.true)))
+    (none (run (ready_frame a.axis.fit a.permille) a.axis.merges.firsts.now a.axis.merges.lasts.now) a.axis.slots.indexes.now a.axis.slots.sizes.now
+    (omega (arith, c.if-axis-eq0.true)))
 
 pub returns : goal.returns
 unfolding runs_at runs
@@ -26,5 +27,6 @@ returns c =
     all_fit (space_of a.axis.fit.page) (titled f.title) a.permille rs && meets a.axis.fit.target (length rs) in
     c.runs_pass.ensures ∙ ap passes c.frame_at.ensures
     ∙ some_runs (space_of a.axis.fit.page) body a.axis.fit.target a.permille
-    (some (run (ready_frame a.axis.fit a.permille) a.axis.merges.firsts.now a.axis.merges.lasts.now) a.axis.slots.indexes.now a.axis.slots.sizes.now (omega (arith, c.if-axis-eq0.false))
+    (some (run (ready_frame a.axis.fit a.permille) a.axis.merges.firsts.now a.axis.merges.lasts.now) a.axis.slots.indexes.now a.axis.slots.sizes.now
+    (omega (arith, c.if-axis-eq0.false))
     a.axis.slots.are.even)

@@ -34,9 +34,12 @@ pub returns-then-not-meets_target : goal.returns-then-not-meets_target
 unfolding runs
 returns-then-not-meets_target c =
     let a = c.args in
+    let k = a.cutter.frame in
+    let fs = a.cutter.merges.firsts.now in
+    let ls = a.cutter.merges.lasts.now in
     let l = c.loop-rest in
-    too_many (space_of a.page.side) (titled a.cutter.frame.title) a.target a.page.permille l.count (runs a.cutter.frame a.cutter.merges.firsts.now a.cutter.merges.lasts.now l.rest.indexes.now l.rest.sizes.now)
-    (some (run a.cutter.frame a.cutter.merges.firsts.now a.cutter.merges.lasts.now) l.rest.indexes.now l.rest.sizes.now c.loop-rest-test.true l.rest.are.even)
+    too_many (space_of a.page.side) (titled k.title) a.target a.page.permille l.count (runs k fs ls l.rest.indexes.now l.rest.sizes.now)
+    (some (run k fs ls) l.rest.indexes.now l.rest.sizes.now c.loop-rest-test.true l.rest.are.even)
     (sym c.if-not-meets_target.ensures) ∙ l.invariant.left
 
 pub run_fits-requires : goal.run_fits-requires
@@ -52,28 +55,34 @@ run_fits-requires c =
 pub returns-then-not-run_fits : goal.returns-then-not-run_fits
 returns-then-not-run_fits c =
     let a = c.args in
+    let k = a.cutter.frame in
+    let fs = a.cutter.merges.firsts.now in
+    let ls = a.cutter.merges.lasts.now in
     let l = c.loop-rest in
     let r = c.run_end-end in
-    let out = out a.cutter.frame a.cutter.merges.firsts.now a.cutter.merges.lasts.now l.rest.indexes.now l.rest.sizes.now l.rest.are c.loop-rest-test.true r.result.slots r.result.grown
-    r.ensures.grown_value.0 r.ensures.le_slots.0 (space_of a.page.side) a.cutter.frame.title a.target a.page.permille l.count r.result.size r.ensures.grown_value.1
+    let out = out k fs ls l.rest.indexes.now l.rest.sizes.now l.rest.are c.loop-rest-test.true r.result.slots r.result.grown
+    r.ensures.grown_value.0 r.ensures.le_slots.0 (space_of a.page.side) k.title a.target a.page.permille l.count r.result.size r.ensures.grown_value.1
     c.if-not-run_fits.ensures in
     out ∙ l.invariant.left
 
 pub loop-rest-preserved : goal.loop-rest-preserved
 loop-rest-preserved c =
     let a = c.args in
+    let k = a.cutter.frame in
+    let fs = a.cutter.merges.firsts.now in
+    let ls = a.cutter.merges.lasts.now in
     let l = c.loop-rest in
     let r = c.run_end-end in
     let n = r.result.slots in
-    let next = within a.cutter.frame a.cutter.merges.firsts.now a.cutter.merges.lasts.now l.rest.indexes.now l.rest.sizes.now l.rest.are c.loop-rest-test.true n r.result.grown
-    r.ensures.grown_value.0 r.ensures.le_slots.0 (space_of a.page.side) a.cutter.frame.title a.target a.page.permille l.count r.result.size r.ensures.grown_value.1
+    let next = within k fs ls l.rest.indexes.now l.rest.sizes.now l.rest.are c.loop-rest-test.true n r.result.grown
+    r.ensures.grown_value.0 r.ensures.le_slots.0 (space_of a.page.side) k.title a.target a.page.permille l.count r.result.size r.ensures.grown_value.1
     c.if-not-run_fits.ensures in
     let rest = c.after-rest.ensures in
-    let rest_is : runs a.cutter.frame a.cutter.merges.firsts.now a.cutter.merges.lasts.now c.after-rest.result.indexes.now c.after-rest.result.sizes.now
-    ≡ runs a.cutter.frame a.cutter.merges.firsts.now a.cutter.merges.lasts.now (part n l.rest.indexes.now) (part n l.rest.sizes.now) =
-    λ i. runs a.cutter.frame a.cutter.merges.firsts.now a.cutter.merges.lasts.now (rest.indexes_are i) (rest.sizes_are i) in
+    let rest_is : runs k fs ls c.after-rest.result.indexes.now c.after-rest.result.sizes.now
+    ≡ runs k fs ls (part n l.rest.indexes.now) (part n l.rest.sizes.now) =
+    λ i. runs k fs ls (rest.indexes_are i) (rest.sizes_are i) in
     record {
-      left = ap (pass_from (space_of a.page.side) (titled a.cutter.frame.title) a.target a.page.permille (l.count + 1)) rest_is ∙ next ∙ l.invariant.left;
+      left = ap (pass_from (space_of a.page.side) (titled k.title) a.target a.page.permille (l.count + 1)) rest_is ∙ next ∙ l.invariant.left;
       met = sym c.if-not-meets_target.ensures;
       few = omega (arith, ap length rest.sizes_are, length_part n l.rest.sizes.now, r.ensures.le_slots, l.invariant.few);
     }
@@ -82,9 +91,12 @@ pub returns : goal.returns
 unfolding runs
 returns c =
     let a = c.args in
+    let k = a.cutter.frame in
+    let fs = a.cutter.merges.firsts.now in
+    let ls = a.cutter.merges.lasts.now in
     let l = c.loop-rest in
     let s = space_of a.page.side in
-    all_in s (titled a.cutter.frame.title) a.target a.page.permille l.count l.invariant.met
-    ∙ ap (pass_from s (titled a.cutter.frame.title) a.target a.page.permille l.count)
-    (sym (none (run a.cutter.frame a.cutter.merges.firsts.now a.cutter.merges.lasts.now) l.rest.indexes.now l.rest.sizes.now c.loop-rest-test.false))
+    all_in s (titled k.title) a.target a.page.permille l.count l.invariant.met
+    ∙ ap (pass_from s (titled k.title) a.target a.page.permille l.count)
+    (sym (none (run k fs ls) l.rest.indexes.now l.rest.sizes.now c.loop-rest-test.false))
     ∙ l.invariant.left

@@ -7,10 +7,13 @@ use Rattle.planner.proofs.scale.runs_pass.Given as goal
 
 abbrev pub invariant-loop-rest : goal.invariant-loop-rest
 invariant-loop-rest l =
-    let all = runs l.cutter.frame l.cutter.merges.firsts.now l.cutter.merges.lasts.now l.slots.indexes.now l.slots.sizes.now in
+    let k = l.cutter.frame in
+    let cut = runs k l.cutter.merges.firsts.now l.cutter.merges.lasts.now in
+    let all = cut l.slots.indexes.now l.slots.sizes.now in
+    let space = space_of l.page.side in
     record {
-      left : pass_from (space_of l.page.side) (titled l.cutter.frame.title) l.target l.page.permille l.count (runs l.cutter.frame l.cutter.merges.firsts.now l.cutter.merges.lasts.now l.rest.indexes.now l.rest.sizes.now)
-          ≡ all_fit (space_of l.page.side) (titled l.cutter.frame.title) l.page.permille all && meets l.target (length all);
+      left : pass_from space (titled k.title) l.target l.page.permille l.count (cut l.rest.indexes.now l.rest.sizes.now)
+          ≡ all_fit space (titled k.title) l.page.permille all && meets l.target (length all);
       met : meets l.target l.count ≡ true;
       few : l.count + length l.rest.sizes.now ≤ length l.slots.sizes.now;
     }

@@ -30,19 +30,24 @@ between page permille k fs ls is ss b e n g o h = (
 pub loop-b-preserved : goal.loop-b-preserved
 loop-b-preserved c =
     let a = c.args in
+    let k = a.self.frame in
+    let fs = a.self.merges.firsts.now in
+    let ls = a.self.merges.lasts.now in
+    let is = a.slots.indexes.now in
+    let ss = a.slots.sizes.now in
     let l = c.loop-b in
     let t = c.count_runs-t in
     let cut = c.next_cut-cut in
     let p = cut.result.place in
     let bs = a.breaks.now in
     let inside = cut.ensures.prev_le_place in
-    let counts = between a.page.side a.page.permille a.self.frame a.self.merges.firsts.now a.self.merges.lasts.now a.slots.indexes.now a.slots.sizes.now l.prev p _ _ _
+    let counts = between a.page.side a.page.permille k fs ls is ss l.prev p _ _ _
     (rw (c.part.ensures.indexes_are, c.part.ensures.sizes_are) at t.ensures.counts) in
-    let here = stretch a.self.frame a.self.merges.firsts.now a.self.merges.lasts.now a.slots.indexes.now a.slots.sizes.now l.prev p in
-    let there = axis_runs a.self.frame a.self.merges.firsts.now a.self.merges.lasts.now a.slots.indexes.now a.slots.sizes.now p (drop (l.b-index + 1) bs) in
-    let len = length-mid l.prev p a.slots.sizes.now (omega (arith, inside.1, c.args.slots.are.even)) in
-    let more = axis_more a.self.frame a.self.merges.firsts.now a.self.merges.lasts.now a.slots.indexes.now a.slots.sizes.now l.prev l.b-index bs cut.result (omega arith) cut.ensures.value in
-    let shifted = shifts_more a.self.frame a.self.merges.firsts.now a.self.merges.lasts.now a.slots.indexes.now a.slots.sizes.now l.prev l.b-index bs cut.result (omega arith) cut.ensures.value in (
+    let here = stretch k fs ls is ss l.prev p in
+    let there = axis_runs k fs ls is ss p (drop (l.b-index + 1) bs) in
+    let len = length-mid l.prev p ss (omega (arith, inside.1, c.args.slots.are.even)) in
+    let more = axis_more k fs ls is ss l.prev l.b-index bs cut.result (omega arith) cut.ensures.value in
+    let shifted = shifts_more k fs ls is ss l.prev l.b-index bs cut.result (omega arith) cut.ensures.value in (
       omega (arith, inside.1, c.args.slots.are.even),
       omega (arith, t.ensures.bounds.0, ap length c.part.ensures.sizes_are, len, inside.0, l.invariant.1),
       omega (arith, t.ensures.bounds.1, ap length c.part.ensures.sizes_are, len, inside.0, l.invariant.2),
@@ -52,8 +57,8 @@ loop-b-preserved c =
       omega (arith, ap expansions more, expansions-append here there, counts.1, l.invariant.6),
       omega (
         arith,
-        ap (exceeding a.page.side a.page.permille a.self.frame) more,
-        overflowing_append (space_of a.page.side) a.self.frame.title a.page.permille false here there,
+        ap (exceeding a.page.side a.page.permille k) more,
+        overflowing_append (space_of a.page.side) k.title a.page.permille false here there,
         counts.2,
         l.invariant.7,
       ),
@@ -64,17 +69,22 @@ pub returns-clause-counts : goal.returns-clause-counts
 unfolding axis_tally
 returns-clause-counts c =
     let a = c.args in
+    let k = a.self.frame in
+    let fs = a.self.merges.firsts.now in
+    let ls = a.self.merges.lasts.now in
+    let is = a.slots.indexes.now in
+    let ss = a.slots.sizes.now in
     let l = c.loop-b in
     let t = c.count_runs-t-2 in
     let bs = a.breaks.now in
-    let counts = between a.page.side a.page.permille a.self.frame a.self.merges.firsts.now a.self.merges.lasts.now a.slots.indexes.now a.slots.sizes.now l.prev (length a.slots.sizes.now) _ _ _
+    let counts = between a.page.side a.page.permille k fs ls is ss l.prev (length ss) _ _ _
     (rw (c.part-2.ensures.indexes_are, c.part-2.ensures.sizes_are) at t.ensures.counts) in
-    let all = axis_runs a.self.frame a.self.merges.firsts.now a.self.merges.lasts.now a.slots.indexes.now a.slots.sizes.now 0 bs in
-    let last = axis_end a.self.frame a.self.merges.firsts.now a.self.merges.lasts.now a.slots.indexes.now a.slots.sizes.now l.prev l.b-index bs (omega arith) in
-    let still = shifts_end a.self.frame a.self.merges.firsts.now a.self.merges.lasts.now a.slots.indexes.now a.slots.sizes.now l.prev l.b-index bs (omega arith) in
+    let all = axis_runs k fs ls is ss 0 bs in
+    let last = axis_end k fs ls is ss l.prev l.b-index bs (omega arith) in
+    let still = shifts_end k fs ls is ss l.prev l.b-index bs (omega arith) in
     let n : l.count + t.result.runs ≡ length all = omega (arith, ap length last, counts.0, l.invariant.5) in
     let g : l.grown + t.result.grown ≡ expansions all = omega (arith, ap expansions last, counts.1, l.invariant.6) in
-    let o : l.overflows + t.result.overflows ≡ exceeding a.page.side a.page.permille a.self.frame all =
-    omega (arith, ap (exceeding a.page.side a.page.permille a.self.frame) last, counts.2, l.invariant.7) in
-    let m : l.shifts ≡ shifts a.self.frame a.self.merges.firsts.now a.self.merges.lasts.now a.slots.indexes.now 0 bs = omega (arith, still, l.invariant.8) in
+    let o : l.overflows + t.result.overflows ≡ exceeding a.page.side a.page.permille k all =
+    omega (arith, ap (exceeding a.page.side a.page.permille k) last, counts.2, l.invariant.7) in
+    let m : l.shifts ≡ shifts k fs ls is 0 bs = omega (arith, still, l.invariant.8) in
     ((λ i. tallies (n i) (g i) (m i)), o)

@@ -7,12 +7,15 @@ use Rattle.planner.proofs.runs.Cutter.count_axis.Given as goal
 
 abbrev pub invariant-loop-b : goal.invariant-loop-b
 invariant-loop-b l =
+    let k = l.self.frame in
+    let fs = l.self.merges.firsts.now in
+    let ls = l.self.merges.lasts.now in
+    let is = l.slots.indexes.now in
+    let all = axis_runs k fs ls is l.slots.sizes.now 0 l.breaks in
+    let left = axis_runs k fs ls is l.slots.sizes.now l.prev (drop l.b-index l.breaks) in
+    let exceeding = overflowing (space_of l.page.side) k.title l.page.permille false in
     (l.prev ≤ length l.slots.sizes.now) × (l.count ≤ l.prev) × (l.grown ≤ l.prev) × (l.overflows ≤ l.prev) × (l.shifts ≤ l.b-index)
-    × (l.count + length (axis_runs l.self.frame l.self.merges.firsts.now l.self.merges.lasts.now l.slots.indexes.now l.slots.sizes.now l.prev (drop l.b-index l.breaks))
-    ≡ length (axis_runs l.self.frame l.self.merges.firsts.now l.self.merges.lasts.now l.slots.indexes.now l.slots.sizes.now 0 l.breaks))
-    × (l.grown + expansions (axis_runs l.self.frame l.self.merges.firsts.now l.self.merges.lasts.now l.slots.indexes.now l.slots.sizes.now l.prev (drop l.b-index l.breaks))
-    ≡ expansions (axis_runs l.self.frame l.self.merges.firsts.now l.self.merges.lasts.now l.slots.indexes.now l.slots.sizes.now 0 l.breaks))
-    × (l.overflows
-    + overflowing (space_of l.page.side) l.self.frame.title l.page.permille false (axis_runs l.self.frame l.self.merges.firsts.now l.self.merges.lasts.now l.slots.indexes.now l.slots.sizes.now l.prev (drop l.b-index l.breaks))
-    ≡ overflowing (space_of l.page.side) l.self.frame.title l.page.permille false (axis_runs l.self.frame l.self.merges.firsts.now l.self.merges.lasts.now l.slots.indexes.now l.slots.sizes.now 0 l.breaks))
-    × (l.shifts + shifts l.self.frame l.self.merges.firsts.now l.self.merges.lasts.now l.slots.indexes.now l.prev (drop l.b-index l.breaks) ≡ shifts l.self.frame l.self.merges.firsts.now l.self.merges.lasts.now l.slots.indexes.now 0 l.breaks)
+    × (l.count + length left ≡ length all)
+    × (l.grown + expansions left ≡ expansions all)
+    × (l.overflows + exceeding left ≡ exceeding all)
+    × (l.shifts + shifts k fs ls is l.prev (drop l.b-index l.breaks) ≡ shifts k fs ls is 0 l.breaks)

@@ -21,19 +21,22 @@ unfolding runs run expansions overflowing
 loop-rest-preserved c =
     let l = c.loop-rest in
     let a = c.args in
+    let k = a.self.frame in
+    let fs = a.self.merges.firsts.now in
+    let ls = a.self.merges.lasts.now in
     let e = c.run_end-end in
     let n = e.result.slots in
     let is = l.rest.indexes.now in
     let ss = l.rest.sizes.now in
     let page = space_of a.page.side in
-    let exceeding = λ (rs : List Run). overflowing page a.self.frame.title a.page.permille false rs in
+    let exceeding = λ (rs : List Run). overflowing page k.title a.page.permille false rs in
     let rest = c.after-rest.ensures in
-    let left : runs a.self.frame a.self.merges.firsts.now a.self.merges.lasts.now c.after-rest.result.indexes.now c.after-rest.result.sizes.now ≡ runs a.self.frame a.self.merges.firsts.now a.self.merges.lasts.now (part n is) (part n ss) =
-    λ i. runs a.self.frame a.self.merges.firsts.now a.self.merges.lasts.now (rest.indexes_are i) (rest.sizes_are i) in
-    let t = turn (run a.self.frame a.self.merges.firsts.now a.self.merges.lasts.now) n is ss l.rest.are c.loop-rest-test.true (ap (λ (r : RunEnd). r.slots) e.ensures.grown_value.0)
-    e.ensures.le_slots.0 ∙ ap (λ (rs : List Run). run a.self.frame a.self.merges.firsts.now a.self.merges.lasts.now is ss ∷ rs) (sym left) in
+    let left : runs k fs ls c.after-rest.result.indexes.now c.after-rest.result.sizes.now ≡ runs k fs ls (part n is) (part n ss) =
+    λ i. runs k fs ls (rest.indexes_are i) (rest.sizes_are i) in
+    let t = turn (run k fs ls) n is ss l.rest.are c.loop-rest-test.true (ap (λ (r : RunEnd). r.slots) e.ensures.grown_value.0)
+    e.ensures.le_slots.0 ∙ ap (λ (rs : List Run). run k fs ls is ss ∷ rs) (sym left) in
     let size_is = e.ensures.grown_value.1 ∙ ap (λ (r : RunEnd). sum (take r.slots ss)) e.ensures.grown_value.0 in
-    let fitting = λ (m : ℕ). fits_side page a.page.permille (printed page a.self.frame.title false (get_or is 0 0) m) in
+    let fitting = λ (m : ℕ). fits_side page a.page.permille (printed page k.title false (get_or is 0 0) m) in
     let exceeds = c.excess-overflows.ensures.value ∙ ap (λ (b : Bool). cond {A = ℕ} b 0 1) (c.run_fits.ensures ∙ ap fitting size_is) in (
       omega (arith, ap length t, l.invariant.0),
       omega (arith, ap expansions t, ap (λ (r : RunEnd). r.grown) e.ensures.grown_value.0, l.invariant.1),
@@ -48,6 +51,9 @@ unfolding runs expansions overflowing
 returns-clause-counts c =
     let l = c.loop-rest in
     let a = c.args in
-    let exceeding = λ (rs : List Run). overflowing (space_of a.page.side) a.self.frame.title a.page.permille false rs in
-    let z = none (run a.self.frame a.self.merges.firsts.now a.self.merges.lasts.now) l.rest.indexes.now l.rest.sizes.now c.loop-rest-test.false in
+    let k = a.self.frame in
+    let fs = a.self.merges.firsts.now in
+    let ls = a.self.merges.lasts.now in
+    let exceeding = λ (rs : List Run). overflowing (space_of a.page.side) k.title a.page.permille false rs in
+    let z = none (run k fs ls) l.rest.indexes.now l.rest.sizes.now c.loop-rest-test.false in
     (omega (arith, ap length z), omega (arith, ap expansions z), omega (arith, ap exceeding z))

@@ -7,10 +7,14 @@ use Rattle.planner.proofs.runs.Cutter.count_runs.Given as goal
 
 abbrev pub invariant-loop-rest : goal.invariant-loop-rest
 invariant-loop-rest l =
-    (l.runs + length (runs l.self.frame l.self.merges.firsts.now l.self.merges.lasts.now l.rest.indexes.now l.rest.sizes.now) ≡ length (runs l.self.frame l.self.merges.firsts.now l.self.merges.lasts.now l.slots.indexes.now l.slots.sizes.now))
-    × (l.grown + expansions (runs l.self.frame l.self.merges.firsts.now l.self.merges.lasts.now l.rest.indexes.now l.rest.sizes.now) ≡ expansions (runs l.self.frame l.self.merges.firsts.now l.self.merges.lasts.now l.slots.indexes.now l.slots.sizes.now))
-    × (l.overflows + overflowing (space_of l.page.side) l.self.frame.title l.page.permille false (runs l.self.frame l.self.merges.firsts.now l.self.merges.lasts.now l.rest.indexes.now l.rest.sizes.now)
-    ≡ overflowing (space_of l.page.side) l.self.frame.title l.page.permille false (runs l.self.frame l.self.merges.firsts.now l.self.merges.lasts.now l.slots.indexes.now l.slots.sizes.now))
+    let k = l.self.frame in
+    let cut = runs k l.self.merges.firsts.now l.self.merges.lasts.now in
+    let all = cut l.slots.indexes.now l.slots.sizes.now in
+    let left = cut l.rest.indexes.now l.rest.sizes.now in
+    let exceeding = overflowing (space_of l.page.side) k.title l.page.permille false in
+    (l.runs + length left ≡ length all)
+    × (l.grown + expansions left ≡ expansions all)
+    × (l.overflows + exceeding left ≡ exceeding all)
     × (l.runs + length l.rest.sizes.now ≤ length l.slots.sizes.now) × (l.grown ≤ l.runs) × (l.overflows ≤ l.runs)
 
 abbrev pub decreases-loop-rest : goal.decreases-loop-rest

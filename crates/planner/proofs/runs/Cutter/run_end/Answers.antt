@@ -17,21 +17,19 @@ taken_slots-n-requires c =
 
 pub size_of-requires : goal.size_of-requires
 size_of-requires c =
-    let a = c.args in
-    let w = within a.self.frame a.self.merges.firsts.now a.self.merges.lasts.now _ a.slots.indexes.now _ c.merged_end-end.ensures (omega arith) (omega arith) in
+    let t = c.args.self in
+    let w = within t.frame t.merges.firsts.now t.merges.lasts.now _ c.args.slots.indexes.now _ c.merged_end-end.ensures (omega arith) (omega arith) in
     (omega (arith, w.1, c.args.slots.are.even), c.natural_fill-filling.ensures.sum_value)
 
 pub returns-clause-grown_value : goal.returns-clause-grown_value
 unfolding run_end
 returns-clause-grown_value c =
-    let a = c.args in (
-      c.merged_end-end.ensures
-          ∙ ap (λ (n : ℕ). merged a.self.frame.lo a.self.frame.hi a.self.merges.firsts.now a.self.merges.lasts.now n a.slots.indexes.now) c.taken_slots-n.ensures.value,
-      c.size_of.ensures,
-    )
+    let t = c.args.self in
+    let cut = λ (n : ℕ). merged t.frame.lo t.frame.hi t.merges.firsts.now t.merges.lasts.now n c.args.slots.indexes.now in
+    (c.merged_end-end.ensures ∙ ap cut c.taken_slots-n.ensures.value, c.size_of.ensures)
 
 pub returns-clause-le_slots : goal.returns-clause-le_slots
 returns-clause-le_slots c =
-    let a = c.args in
-    let w = within a.self.frame a.self.merges.firsts.now a.self.merges.lasts.now _ a.slots.indexes.now _ c.merged_end-end.ensures (omega arith) (omega arith) in
+    let t = c.args.self in
+    let w = within t.frame t.merges.firsts.now t.merges.lasts.now _ c.args.slots.indexes.now _ c.merged_end-end.ensures (omega arith) (omega arith) in
     (w.0, omega (arith, w.1, c.args.slots.are.even), w.2)

@@ -22,7 +22,10 @@ pub write_stretch-at-requires-clause-room_at : goal.write_stretch-at-requires-cl
 write_stretch-at-requires-clause-room_at c =
     let l = c.loop-b in
     let a = c.args in
-    let w = turning a.self.frame a.self.merges.firsts.now a.self.merges.lasts.now a.slots.indexes.now a.slots.sizes.now l.prev l.b-index a.breaks.now _ _ _ _ l.invariant.1
+    let k = a.self.frame in
+    let fs = a.self.merges.firsts.now in
+    let ls = a.self.merges.lasts.now in
+    let w = turning k fs ls a.slots.indexes.now a.slots.sizes.now l.prev l.b-index a.breaks.now _ _ _ _ l.invariant.1
     c.next_cut-next.result (omega arith) c.next_cut-next.ensures.value in
     writing_room _ _ l.at _ _ _ c.requires.room w
 
@@ -30,7 +33,10 @@ pub loop-b-preserved : goal.loop-b-preserved
 loop-b-preserved c =
     let l = c.loop-b in
     let a = c.args in
-    let w = turning a.self.frame a.self.merges.firsts.now a.self.merges.lasts.now a.slots.indexes.now a.slots.sizes.now l.prev l.b-index a.breaks.now _ _ _ _ l.invariant.1
+    let k = a.self.frame in
+    let fs = a.self.merges.firsts.now in
+    let ls = a.self.merges.lasts.now in
+    let w = turning k fs ls a.slots.indexes.now a.slots.sizes.now l.prev l.b-index a.breaks.now _ _ _ _ l.invariant.1
     c.next_cut-next.result (omega arith) c.next_cut-next.ensures.value in (
       omega (arith, c.next_cut-next.ensures.prev_le_place.1, c.args.slots.are.even),
       writing_more _ _ l.at _ _ l.list c.write_stretch-at.result _ (writing_room _ _ l.at _ _ _ c.requires.room w) c.write_stretch-at.ensures w,
@@ -40,14 +46,20 @@ pub write_stretch-requires-clause-room_at : goal.write_stretch-requires-clause-r
 write_stretch-requires-clause-room_at c =
     let l = c.loop-b in
     let a = c.args in
-    let w = ending a.self.frame a.self.merges.firsts.now a.self.merges.lasts.now a.slots.indexes.now a.slots.sizes.now l.prev l.b-index a.breaks.now _ _ _ _ l.invariant.1 (omega arith) in
+    let k = a.self.frame in
+    let fs = a.self.merges.firsts.now in
+    let ls = a.self.merges.lasts.now in
+    let w = ending k fs ls a.slots.indexes.now a.slots.sizes.now l.prev l.b-index a.breaks.now _ _ _ _ l.invariant.1 (omega arith) in
     writing_room _ _ l.at _ _ _ c.requires.room w
 
 pub returns : goal.returns
 returns c =
     let l = c.loop-b in
     let a = c.args in
-    let w = ending a.self.frame a.self.merges.firsts.now a.self.merges.lasts.now a.slots.indexes.now a.slots.sizes.now l.prev l.b-index a.breaks.now _ _ _ _ l.invariant.1 (omega arith) in
+    let k = a.self.frame in
+    let fs = a.self.merges.firsts.now in
+    let ls = a.self.merges.lasts.now in
+    let w = ending k fs ls a.slots.indexes.now a.slots.sizes.now l.prev l.b-index a.breaks.now _ _ _ _ l.invariant.1 (omega arith) in
     let n = c.write_stretch.result in
     writing_done _ _ (l.at + n) _
     (writing_more _ _ l.at _ _ l.list n _ (writing_room _ _ l.at _ _ _ c.requires.room w) c.write_stretch.ensures w)

@@ -16,29 +16,35 @@ pub put_run-at-requires : goal.put_run-at-requires
 put_run-at-requires c =
     let l = c.loop-rest in
     let a = c.args in
+    let k = a.self.frame in
+    let fs = a.self.merges.firsts.now in
+    let ls = a.self.merges.lasts.now in
     room _ _ _ _ _ c.requires.room l.invariant
-    (some_marked a.self.frame a.self.merges.firsts.now a.self.merges.lasts.now l.manual l.rest.indexes.now l.rest.sizes.now c.loop-rest-test.true l.rest.are.even)
+    (some_marked k fs ls l.manual l.rest.indexes.now l.rest.sizes.now c.loop-rest-test.true l.rest.are.even)
 
 pub loop-rest-preserved : goal.loop-rest-preserved
 unfolding run
 loop-rest-preserved c =
     let l = c.loop-rest in
     let a = c.args in
+    let k = a.self.frame in
+    let fs = a.self.merges.firsts.now in
+    let ls = a.self.merges.lasts.now in
     let e = c.run_end-end in
     let n = e.result.slots in
     let slots_are = ap (λ (r : RunEnd). r.slots) e.ensures.grown_value.0 in
     let is = l.rest.indexes.now in
     let ss = l.rest.sizes.now in
-    let whole = first_marked a.mark (runs a.self.frame a.self.merges.firsts.now a.self.merges.lasts.now a.slots.indexes.now a.slots.sizes.now) in
+    let whole = first_marked a.mark (runs k fs ls a.slots.indexes.now a.slots.sizes.now) in
     let rest = c.after-rest.ensures in
     let next = c.after-rest.result in
-    let left = first_marked 0 (runs a.self.frame a.self.merges.firsts.now a.self.merges.lasts.now next.indexes.now next.sizes.now) in
-    let here = with_mark l.manual (run a.self.frame a.self.merges.firsts.now a.self.merges.lasts.now is ss) in
+    let left = first_marked 0 (runs k fs ls next.indexes.now next.sizes.now) in
+    let here = with_mark l.manual (run k fs ls is ss) in
     let last_is = ap (λ (m : ℕ). get_or is (m - 1) 0) slots_are in
     let size_is = e.ensures.grown_value.1 ∙ ap (λ (m : ℕ). sum (take m ss)) slots_are in
-    let more = turn_marked a.self.frame a.self.merges.firsts.now a.self.merges.lasts.now l.manual n is ss l.rest.are c.loop-rest-test.true slots_are e.ensures.le_slots.0
-    ∙ (λ i. here ∷ first_marked 0 (runs a.self.frame a.self.merges.firsts.now a.self.merges.lasts.now (sym rest.indexes_are i) (sym rest.sizes_are i))) in
-    let some = some_marked a.self.frame a.self.merges.firsts.now a.self.merges.lasts.now l.manual is ss c.loop-rest-test.true l.rest.are.even in
+    let more = turn_marked k fs ls l.manual n is ss l.rest.are c.loop-rest-test.true slots_are e.ensures.le_slots.0
+    ∙ (λ i. here ∷ first_marked 0 (runs k fs ls (sym rest.indexes_are i) (sym rest.sizes_are i))) in
+    let some = some_marked k fs ls l.manual is ss c.loop-rest-test.true l.rest.are.even in
     rw c.put_run-at.ensures.value
     (writing_one whole a.list.now l.at here left l.list _ _ _ _ _ refl last_is size_is refl
     (room _ _ _ _ _ c.requires.room l.invariant some) c.put_run-at.ensures.list_after
@@ -48,5 +54,8 @@ pub returns : goal.returns
 returns c =
     let l = c.loop-rest in
     let a = c.args in
-    let z = none_marked a.self.frame a.self.merges.firsts.now a.self.merges.lasts.now l.manual l.rest.indexes.now l.rest.sizes.now c.loop-rest-test.false in
+    let k = a.self.frame in
+    let fs = a.self.merges.firsts.now in
+    let ls = a.self.merges.lasts.now in
+    let z = none_marked k fs ls l.manual l.rest.indexes.now l.rest.sizes.now c.loop-rest-test.false in
     writing_done _ _ l.at l.list (rw z at l.invariant)

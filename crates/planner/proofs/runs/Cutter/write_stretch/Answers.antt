@@ -16,7 +16,10 @@ pub returns : goal.returns
 unfolding stretch
 returns c =
     let a = c.args in
-    let here = stretch a.self.frame a.self.merges.firsts.now a.self.merges.lasts.now a.slots.indexes.now a.slots.sizes.now a.a a.e in
+    let k = a.self.frame in
+    let fs = a.self.merges.firsts.now in
+    let ls = a.self.merges.lasts.now in
+    let here = stretch k fs ls a.slots.indexes.now a.slots.sizes.now a.a a.e in
     let r : Written here c.write_runs.result (part a.at a.list.now) _ =
     rw (c.part.ensures.indexes_are, c.part.ensures.sizes_are, c.mark_of.ensures) at c.write_runs.ensures in
     record { count = r.count; list_is = put_rest a.at (flat here) a.list.now _ r.list_is }

@@ -1,37 +1,30 @@
 -- A no of 11 or 12 refuses, and else the runs of all areas are written.
 use Rattle.std.proofs.Common.{◌≡◌, ap, ◌∙◌, arith, rules, Err}
-use Rattle.units.specs.Refusals.{number_of}
 use Rattle.planner_rules.specs.declared.planning.CountedAreas.{CountedAreas}
 use Rattle.planner_rules.specs.Areas.{areas_in}
 use Rattle.planner_rules.specs.Lent.{room_in}
-use Rattle.planner_rules.specs.Plan.{layout, layouts_of, row_runs_of, column_runs_of, room_no}
+use Rattle.planner_rules.specs.Plan.{layout, layouts_of, row_runs_of, column_runs_of}
 use Rattle.planner_rules.specs.Steps.{sides_in, RoomForAll}
 use Rattle.planner_rules.proofs.Lent.{room_runs}
 use Rattle.planner_rules.proofs.QuestionLaws.{positive}
 use Rattle.planner_rules.proofs.PlanLaws.{refuses_plan, answers_plan, room_refused, room_given, runs_fit_lem, plan_value}
 use Rattle.planner.proofs.settled.SettledSheet.plan_several.Goals as goal
 
-pub returns-in_err-room_refusal : goal.returns-in_err-room_refusal
-returns-in_err-room_refusal c =
+pub returns-in_err-ask_room : goal.returns-in_err-ask_room
+returns-in_err-ask_room c =
     let a = c.args in
-    let asked : number_of c.in_err-room_refusal.field-0.0 ≡ room_no c.count_areas-counted.result.rows c.count_areas-counted.result.columns
-    c.count_areas-counted.result.pages (room_in a.row_runs.now) (room_in a.column_runs.now) a.self.now.shared.now.settings.page_limit =
-    rw (c.room_in.ensures, c.room_in-2.ensures) at c.in_err-room_refusal.ensures in
-    let e : c.from_residual.result ≡ Err c.in_err-room_refusal.field-0.0 = search rules in
+    let e : c.from_residual.result ≡ Err c.in_err-ask_room.field-0.0 = search rules in
     rw e (refuses_plan _ _ a.row_runs.now a.column_runs.now
     (room_refused (sides_in a.self.now.shared.now) _ (areas_in a.areas) _ c.count_areas-counted.ensures (room_in a.row_runs.now) (room_in a.column_runs.now) _
-    asked (positive c.in_err-room_refusal.field-0.0)))
+    c.in_err-ask_room.ensures (positive c.in_err-ask_room.field-0.0)))
 
 pub write_areas-requires-clause-counted : goal.write_areas-requires-clause-counted
 write_areas-requires-clause-counted c =
     let a = c.args in
-    let asked : 0 ≡ room_no c.count_areas-counted.result.rows c.count_areas-counted.result.columns
-    c.count_areas-counted.result.pages (room_in a.row_runs.now) (room_in a.column_runs.now) a.self.now.shared.now.settings.page_limit =
-    rw (c.room_in.ensures, c.room_in-2.ensures) at c.in_ok-room_refusal.ensures in
     let gs = areas_in a.areas in
     let ls = layouts_of (sides_in a.self.now.shared.now) _ gs in
     let fit = runs_fit_lem (sides_in a.self.now.shared.now) _ gs _ c.count_areas-counted.ensures (room_in a.row_runs.now) (room_in a.column_runs.now) _
-    asked (omega arith) in
+    c.in_ok-ask_room.ensures (omega arith) in
     let room : RoomForAll ls a.row_runs.now a.column_runs.now = record {
       row_room = room_runs (row_runs_of ls) a.row_runs.now fit.0;
       column_room = room_runs (column_runs_of ls) a.column_runs.now fit.1;
@@ -42,12 +35,9 @@ pub returns : goal.returns
 unfolding layout
 returns c =
     let a = c.args in
-    let asked : 0 ≡ room_no c.count_areas-counted.result.rows c.count_areas-counted.result.columns
-    c.count_areas-counted.result.pages (room_in a.row_runs.now) (room_in a.column_runs.now) a.self.now.shared.now.settings.page_limit =
-    rw (c.room_in.ensures, c.room_in-2.ensures) at c.in_ok-room_refusal.ensures in
     let gs = areas_in a.areas in
     let room = room_given (sides_in a.self.now.shared.now) _ gs _ c.count_areas-counted.ensures (room_in a.row_runs.now) (room_in a.column_runs.now) _
-    asked (omega arith) in
+    c.in_ok-ask_room.ensures (omega arith) in
     answers_plan _ (layout (sides_in a.self.now.shared.now) _ gs) _ room
     (c.plan_of.ensures ∙ plan_value a.self.now.shared.now _ a.self.now.settled gs _ c.count_areas-counted.ensures)
     a.row_runs.now a.column_runs.now _ _ c.write_areas.ensures.0 c.write_areas.ensures.1

@@ -99,9 +99,10 @@ module _ (x : Shared) (s : Sheet) (areas : Areas) (fine : FineAreas areas) (i : 
   unfolding area_layout
   can_write row_at column_at rows columns hr hc = writable x s g (scale x s g) a came_to row_at column_at rows columns hr hc
 
-pub write_runs-requires-clause-writable : goal.write_runs-requires-clause-writable
-write_runs-requires-clause-writable c =
+pub write-requires : goal.write-requires
+write-requires c =
     let a = c.args in
+    let of = c.ready.ensures in
     let l = c.loop-i in
     let q = c.requires.counted in
     let g = c.area_at-range in
@@ -110,11 +111,13 @@ write_runs-requires-clause-writable c =
     l.row_runs q.1.row_room l.invariant.rows in
     let columns = column_room a.self.now.shared.now _ a.areas c.requires.fine_areas l.i c.loop-i-test.true _ g.ensures _ q.0 _ p.ensures a.column_runs.now
     l.column_at l.column_runs q.1.column_room l.invariant.columns in
-    can_write a.self.now.shared.now _ a.areas c.requires.fine_areas l.i c.loop-i-test.true _ g.ensures _ q.0 _ p.ensures l.row_at l.column_at l.row_runs
-    l.column_runs rows columns
+    record {
+      writable = rw (of.sheet_is, of.range_is) (can_write a.self.now.shared.now _ a.areas c.requires.fine_areas l.i c.loop-i-test.true _ g.ensures _ q.0 _
+          p.ensures l.row_at l.column_at l.row_runs l.column_runs rows columns);
+    }
 
-pub write_runs-requires-clause-fine_area : goal.write_runs-requires-clause-fine_area
-write_runs-requires-clause-fine_area c = rw c.area_at-range.ensures (c.requires.fine_areas.each c.loop-i.i c.loop-i-test.true)
+pub ready-requires : goal.ready-requires
+ready-requires c = record { fine_area = rw c.area_at-range.ensures (c.requires.fine_areas.each c.loop-i.i c.loop-i-test.true) }
 
 pub overflow_mul-row_at : goal.overflow_mul-row_at
 overflow_mul-row_at c =
@@ -157,14 +160,16 @@ loop-i-preserved c =
     let a = c.args in
     let l = c.loop-i in
     let q = c.requires.counted in
+    let of = c.ready.ensures in
+    let put = rw (of.sheet_is, of.range_is) at c.write.ensures in
     record {
       within = omega (arith, c.loop-i-test.true);
       rows =
           rows_next a.self.now.shared.now _ a.areas c.requires.fine_areas l.i c.loop-i-test.true _ c.area_at-range.ensures _ q.0 _ c.plan_at-area.ensures
-          a.row_runs.now l.row_at l.row_runs q.1.row_room l.invariant.rows _ c.write_runs.ensures.0;
+          a.row_runs.now l.row_at l.row_runs q.1.row_room l.invariant.rows _ put.0;
       columns =
           columns_next a.self.now.shared.now _ a.areas c.requires.fine_areas l.i c.loop-i-test.true _ c.area_at-range.ensures _ q.0 _ c.plan_at-area.ensures
-          a.column_runs.now l.column_at l.column_runs q.1.column_room l.invariant.columns _ c.write_runs.ensures.1;
+          a.column_runs.now l.column_at l.column_runs q.1.column_room l.invariant.columns _ put.1;
     }
 
 pub returns : goal.returns

@@ -24,8 +24,8 @@ returns-then-number-areas c =
     (number_past (sides_in a.self.now.shared.now) _ a.areas a.number a.permille a.row_runs.now a.column_runs.now (omega (arith, c.if-permille-eq0.false))
     c.requires.fine_areas.few c.if-number-areas.true)
 
-pub write_range-requires : goal.write_range-requires
-write_range-requires c =
+pub ready-requires : goal.ready-requires
+ready-requires c =
     let n = c.args.number in
     record { fine_area = rw c.area_at-range.ensures (c.requires.fine_areas.each (n - 1) (omega (arith, c.if-number-eq0.false, c.if-number-areas.false))) }
 
@@ -36,4 +36,5 @@ returns c =
     let e = number_is (sides_in a.self.now.shared.now) _ a.areas a.number a.permille a.row_runs.now a.column_runs.now
     (omega (arith, c.if-permille-eq0.false)) c.requires.fine_areas.few (a.number - 1) _ n
     (omega (arith, c.if-number-eq0.false, c.if-number-areas.false)) c.area_at-range.ensures in
-    relay_area _ _ _ _ _ _ _ (sym e) c.write_range.ensures
+    let of = c.ready.ensures in
+    relay_area _ _ _ _ _ _ _ (sym e) (rw (of.sheet_is, of.range_is) at c.write_at.ensures)

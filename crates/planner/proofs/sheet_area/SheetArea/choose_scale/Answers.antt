@@ -1,0 +1,29 @@
+-- The scale that was chosen for the bodies is the area's.
+use Rattle.planner_rules.specs.Asked.{sheet_by}
+use Rattle.planner_rules.proofs.AreaLaws.{scale_is}
+use Rattle.planner.proofs.sheet_area.SheetArea.choose_scale.Goals as goal
+
+pub returns-then-settings : goal.returns-then-settings
+returns-then-settings c =
+    let a = c.args.self.now in
+    let rows = c.rows.ensures in
+    let columns = c.columns.ensures in
+    let found = rw (
+      rows.fit_is,
+      rows.merges_are.0,
+      rows.merges_are.1,
+      rows.slots_are.0,
+      rows.slots_are.1,
+      columns.fit_is,
+      columns.merges_are.0,
+      columns.merges_are.1,
+      columns.slots_are.0,
+      columns.slots_are.1,
+    ) at c.fit_scale.ensures in
+    scale_is a.sheet.shared.now (sheet_by a.sheet.shared.now a.sheet.lists.now) a.sheet.settled a.ready.range _ a.is_ready _ (rw c.if-settings.true found)
+
+pub returns : goal.returns
+returns c =
+    let a = c.args.self.now in
+    scale_is a.sheet.shared.now (sheet_by a.sheet.shared.now a.sheet.lists.now) a.sheet.settled a.ready.range _ a.is_ready _
+    (rw c.if-settings.false c.fixed_scale.ensures)
