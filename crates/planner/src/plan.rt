@@ -3,7 +3,6 @@
 ghost use Rattle.std.specs.Prelude.{◌≡◌, [], ◌∷◌};
 ghost use Rattle.units.specs.Refusals.{outcome};
 ghost use Rattle.planner_rules.specs.Lent.{room_in};
-ghost use Rattle.planner_rules.specs.Areas.{areas_in};
 ghost use Rattle.planner_rules.specs.Demand.{CoversPairs, FewestPlan, LargestPlan};
 ghost use Rattle.planner_rules.specs.Asked.{sheet_asked, sheet_by};
 ghost use Rattle.planner_rules.specs.Partition.{no_of};
@@ -16,18 +15,17 @@ use crate::memory::in_memory;
 use crate::settled::SettledSheet;
 use crate::sheet_area::SheetArea;
 use crate::title::ready_title;
-use planner_areas::area_at;
 use planner_questions::{plan_refusal, room_in, room_refusal};
 use planner_rules::{
-    Areas, Axis, AxisLists, ChosenScale, CountedAreas, MergeList, Notes, Plan, PrintRange, Request,
-    RunCounts, Shared, SheetLists,
+    Axis, AxisLists, ChosenScale, CountedAreas, MergeList, Notes, Plan, Request, RunCounts, Shared,
+    SheetLists,
 };
 use planner_setup::content_sides;
 use units::Refusal;
 
 // Asks the questions 4 to 10, and makes the titles ready, once for all areas.
 fn prepare(request: &Request, lists: &SheetLists) -> Result<Shared, Refusal>
-    ensures { step.IsPrepared result (sheet_asked request.now lists.now) request.now.areas }
+    ensures { step.IsPrepared result (sheet_asked request.now lists.now) request.now.areas.now }
 {
     plan_refusal(request, lists)?;
     let sides = content_sides(request.settings)?;
@@ -105,7 +103,8 @@ impl SheetArea<'_> {
             row_runs.old column_runs.old row_runs.new column_runs.new }
     {
         let one = self.count();
-        let counted = add_area(no_areas(), 0, one.counted);
+        let mut counted = no_areas();
+        add_area(&mut counted, one.counted);
         self.sheet.ask_room(&counted, row_runs, column_runs)?;
         self.write_by(one.frames, one.counted.area, 0, 0, row_runs, column_runs);
         Ok(plan_of(self.sheet.shared, counted))
@@ -170,54 +169,41 @@ impl SettledSheet<'_> {
 
     // Counts several areas and, where their runs have room and their pages are within the limit, writes them: all are counted before one is written.
     #[inline(never)]
-    fn plan_several(
-        &self,
-        areas: Areas,
-        row_runs: &mut [u64],
-        column_runs: &mut [u64],
-    ) -> Result<Plan, Refusal>
-        requires fine_areas { step.FineAreas areas }
+    fn plan_several(&self, row_runs: &mut [u64], column_runs: &mut [u64]) -> Result<Plan, Refusal>
         ensures { let shared = self.now.shared.now in
             let sheet = sheet_by shared self.now.lists.now in
-            let layout = call.layout (step.sides_in shared) sheet (areas_in areas) in
+            let layout = call.layout (step.sides_in shared) sheet self.now.areas.now in
             call.Planned (call.room_for sheet layout (room_in row_runs.old) (room_in column_runs.old)) (outcome result)
             row_runs.old column_runs.old row_runs.new column_runs.new }
     {
-        let counted = self.count_areas(areas);
+        let counted = self.count_areas();
         self.ask_room(&counted, row_runs, column_runs)?;
-        self.write_areas(areas, counted.areas, row_runs, column_runs);
+        self.write_areas(counted.areas.as_slice(), row_runs, column_runs);
         Ok(plan_of(self.shared, counted))
     }
 
     // The same of the areas of a plan.
     #[inline(always)]
-    fn plan_areas(
-        &self,
-        areas: Areas,
-        row_runs: &mut [u64],
-        column_runs: &mut [u64],
-    ) -> Result<Plan, Refusal>
-        requires fine_areas { step.FineAreas areas }
+    fn plan_areas(&self, row_runs: &mut [u64], column_runs: &mut [u64]) -> Result<Plan, Refusal>
         ensures { let shared = self.now.shared.now in
             let sheet = sheet_by shared self.now.lists.now in
-            let layout = call.layout (step.sides_in shared) sheet (areas_in areas) in
+            let layout = call.layout (step.sides_in shared) sheet self.now.areas.now in
             call.Planned (call.room_for sheet layout (room_in row_runs.old) (room_in column_runs.old)) (outcome result)
             row_runs.old column_runs.old row_runs.new column_runs.new }
     {
-        if areas.count == 1 {
-            return self.ready(areas.first).plan(row_runs, column_runs);
+        if let [range] = self.areas {
+            return self.ready(*range).plan(row_runs, column_runs);
         }
-        self.plan_several(areas, row_runs, column_runs)
+        self.plan_several(row_runs, column_runs)
     }
 
     // Counts the areas: the plan, within the limit of pages.
-    fn counted_plan(&self, areas: Areas) -> Result<Plan, Refusal>
-        requires fine_areas { step.FineAreas areas }
+    fn counted_plan(&self) -> Result<Plan, Refusal>
         ensures { let shared = self.now.shared.now in
             let sheet = sheet_by shared self.now.lists.now in
-            call.Counted (call.within_limit sheet (call.layout (step.sides_in shared) sheet (areas_in areas))) (outcome result) }
+            call.Counted (call.within_limit sheet (call.layout (step.sides_in shared) sheet self.now.areas.now)) (outcome result) }
     {
-        let counted = self.count_areas(areas);
+        let counted = self.count_areas();
         if counted.pages > self.shared.settings.page_limit {
             return Err(Refusal::TooManyPages);
         }
@@ -227,16 +213,14 @@ impl SettledSheet<'_> {
     // 10 of the permille, 14 of the area's number, and the area's runs.
     fn write_numbered(
         &self,
-        areas: Areas,
         number: u64,
         permille: u16,
         row_runs: &mut [u64],
         column_runs: &mut [u64],
     ) -> Result<RunCounts, Refusal>
-        requires fine_areas { step.FineAreas areas }
         ensures { let shared = self.now.shared.now in
             let sheet = sheet_by shared self.now.lists.now in
-            call.AreaWrote (call.numbered_area (step.sides_in shared) sheet areas number permille row_runs.old column_runs.old) (outcome result)
+            call.AreaWrote (call.numbered_area (step.sides_in shared) sheet self.now.areas.now number permille row_runs.old column_runs.old) (outcome result)
             row_runs.old column_runs.old row_runs.new column_runs.new }
     {
         if permille == 0 {
@@ -245,10 +229,10 @@ impl SettledSheet<'_> {
         if number == 0 {
             return Err(Refusal::NoSuchNumber);
         }
-        if number > areas.count as u64 {
+        if number > self.areas.len() as u64 {
             return Err(Refusal::NoSuchNumber);
         }
-        let range = area_at(areas, (number - 1) as usize);
+        let range = self.areas[(number - 1) as usize];
         self.ready(range).write_at(permille, row_runs, column_runs)
     }
 }
@@ -262,30 +246,32 @@ pub fn plan_pages(
     column_runs: &mut [u64],
 ) -> Result<Plan, Refusal>
     ensures planned { let sheet = sheet_asked request.now lists.now in
-        call.Planned (call.planned sheet request.now.areas row_runs.old column_runs.old) (outcome result)
+        call.Planned (call.planned sheet request.now.areas.now row_runs.old column_runs.old) (outcome result)
         row_runs.old column_runs.old row_runs.new column_runs.new }
-    ensures covered { CoversPairs (outcome result) (sheet_asked request.now lists.now) request.now.areas row_runs.new column_runs.new }
-    ensures fewest { FewestPlan (outcome result) (sheet_asked request.now lists.now) request.now.areas row_runs.new column_runs.new }
-    ensures largest { LargestPlan (outcome result) (sheet_asked request.now lists.now) request.now.areas }
+    ensures covered { CoversPairs (outcome result) (sheet_asked request.now lists.now) request.now.areas.now row_runs.new column_runs.new }
+    ensures fewest { FewestPlan (outcome result) (sheet_asked request.now lists.now) request.now.areas.now row_runs.new column_runs.new }
+    ensures largest { LargestPlan (outcome result) (sheet_asked request.now lists.now) request.now.areas.now }
 {
     let shared = prepare(request, lists)?;
     let sheet = SettledSheet {
         shared: &shared,
         lists,
+        areas: request.areas,
     };
-    sheet.plan_areas(request.areas, row_runs, column_runs)
+    sheet.plan_areas(row_runs, column_runs)
 }
 
 // The same plan, whose runs are written nowhere.
 pub fn count_pages(request: &Request, lists: &SheetLists) -> Result<Plan, Refusal>
-    ensures { call.Counted (call.counted (sheet_asked request.now lists.now) request.now.areas) (outcome result) }
+    ensures { call.Counted (call.counted (sheet_asked request.now lists.now) request.now.areas.now) (outcome result) }
 {
     let shared = prepare(request, lists)?;
     let sheet = SettledSheet {
         shared: &shared,
         lists,
+        areas: request.areas,
     };
-    sheet.counted_plan(request.areas)
+    sheet.counted_plan()
 }
 
 // Writes the runs of one area, by its number from 1, at a permille to the fronts of two lent lists: no scale is searched.
@@ -298,13 +284,14 @@ pub fn write_area(
     column_runs: &mut [u64],
 ) -> Result<RunCounts, Refusal>
     ensures { let sheet = sheet_asked request.now lists.now in
-        call.AreaWrote (call.area_written sheet request.now.areas number permille row_runs.old column_runs.old) (outcome result)
+        call.AreaWrote (call.area_written sheet request.now.areas.now number permille row_runs.old column_runs.old) (outcome result)
         row_runs.old column_runs.old row_runs.new column_runs.new }
 {
     let shared = prepare(request, lists)?;
     let sheet = SettledSheet {
         shared: &shared,
         lists,
+        areas: request.areas,
     };
-    sheet.write_numbered(request.areas, number, permille, row_runs, column_runs)
+    sheet.write_numbered(number, permille, row_runs, column_runs)
 }

@@ -8,12 +8,12 @@ pub returns-in_err-shared-clause-planned : goal.returns-in_err-shared-clause-pla
 returns-in_err-shared-clause-planned c =
     let a = c.args in
     let e : c.from_residual.result ≡ Err c.in_err-shared.field-0.0 = search rules in
-    rw e (refuses_plan _ _ a.row_runs.now a.column_runs.now (no_plan _ a.request.now.areas _ c.in_err-shared.ensures a.row_runs.now a.column_runs.now))
+    rw e (refuses_plan _ _ a.row_runs.now a.column_runs.now (no_plan _ a.request.now.areas.now _ c.in_err-shared.ensures a.row_runs.now a.column_runs.now))
 
 pub returns : goal.returns
 returns c =
     let a = c.args in
     let by = c.in_ok-shared.ensures in
-    let all = clauses _ a.request.now.areas a.row_runs.now a.column_runs.now _ _ _
-    (relay_plan _ _ _ _ _ _ _ (then_plan c.in_ok-shared.shared _ a.request.now.areas by a.row_runs.now a.column_runs.now) c.plan_areas.ensures) in
+    let all = clauses _ a.request.now.areas.now a.row_runs.now a.column_runs.now _ _ _
+    (relay_plan _ _ _ _ _ _ _ (then_plan c.in_ok-shared.shared _ a.request.now.areas.now by a.row_runs.now a.column_runs.now) c.plan_areas.ensures) in
     record { planned = all.0; covered = all.1.0; fewest = all.1.1.0; largest = all.1.1.1 }

@@ -13,7 +13,7 @@ pub returns-in_err-plan_refusal : goal.returns-in_err-plan_refusal
 returns-in_err-plan_refusal c =
     let a = c.args in
     let e : c.from_residual.result ≡ Err c.in_err-plan_refusal.field-0.0 = search rules in
-    rw e (is_refused (sheet_asked a.request.now a.lists.now) a.request.now.areas _ c.in_err-plan_refusal.ensures (positive c.in_err-plan_refusal.field-0.0))
+    rw e (is_refused (sheet_asked a.request.now a.lists.now) a.request.now.areas.now _ c.in_err-plan_refusal.ensures (positive c.in_err-plan_refusal.field-0.0))
 
 pub returns-in_err-sides : goal.returns-in_err-sides
 returns-in_err-sides c =
@@ -24,29 +24,29 @@ pub ready_title-row_title-requires-clause-slots : goal.ready_title-row_title-req
 ready_title-row_title-requires-clause-slots c =
     let a = c.args in
     let sheet = sheet_asked a.request.now a.lists.now in
-    let y = all_yes sheet a.request.now.areas _ c.in_ok-plan_refusal.ensures (omega arith) in
-    row_slots sheet a.request.now.areas y
+    let y = all_yes sheet a.request.now.areas.now _ c.in_ok-plan_refusal.ensures (omega arith) in
+    row_slots sheet a.request.now.areas.now y
 
 pub ready_title-row_title-requires-clause-merge_lasts_value : goal.ready_title-row_title-requires-clause-merge_lasts_value
 ready_title-row_title-requires-clause-merge_lasts_value c =
     let a = c.args in
     let sheet = sheet_asked a.request.now a.lists.now in
-    let y = all_yes sheet a.request.now.areas _ c.in_ok-plan_refusal.ensures (omega arith) in
-    rw c.limit.ensures (row_merges_inside sheet a.request.now.areas y)
+    let y = all_yes sheet a.request.now.areas.now _ c.in_ok-plan_refusal.ensures (omega arith) in
+    rw c.limit.ensures (row_merges_inside sheet a.request.now.areas.now y)
 
 pub ready_title-column_title-requires-clause-slots : goal.ready_title-column_title-requires-clause-slots
 ready_title-column_title-requires-clause-slots c =
     let a = c.args in
     let sheet = sheet_asked a.request.now a.lists.now in
-    let y = all_yes sheet a.request.now.areas _ c.in_ok-plan_refusal.ensures (omega arith) in
-    column_slots sheet a.request.now.areas y
+    let y = all_yes sheet a.request.now.areas.now _ c.in_ok-plan_refusal.ensures (omega arith) in
+    column_slots sheet a.request.now.areas.now y
 
 pub ready_title-column_title-requires-clause-merge_lasts_value : goal.ready_title-column_title-requires-clause-merge_lasts_value
 ready_title-column_title-requires-clause-merge_lasts_value c =
     let a = c.args in
     let sheet = sheet_asked a.request.now a.lists.now in
-    let y = all_yes sheet a.request.now.areas _ c.in_ok-plan_refusal.ensures (omega arith) in
-    rw c.limit-2.ensures (column_merges_inside sheet a.request.now.areas y)
+    let y = all_yes sheet a.request.now.areas.now _ c.in_ok-plan_refusal.ensures (omega arith) in
+    rw c.limit-2.ensures (column_merges_inside sheet a.request.now.areas.now y)
 
 pub returns : goal.returns
 returns c =
@@ -68,6 +68,6 @@ returns c =
     c.limit-2.ensures (rw c.in_memory-2.ensures.same at c.ready_title-column_title.ensures.title_ready) in
     let few : length row_lists.merges.firsts.now + length column_lists.merges.firsts.now < 2 ^ 64 =
     omega (arith, c.in_memory.ensures.few, c.in_memory-2.ensures.few) in
-    shared_by sheet a.request.now.areas
-    (all_yes sheet a.request.now.areas _ c.in_ok-plan_refusal.ensures (omega arith)) _
+    shared_by sheet a.request.now.areas.now
+    (all_yes sheet a.request.now.areas.now _ c.in_ok-plan_refusal.ensures (omega arith)) _
     rows columns few sides refl c.ready_title-row_title.ensures.asked_value c.ready_title-column_title.ensures.asked_value

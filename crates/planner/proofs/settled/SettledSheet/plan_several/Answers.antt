@@ -1,7 +1,6 @@
 -- A no of 11 or 12 refuses, and else the runs of all areas are written.
 use Rattle.std.proofs.Common.{◌≡◌, ap, ◌∙◌, arith, rules, Err}
 use Rattle.planner_rules.specs.declared.planning.CountedAreas.{CountedAreas}
-use Rattle.planner_rules.specs.Areas.{areas_in}
 use Rattle.planner_rules.specs.Lent.{room_in}
 use Rattle.planner_rules.specs.Plan.{layout, layouts_of, row_runs_of, column_runs_of}
 use Rattle.planner_rules.specs.Steps.{sides_in, RoomForAll}
@@ -15,13 +14,13 @@ returns-in_err-ask_room c =
     let a = c.args in
     let e : c.from_residual.result ≡ Err c.in_err-ask_room.field-0.0 = search rules in
     rw e (refuses_plan _ _ a.row_runs.now a.column_runs.now
-    (room_refused (sides_in a.self.now.shared.now) _ (areas_in a.areas) _ c.count_areas-counted.ensures (room_in a.row_runs.now) (room_in a.column_runs.now) _
+    (room_refused (sides_in a.self.now.shared.now) _ a.self.now.areas.now _ c.count_areas-counted.ensures (room_in a.row_runs.now) (room_in a.column_runs.now) _
     c.in_err-ask_room.ensures (positive c.in_err-ask_room.field-0.0)))
 
-pub write_areas-requires-clause-counted : goal.write_areas-requires-clause-counted
-write_areas-requires-clause-counted c =
+pub write_areas-requires : goal.write_areas-requires
+write_areas-requires c =
     let a = c.args in
-    let gs = areas_in a.areas in
+    let gs = a.self.now.areas.now in
     let ls = layouts_of (sides_in a.self.now.shared.now) _ gs in
     let fit = runs_fit_lem (sides_in a.self.now.shared.now) _ gs _ c.count_areas-counted.ensures (room_in a.row_runs.now) (room_in a.column_runs.now) _
     c.in_ok-ask_room.ensures (omega arith) in
@@ -29,13 +28,13 @@ write_areas-requires-clause-counted c =
       row_room = room_runs (row_runs_of ls) a.row_runs.now fit.0;
       column_room = room_runs (column_runs_of ls) a.column_runs.now fit.1;
     } in
-    (ap (λ (all : CountedAreas). all.areas) c.count_areas-counted.ensures, room)
+    record { counted = (c.as_slice.ensures.value ∙ ap (λ (all : CountedAreas). all.areas.items) c.count_areas-counted.ensures, room) }
 
 pub returns : goal.returns
 unfolding layout
 returns c =
     let a = c.args in
-    let gs = areas_in a.areas in
+    let gs = a.self.now.areas.now in
     let room = room_given (sides_in a.self.now.shared.now) _ gs _ c.count_areas-counted.ensures (room_in a.row_runs.now) (room_in a.column_runs.now) _
     c.in_ok-ask_room.ensures (omega arith) in
     answers_plan _ (layout (sides_in a.self.now.shared.now) _ gs) _ room

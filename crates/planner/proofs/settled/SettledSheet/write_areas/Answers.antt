@@ -1,184 +1,186 @@
--- A turn writes the runs of the area after those whose runs are written: they stand before what is left.
-use Rattle.std.proofs.Common.{◌≡◌, ℕ, ◌+◌, ◌*◌, ◌≤◌, ◌<◌, List, [], ◌++◌, map, length, get_or, drop, sym, subst, ◌∙◌, arith}
-use Rattle.std.proofs.Common.{get_or-take, length-take-le, drop_of_length-le}
+-- A turn writes the runs of the first of the areas that are left.
+use Rattle.std.proofs.Common.{◌≡◌, ℕ, suc, ◌+◌, ◌*◌, ◌≤◌, List, [], ◌∷◌, ◌++◌, ◌⊎◌, inl, inr, map, length, refl, sym, ◌∙◌, arith, rules}
+use Rattle.std.specs.Iterator.Adapters.{zip_first, zip_second}
+use Rattle.std.specs.Slice.Iter.{iter_rest}
+use Rattle.std.proofs.lemmas.Slice.Zip.{either_empty_from_Zip}
 use Rattle.planner_rules.specs.declared.pages.AreaPlan.{AreaPlan}
-use Rattle.planner_rules.specs.declared.pages.AreaPlans.{AreaPlans}
 use Rattle.planner_rules.specs.declared.planning.PrintRange.{PrintRange}
-use Rattle.planner_rules.specs.declared.planning.Areas.{Areas}
 use Rattle.planner_rules.specs.declared.planning.Shared.{Shared}
-use Rattle.planner_rules.specs.Areas.{eight_ranges, areas_in, no_range, eight_plans, no_plan, held_plans}
 use Rattle.planner_rules.specs.Runs.{Run}
-use Rattle.planner_rules.specs.Lent.{flat, Room, RoomAt}
+use Rattle.planner_rules.specs.Slots.{written}
+use Rattle.planner_rules.specs.Lent.{flat, Room, RoomAt, WrittenAt, run_numbers}
 use Rattle.planner_rules.specs.Pages.{joined}
-use Rattle.planner_rules.specs.Scale.{Scale}
+use Rattle.planner_rules.specs.Asked.{sheet_by}
 use Rattle.planner_rules.specs.Plan.{Sheet, rows_in, columns_in, chosen_scale, AreaLayout, plan_in, area_layout, layouts_of, row_runs_of, column_runs_of}
 use Rattle.planner_rules.specs.Steps.{sides_in, FineAreas, Writable, put_at, rows_at, columns_at}
-use Rattle.planner_rules.proofs.Lent.{flat-length, Writing, writing_more, writing_room, writing_done}
+use Rattle.planner_rules.proofs.Lent.{flat-length, Writing, writing_start, writing_more, writing_room, writing_done}
 use Rattle.planner_rules.proofs.AreaLaws.{as_long, writable, rows_put, columns_put}
-use Rattle.planner_rules.proofs.AreasLaws.{plan_is, left_is}
 use Rattle.planner.proofs.settled.SettledSheet.write_areas.Goals as goal
 
-long : (areas : Areas) → FineAreas areas → length (areas_in areas) ≡ areas.count
-long areas fine = length-take-le areas.count (eight_ranges areas) fine.few
+-- of an axis: the runs of the first area, of which there are n, are written before those of the others
+module _ (f : AreaLayout → List Run) (l : AreaLayout) (ls : List AreaLayout) (n : ℕ) (long : length (f l) ≡ n) (all : List Run) (old : List ℕ) (at : ℕ)
+    (new : List ℕ) (room : Room all old) (w : Writing all old at (joined (map f (l ∷ ls))) new) where
+  first : Writing all old at (f l ++ joined (map f ls)) new
+  unfolding joined
+  first = w
 
--- what areas come to, and those of them from the area i on
-abbrev all : Shared → Sheet → Areas → List AreaLayout
-all x s areas = layouts_of (sides_in x) s (areas_in areas)
+  has_room : RoomAt (f l) at new
+  has_room = writing_room _ _ at _ _ _ room first
 
-abbrev from : Shared → Sheet → Areas → ℕ → List AreaLayout
-from x s areas i = layouts_of (sides_in x) s (drop i (areas_in areas))
+  fits : at + n * 4 ≤ length new
+  fits = omega (arith, flat-length (f l), has_room, long)
 
-abbrev scale : Shared → Sheet → PrintRange → Scale
-scale x s g = chosen_scale s.settings (sides_in x) (rows_in s g) (columns_in s g)
+  next : (new' : List ℕ) → WrittenAt (f l) at (n * run_numbers) new new' → Writing all old (at + n * 4) (joined (map f ls)) new'
+  next new' e = writing_more _ _ at _ _ new _ new' has_room e first
 
--- the area i, and the plan that is held of it
-module _ (x : Shared) (s : Sheet) (areas : Areas) (fine : FineAreas areas) (i : ℕ) (h : i < areas.count) (g : PrintRange)
-    (eg : g ≡ get_or (eight_ranges areas) i no_range) (plans : AreaPlans) (ep : plans ≡ held_plans (map plan_in (all x s areas))) (a : AreaPlan)
-    (ea : a ≡ get_or (eight_plans plans) i no_plan) where
-  range_is : g ≡ get_or (areas_in areas) i no_range
-  range_is = eg ∙ sym (get_or-take areas.count (eight_ranges areas) i no_range h)
+-- the first of the areas that are left, and what it came to
+module _ (x : Shared) (s : Sheet) {left gs : List PrintRange} {g : PrintRange} {came as' : List AreaPlan} {a : AreaPlan}
+    (eg : left ≡ g ∷ gs) (ea : came ≡ a ∷ as') (e : came ≡ map plan_in (layouts_of (sides_in x) s left)) where
+  abbrev laid : AreaLayout
+  laid = area_layout (sides_in x) s g
 
-  in_list : i < length (areas_in areas)
-  in_list = omega (arith, long areas fine)
+  abbrev others : List AreaLayout
+  others = layouts_of (sides_in x) s gs
 
-  came_to : a ≡ plan_in (area_layout (sides_in x) s g)
-  came_to = plan_is (sides_in x) s (areas_in areas) i g in_list range_is (omega (arith, long areas fine, fine.few)) plans a ep ea
+  both : a ∷ as' ≡ plan_in laid ∷ map plan_in others
+  both = rw (eg, ea) at e
 
-  -- what is left begins with its runs
-  left : (f : AreaLayout → List Run) → joined (map f (from x s areas i)) ≡ f (area_layout (sides_in x) s g) ++ joined (map f (from x s areas (i + 1)))
-  left f = left_is (sides_in x) s (areas_in areas) i g in_list range_is f
+  came_to : a ≡ plan_in laid
+  came_to = let h = both in cc
 
-  row_numbers : a.row_runs * 4 ≡ length (flat (area_layout (sides_in x) s g).rows)
+  others_came : as' ≡ map plan_in others
+  others_came = let h = both in cc
+
+  lengths : (length laid.rows ≡ a.row_runs) × (length laid.columns ≡ a.column_runs)
   unfolding area_layout
-  row_numbers =
-      let n = (as_long x s g (scale x s g) a came_to).0 in
-      omega (arith, n, flat-length (area_layout (sides_in x) s g).rows)
+  lengths = as_long x s g (chosen_scale s.settings (sides_in x) (rows_in s g) (columns_in s g)) a came_to
 
-  column_numbers : a.column_runs * 4 ≡ length (flat (area_layout (sides_in x) s g).columns)
-  unfolding area_layout
-  column_numbers =
-      let n = (as_long x s g (scale x s g) a came_to).1 in
-      omega (arith, n, flat-length (area_layout (sides_in x) s g).columns)
+  module _ (all : List Run) (old : List ℕ) (at : ℕ) (new : List ℕ) (room : Room all old) where
+    row_room : Writing all old at (row_runs_of (layouts_of (sides_in x) s left)) new → (RoomAt laid.rows at new) × (at + a.row_runs * 4 ≤ length new)
+    row_room w =
+        let v = rw eg at w in
+        (has_room (λ l. l.rows) laid others a.row_runs lengths.0 all old at new room v, fits (λ l. l.rows) laid others a.row_runs lengths.0 all old at new room v)
 
-  -- of the rows
-  module _ (old : List ℕ) (at : ℕ) (new : List ℕ) (room : Room (row_runs_of (all x s areas)) old)
-      (w : Writing (row_runs_of (all x s areas)) old at (row_runs_of (from x s areas i)) new) where
-    rows_left : Writing (row_runs_of (all x s areas)) old at ((area_layout (sides_in x) s g).rows ++ row_runs_of (from x s areas (i + 1))) new
-    rows_left = subst (λ (rs : List Run). Writing (row_runs_of (all x s areas)) old at rs new) (left (λ (k : AreaLayout). k.rows)) w
+    column_room : Writing all old at (column_runs_of (layouts_of (sides_in x) s left)) new
+        → (RoomAt laid.columns at new) × (at + a.column_runs * 4 ≤ length new)
+    column_room w =
+        let v = rw eg at w in
+        (has_room (λ l. l.columns) laid others a.column_runs lengths.1 all old at new room v,
+        fits (λ l. l.columns) laid others a.column_runs lengths.1 all old at new room v)
 
-    row_room : RoomAt (area_layout (sides_in x) s g).rows at new
-    row_room = writing_room _ _ at _ _ _ room rows_left
-
-    row_fits : at + a.row_runs * 4 ≤ length new
-    row_fits = omega (arith, row_numbers, row_room)
-
-    rows_next : (new' : List ℕ) → new' ≡ put_at (rows_at x s g a.permille) at new
-        → Writing (row_runs_of (all x s areas)) old (at + a.row_runs * 4) (row_runs_of (from x s areas (i + 1))) new'
+    rows_next : Writing all old at (row_runs_of (layouts_of (sides_in x) s left)) new → (new' : List ℕ) → new' ≡ put_at (rows_at x s g a.permille) at new
+        → Writing all old (at + a.row_runs * 4) (row_runs_of others) new'
     unfolding area_layout
-    rows_next new' e = writing_more _ _ at _ _ new _ new' row_room (rows_put x s g (scale x s g) a came_to at new new' e) rows_left
+    rows_next w new' h =
+        next (λ l. l.rows) laid others a.row_runs lengths.0 all old at new room (rw eg at w) new'
+        (rows_put x s g (chosen_scale s.settings (sides_in x) (rows_in s g) (columns_in s g)) a came_to at new new' h)
 
-  -- of the columns
-  module _ (old : List ℕ) (at : ℕ) (new : List ℕ) (room : Room (column_runs_of (all x s areas)) old)
-      (w : Writing (column_runs_of (all x s areas)) old at (column_runs_of (from x s areas i)) new) where
-    columns_left : Writing (column_runs_of (all x s areas)) old at ((area_layout (sides_in x) s g).columns ++ column_runs_of (from x s areas (i + 1))) new
-    columns_left = subst (λ (rs : List Run). Writing (column_runs_of (all x s areas)) old at rs new) (left (λ (k : AreaLayout). k.columns)) w
-
-    column_room : RoomAt (area_layout (sides_in x) s g).columns at new
-    column_room = writing_room _ _ at _ _ _ room columns_left
-
-    column_fits : at + a.column_runs * 4 ≤ length new
-    column_fits = omega (arith, column_numbers, column_room)
-
-    columns_next : (new' : List ℕ) → new' ≡ put_at (columns_at x s g a.permille) at new
-        → Writing (column_runs_of (all x s areas)) old (at + a.column_runs * 4) (column_runs_of (from x s areas (i + 1))) new'
+    columns_next : Writing all old at (column_runs_of (layouts_of (sides_in x) s left)) new → (new' : List ℕ)
+        → new' ≡ put_at (columns_at x s g a.permille) at new → Writing all old (at + a.column_runs * 4) (column_runs_of others) new'
     unfolding area_layout
-    columns_next new' e = writing_more _ _ at _ _ new _ new' column_room (columns_put x s g (scale x s g) a came_to at new new' e) columns_left
+    columns_next w new' h =
+        next (λ l. l.columns) laid others a.column_runs lengths.1 all old at new room (rw eg at w) new'
+        (columns_put x s g (chosen_scale s.settings (sides_in x) (rows_in s g) (columns_in s g)) a came_to at new new' h)
 
-  can_write : (row_at column_at : ℕ) (rows columns : List ℕ) → RoomAt (area_layout (sides_in x) s g).rows row_at rows
-      → RoomAt (area_layout (sides_in x) s g).columns column_at columns → Writable x s g a row_at column_at rows columns
+  can_write : (row_at column_at : ℕ) (rows columns : List ℕ) → RoomAt laid.rows row_at rows → RoomAt laid.columns column_at columns
+      → Writable x s g a row_at column_at rows columns
   unfolding area_layout
-  can_write row_at column_at rows columns hr hc = writable x s g (scale x s g) a came_to row_at column_at rows columns hr hc
+  can_write = writable x s g (chosen_scale s.settings (sides_in x) (rows_in s g) (columns_in s g)) a came_to
+
+-- the others are fine too
+others_fine : (g : PrintRange) (gs : List PrintRange) → FineAreas (g ∷ gs) → FineAreas gs
+others_fine g gs fine = record { few = omega (arith, fine.few); each = λ k h. fine.each (suc k) (omega (arith, h)) }
+
+-- past the last, nothing is left to be written
+none_came : (x : Shared) (s : Sheet) (left : List PrintRange) (came : List AreaPlan) → came ≡ map plan_in (layouts_of (sides_in x) s left)
+    → (left ≡ []) ⊎ (came ≡ []) → layouts_of (sides_in x) s left ≡ []
+none_came x s [] came e h = refl
+none_came x s (g ∷ left) came e (inl h) = cc
+none_came x s (g ∷ left) came e (inr h) = let i : [] ≡ map plan_in (layouts_of (sides_in x) s (g ∷ left)) = sym h ∙ e in cc
+
+module _ (all : List Run) (old : List ℕ) (at : ℕ) (new : List ℕ) where
+  all_written : (f : AreaLayout → List Run) (ls : List AreaLayout) → ls ≡ [] → Writing all old at (joined (map f ls)) new → new ≡ written (flat all) old
+  unfolding joined
+  all_written f ls e w = (writing_done all old at new (rw e at w)).list_is
+
+pub loop-range-init : goal.loop-range-init
+loop-range-init c =
+    let all : iter_rest (zip_first c.into_iter-range-iterator.result) ≡ c.args.self.now.areas.now = search rules in
+    let came : iter_rest (zip_second c.into_iter-range-iterator.result) ≡ c.args.plans.now = search rules in
+    rw (all, came) (record {
+      fine = c.args.self.now.fine;
+      plans_are = c.requires.counted.0;
+      rows = writing_start _ _;
+      columns = writing_start _ _;
+    })
+
+pub ready-requires : goal.ready-requires
+ready-requires c = record { fine_area = (rw c.in-Some.ensures.steps.0 at c.loop-range.invariant.fine).each 0 (omega arith) }
 
 pub write-requires : goal.write-requires
 write-requires c =
-    let a = c.args in
+    let x = c.args.self.now.shared.now in
+    let s = sheet_by x c.args.self.now.lists.now in
+    let l = c.loop-range in
+    let by = c.in-Some.ensures.steps in
+    let q = c.requires.counted.1 in
     let of = c.ready.ensures in
-    let l = c.loop-i in
-    let q = c.requires.counted in
-    let g = c.area_at-range in
-    let p = c.plan_at-area in
-    let rows = row_room a.self.now.shared.now _ a.areas c.requires.fine_areas l.i c.loop-i-test.true _ g.ensures _ q.0 _ p.ensures a.row_runs.now l.row_at
-    l.row_runs q.1.row_room l.invariant.rows in
-    let columns = column_room a.self.now.shared.now _ a.areas c.requires.fine_areas l.i c.loop-i-test.true _ g.ensures _ q.0 _ p.ensures a.column_runs.now
-    l.column_at l.column_runs q.1.column_room l.invariant.columns in
-    record {
-      writable = rw (of.sheet_is, of.range_is) (can_write a.self.now.shared.now _ a.areas c.requires.fine_areas l.i c.loop-i-test.true _ g.ensures _ q.0 _
-          p.ensures l.row_at l.column_at l.row_runs l.column_runs rows columns);
-    }
-
-pub ready-requires : goal.ready-requires
-ready-requires c = record { fine_area = rw c.area_at-range.ensures (c.requires.fine_areas.each c.loop-i.i c.loop-i-test.true) }
+    let rows = row_room x s by.0 by.1 l.invariant.plans_are _ _ l.row_at _ q.row_room l.invariant.rows in
+    let columns = column_room x s by.0 by.1 l.invariant.plans_are _ _ l.column_at _ q.column_room l.invariant.columns in
+    record { writable = rw (of.sheet_is, of.range_is) (can_write x s by.0 by.1 l.invariant.plans_are l.row_at l.column_at _ _ rows.0 columns.0) }
 
 pub overflow_mul-row_at : goal.overflow_mul-row_at
 overflow_mul-row_at c =
-    let a = c.args in
-    let l = c.loop-i in
-    let q = c.requires.counted in
-    let fits = row_fits a.self.now.shared.now _ a.areas c.requires.fine_areas l.i c.loop-i-test.true _ c.area_at-range.ensures _ q.0 _
-    c.plan_at-area.ensures a.row_runs.now l.row_at l.row_runs q.1.row_room l.invariant.rows in
-    omega (arith, fits)
+    let x = c.args.self.now.shared.now in
+    let by = c.in-Some.ensures.steps in
+    let l = c.loop-range in
+    let rows = row_room x (sheet_by x c.args.self.now.lists.now) by.0 by.1 l.invariant.plans_are _ _ l.row_at _ c.requires.counted.1.row_room l.invariant.rows in
+    omega (arith, rows.1)
 
 pub overflow_add-row_at : goal.overflow_add-row_at
 overflow_add-row_at c =
-    let a = c.args in
-    let l = c.loop-i in
-    let q = c.requires.counted in
-    let fits = row_fits a.self.now.shared.now _ a.areas c.requires.fine_areas l.i c.loop-i-test.true _ c.area_at-range.ensures _ q.0 _
-    c.plan_at-area.ensures a.row_runs.now l.row_at l.row_runs q.1.row_room l.invariant.rows in
-    omega (arith, fits)
+    let x = c.args.self.now.shared.now in
+    let by = c.in-Some.ensures.steps in
+    let l = c.loop-range in
+    let rows = row_room x (sheet_by x c.args.self.now.lists.now) by.0 by.1 l.invariant.plans_are _ _ l.row_at _ c.requires.counted.1.row_room l.invariant.rows in
+    omega (arith, rows.1)
 
 pub overflow_mul-column_at : goal.overflow_mul-column_at
 overflow_mul-column_at c =
-    let a = c.args in
-    let l = c.loop-i in
-    let q = c.requires.counted in
-    let fits = column_fits a.self.now.shared.now _ a.areas c.requires.fine_areas l.i c.loop-i-test.true _ c.area_at-range.ensures _ q.0 _
-    c.plan_at-area.ensures a.column_runs.now l.column_at l.column_runs q.1.column_room l.invariant.columns in
-    omega (arith, fits)
+    let x = c.args.self.now.shared.now in
+    let by = c.in-Some.ensures.steps in
+    let l = c.loop-range in
+    let columns = column_room x (sheet_by x c.args.self.now.lists.now) by.0 by.1 l.invariant.plans_are _ _ l.column_at _ c.requires.counted.1.column_room l.invariant.columns in
+    omega (arith, columns.1)
 
 pub overflow_add-column_at : goal.overflow_add-column_at
 overflow_add-column_at c =
-    let a = c.args in
-    let l = c.loop-i in
-    let q = c.requires.counted in
-    let fits = column_fits a.self.now.shared.now _ a.areas c.requires.fine_areas l.i c.loop-i-test.true _ c.area_at-range.ensures _ q.0 _
-    c.plan_at-area.ensures a.column_runs.now l.column_at l.column_runs q.1.column_room l.invariant.columns in
-    omega (arith, fits)
+    let x = c.args.self.now.shared.now in
+    let by = c.in-Some.ensures.steps in
+    let l = c.loop-range in
+    let columns = column_room x (sheet_by x c.args.self.now.lists.now) by.0 by.1 l.invariant.plans_are _ _ l.column_at _ c.requires.counted.1.column_room l.invariant.columns in
+    omega (arith, columns.1)
 
-pub loop-i-preserved : goal.loop-i-preserved
-loop-i-preserved c =
-    let a = c.args in
-    let l = c.loop-i in
-    let q = c.requires.counted in
+pub loop-range-preserved : goal.loop-range-preserved
+loop-range-preserved c =
+    let x = c.args.self.now.shared.now in
+    let s = sheet_by x c.args.self.now.lists.now in
+    let l = c.loop-range in
+    let by = c.in-Some.ensures.steps in
+    let q = c.requires.counted.1 in
     let of = c.ready.ensures in
     let put = rw (of.sheet_is, of.range_is) at c.write.ensures in
     record {
-      within = omega (arith, c.loop-i-test.true);
-      rows =
-          rows_next a.self.now.shared.now _ a.areas c.requires.fine_areas l.i c.loop-i-test.true _ c.area_at-range.ensures _ q.0 _ c.plan_at-area.ensures
-          a.row_runs.now l.row_at l.row_runs q.1.row_room l.invariant.rows _ put.0;
-      columns =
-          columns_next a.self.now.shared.now _ a.areas c.requires.fine_areas l.i c.loop-i-test.true _ c.area_at-range.ensures _ q.0 _ c.plan_at-area.ensures
-          a.column_runs.now l.column_at l.column_runs q.1.column_room l.invariant.columns _ put.1;
+      fine = others_fine _ _ (rw by.0 at l.invariant.fine);
+      plans_are = others_came x s by.0 by.1 l.invariant.plans_are;
+      rows = rows_next x s by.0 by.1 l.invariant.plans_are _ _ l.row_at _ q.row_room l.invariant.rows _ put.0;
+      columns = columns_next x s by.0 by.1 l.invariant.plans_are _ _ l.column_at _ q.column_room l.invariant.columns _ put.1;
     }
 
 pub returns : goal.returns
-unfolding joined
 returns c =
-    let a = c.args in
-    let l = c.loop-i in
-    let none : drop l.i (areas_in a.areas) ≡ [] =
-    drop_of_length-le (areas_in a.areas) {i = l.i} (omega (arith, long a.areas c.requires.fine_areas, c.loop-i-test.false)) in (
-      (writing_done _ _ l.row_at _ (rw none at l.invariant.rows)).list_is,
-      (writing_done _ _ l.column_at _ (rw none at l.invariant.columns)).list_is,
-    )
+    let x = c.args.self.now.shared.now in
+    let l = c.loop-range in
+    let ended = either_empty_from_Zip _ c.next.new.self _ c.in-None.is c.next.ensures.steps in
+    let none = none_came x (sheet_by x c.args.self.now.lists.now) _ _ l.invariant.plans_are ended in
+    (all_written _ _ l.row_at _ (λ k. k.rows) _ none l.invariant.rows, all_written _ _ l.column_at _ (λ k. k.columns) _ none l.invariant.columns)

@@ -32,8 +32,8 @@ module _ (x : Shared) (s : Sheet) (g : PrintRange) (k : CountedArea) (e : k ≡ 
   abbrev scale : Scale
   scale = chosen_scale s.settings (sides_in x) (rows_in s g) (columns_in s g)
 
-  all_counted : (none r : CountedAreas) → none ≡ counted_of [] → Added r none 0 k → r ≡ counted_of (layouts_of (sides_in x) s (g ∷ []))
-  all_counted none r q w = counted_next (sides_in x) s (g ∷ []) 0 g (omega arith) refl (omega arith) none r k q e w
+  all_counted : (none r : CountedAreas) → none ≡ counted_of [] → Added r none k → r ≡ counted_of (layouts_of (sides_in x) s (g ∷ []))
+  all_counted none r q w = counted_next (sides_in x) s (g ∷ []) 0 g (omega arith) refl none r k q e w
 
   came_to : k.area ≡ plan_in laid
   came_to = ap (λ (c : CountedArea). c.area) e
@@ -57,15 +57,15 @@ module _ (x : Shared) (s : Sheet) (g : PrintRange) (k : CountedArea) (e : k ≡ 
   columns_written old new h =
       (columns_put x s g scale k.area came_to 0 old new h).list_is ∙ ap (λ (rs : List Run). written (flat rs) old) (sym (alone laid.columns))
 
-pub add_area-counted-requires-clause-few_all : goal.add_area-counted-requires-clause-few_all
-add_area-counted-requires-clause-few_all c = (rw c.no_areas.ensures few_none, c.count-one.ensures.few)
+pub add_area-requires-clause-few_all : goal.add_area-requires-clause-few_all
+add_area-requires-clause-few_all c = (rw c.no_areas-counted.ensures few_none, c.count-one.ensures.few)
 
 pub returns-in_err-ask_room : goal.returns-in_err-ask_room
 returns-in_err-ask_room c =
     let a = c.args in
     let x = a.self.now.sheet.shared.now in
     let gs = a.self.now.ready.range ∷ [] in
-    let all = all_counted x _ a.self.now.ready.range _ c.count-one.ensures.counted _ _ c.no_areas.ensures c.add_area-counted.ensures.added in
+    let all = all_counted x _ a.self.now.ready.range _ c.count-one.ensures.counted _ _ c.no_areas-counted.ensures c.add_area.ensures.added in
     let e : c.from_residual.result ≡ Err c.in_err-ask_room.field-0.0 = search rules in
     rw e (refuses_plan _ _ a.row_runs.now a.column_runs.now
     (room_refused (sides_in x) _ gs _ all (room_in a.row_runs.now) (room_in a.column_runs.now) _ c.in_err-ask_room.ensures
@@ -77,7 +77,7 @@ write_by-requires-clause-writable c =
     let x = a.self.now.sheet.shared.now in
     let g = a.self.now.ready.range in
     let one = c.count-one.ensures.counted in
-    let all = all_counted x _ g _ one _ _ c.no_areas.ensures c.add_area-counted.ensures.added in
+    let all = all_counted x _ g _ one _ _ c.no_areas-counted.ensures c.add_area.ensures.added in
     let fit = runs_fit_lem (sides_in x) _ (g ∷ []) _ all (room_in a.row_runs.now) (room_in a.column_runs.now) _ c.in_ok-ask_room.ensures (omega arith) in
     can_write x _ g _ one a.row_runs.now a.column_runs.now fit.0 fit.1
 
@@ -88,7 +88,7 @@ returns c =
     let x = a.self.now.sheet.shared.now in
     let g = a.self.now.ready.range in
     let one = c.count-one.ensures.counted in
-    let all = all_counted x _ g _ one _ _ c.no_areas.ensures c.add_area-counted.ensures.added in
+    let all = all_counted x _ g _ one _ _ c.no_areas-counted.ensures c.add_area.ensures.added in
     let room = room_given (sides_in x) _ (g ∷ []) _ all (room_in a.row_runs.now) (room_in a.column_runs.now) _ c.in_ok-ask_room.ensures (omega arith) in
     answers_plan _ (layout (sides_in x) _ (g ∷ [])) _ room
     (c.plan_of.ensures ∙ plan_value x _ a.self.now.sheet.settled (g ∷ []) _ all) a.row_runs.now a.column_runs.now _ _
