@@ -1,8 +1,9 @@
 // The call that cuts an axis into a lent list: document 01, sections "Titles" and "Runs".
 ghost use Rattle.planner_rules.specs.Titles.{limit_of};
-ghost use Rattle.planner_rules.specs.Runs.{axis_runs, axis_tally};
+ghost use Rattle.planner_rules.specs.Runs.{axis_tally};
 ghost use Rattle.planner_rules.specs.Lent.{room_in};
 ghost use Rattle.planner_rules.specs.Partition as call;
+ghost use Rattle.planner.specs.Axes as axes;
 
 use crate::page::ScaledPage;
 use crate::places::place_of;
@@ -20,14 +21,11 @@ fn partition_slots(
     breaks: &[u32],
     list: &mut [u64],
 ) -> Result<Tally, Refusal>
-    ensures { let k = cutter.entry.frame in
-        let firsts = cutter.entry.merges.firsts.now in
-        let lasts = cutter.entry.merges.lasts.now in
+    ensures { let merges = cutter.entry.merges in
+        let runs = axes.axis_runs_by cutter.entry slots.entry breaks.now in
         let is = slots.entry.indexes.now in
-        let ss = slots.entry.sizes.now in
-        let bs = breaks.now in
-        let runs = axis_runs k firsts lasts is ss 0 bs in
-        call.Answered (call.room_for runs (axis_tally k firsts lasts is ss bs) (room_in list.old)) runs result list.old list.new }
+        let tally = axis_tally cutter.entry.frame merges.firsts.now merges.lasts.now is slots.entry.sizes.now breaks.now in
+        call.Answered (call.room_for runs tally (room_in list.old)) runs result list.old list.new }
 {
     // how many runs overflow is not answered, so that any page serves
     let page = ScaledPage {

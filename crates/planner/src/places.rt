@@ -17,7 +17,8 @@ pub(crate) fn place_of(indexes: &[u32], limit: u64) -> usize
 
 // The cut of a break at the place p, whose boundary `held` holds.
 pub(crate) fn moved_cut(held: Option<Span>, prev: usize, p: usize, slots: Measured) -> Cut
-    ensures { result ≡ moved held prev p slots.entry.indexes.now }
+    ensures value { result ≡ moved held prev p slots.entry.indexes.now }
+    ensures once { result.shifted ≤ 1 }
 {
     let Some(span) = held else {
         return Cut {

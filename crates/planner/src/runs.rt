@@ -1,11 +1,12 @@
 // Where the slots of an axis are cut into runs: document 01, section "Runs".
 ghost use Rattle.std.specs.Prelude.{◌≡◌, false, [], ◌∷◌, ◌++◌, ◌+◌, ◌≤◌, ◌<◌, length, take, drop};
 ghost use Rattle.planner_rules.specs.Slots.{sum, below, written};
-ghost use Rattle.planner_rules.specs.Runs.{holding, filled, resumed, resumption, taken, merged, ends, run_end, runs, expansions, first_marked};
-ghost use Rattle.planner_rules.specs.Runs.{placed, next_cut, stretch, axis_runs, axis_tally};
+ghost use Rattle.planner_rules.specs.Runs.{holding, filled, resumed, resumption, taken, merged, ends, run_end, expansions, first_marked};
+ghost use Rattle.planner_rules.specs.Runs.{placed, next_cut, stretch, axis_tally};
 ghost use Rattle.planner_rules.specs.Lent.{Room, Written, RoomAt, WrittenAt, flat};
 ghost use Rattle.planner_rules.specs.Scale.{space_of};
 ghost use Rattle.planner_rules.specs.Pages.{or_empty, overflowing};
+ghost use Rattle.planner.specs.Axes as axes;
 
 use crate::filling::{Filling, natural_fill, total};
 use crate::page::ScaledPage;
@@ -200,11 +201,9 @@ impl Cutter<'_> {
     // Counts the runs of a stretch, and how many of them exceed their page.
     #[inline(always)]
     fn count_runs(self, page: ScaledPage, slots: Measured) -> Counted
-        ensures counts { let merges = self.entry.merges in
-            let k = self.entry.frame in
-            let rs = runs k merges.firsts.now merges.lasts.now slots.entry.indexes.now slots.entry.sizes.now in
+        ensures counts { let rs = axes.runs_by self.entry slots.entry in
             (result.runs ≡ length rs) × (result.grown ≡ expansions rs)
-            × (result.overflows ≡ overflowing (space_of page.side) k.title page.permille false rs) }
+            × (result.overflows ≡ overflowing (space_of page.side) self.entry.frame.title page.permille false rs) }
         ensures bounds { let n = length slots.entry.sizes.now in
             (result.runs ≤ n) × (result.grown ≤ n) × (result.overflows ≤ n) }
     {
@@ -231,12 +230,8 @@ impl Cutter<'_> {
     // Writes the runs of a stretch to the front of a lent list, the first with the mark, and returns how many numbers they have.
     #[inline(always)]
     fn write_runs(self, slots: Measured, mark: u64, list: &mut [u64]) -> usize
-        requires room { let merges = self.merges in
-            let rs = runs self.frame merges.firsts.now merges.lasts.now slots.indexes.now slots.sizes.now in
-            Room (first_marked mark rs) list.old }
-        ensures { let merges = self.entry.merges in
-            let rs = runs self.entry.frame merges.firsts.now merges.lasts.now slots.entry.indexes.now slots.entry.sizes.now in
-            Written (first_marked mark rs) result list.old list.new }
+        requires room { Room (first_marked mark (axes.runs_by self slots)) list.old }
+        ensures { Written (first_marked mark (axes.runs_by self.entry slots.entry)) result list.old list.new }
     {
         let mut rest = slots;
         let mut manual = mark;
@@ -262,8 +257,9 @@ impl Cutter<'_> {
     // The cut of a break at the place p; the last kept one where the break is skipped.
     #[inline(always)]
     fn placed_cut(self, slots: Measured, prev: usize, p: usize) -> Cut
-        ensures { let merges = self.entry.merges in
+        ensures value { let merges = self.entry.merges in
             result ≡ placed self.entry.frame merges.firsts.now merges.lasts.now slots.entry.indexes.now prev p }
+        ensures once { result.shifted ≤ 1 }
     {
         let skipped = Cut {
             place: prev,
@@ -324,7 +320,7 @@ impl Cutter<'_> {
             let ss = slots.entry.sizes.now in
             let bs = breaks.now in
             (result.tally ≡ axis_tally k firsts lasts is ss bs)
-            × (result.overflows ≡ overflowing (space_of page.side) k.title page.permille false (axis_runs k firsts lasts is ss 0 bs)) }
+            × (result.overflows ≡ overflowing (space_of page.side) k.title page.permille false (axes.axis_runs_by self.entry slots.entry bs)) }
         ensures bounds { let n = length slots.entry.sizes.now in
             (result.tally.runs ≤ n) × (result.tally.expansions ≤ n) × (result.tally.shifts ≤ length breaks.now) × (result.overflows ≤ n) }
     {
@@ -377,12 +373,8 @@ impl Cutter<'_> {
 
     // Writes the runs of an axis to the front of a lent list and returns how many numbers they have.
     pub(crate) fn write_axis(self, slots: Measured, breaks: &[u32], list: &mut [u64]) -> usize
-        requires room { let merges = self.merges in
-            Room (axis_runs self.frame merges.firsts.now merges.lasts.now slots.indexes.now slots.sizes.now 0 breaks.now) list.old }
-        ensures { let merges = self.entry.merges in
-            let is = slots.entry.indexes.now in
-            let ss = slots.entry.sizes.now in
-            Written (axis_runs self.entry.frame merges.firsts.now merges.lasts.now is ss 0 breaks.now) result list.old list.new }
+        requires room { Room (axes.axis_runs_by self slots breaks.now) list.old }
+        ensures { Written (axes.axis_runs_by self.entry slots.entry breaks.now) result list.old list.new }
     {
         let mut prev = 0;
         let mut at = 0;

@@ -1,9 +1,8 @@
 // How large a worksheet is printed: document 01, section "Scale".
 ghost use Rattle.std.specs.Prelude.{◌≡◌, false, cond, ◌&&◌, ◌+◌, ◌≤◌, ◌^◌, pos, length};
-ghost use Rattle.planner_rules.specs.Slots.{Slots};
-ghost use Rattle.planner_rules.specs.Runs.{runs};
-ghost use Rattle.planner_rules.specs.Scale.{capacity_of, fits_side, all_fit, meets, halve, fit_scale, space_of, scale_of, titled, Low, fit_passes, Fitted};
+ghost use Rattle.planner_rules.specs.Scale.{capacity_of, fits_side, all_fit, meets, halve, fit_scale, space_of, scale_of, titled};
 ghost use Rattle.planner_rules.specs.Scale as section;
+ghost use Rattle.planner.specs.Axes as axes;
 
 use crate::fitted::FittedAxis;
 use crate::page::ScaledPage;
@@ -96,10 +95,8 @@ pub(crate) fn excess(fits: bool) -> u64
 
 // Whether the runs of slots fit the page and meet the target: no more are cut once the answer is known.
 fn runs_pass(page: ScaledPage, cutter: Cutter, target: u16, slots: Measured) -> bool
-    ensures { let k = cutter.entry.frame in
-        let merges = cutter.entry.merges in
-        let rs = runs k merges.firsts.now merges.lasts.now slots.entry.indexes.now slots.entry.sizes.now in
-        result ≡ all_fit (space_of page.side) (titled k.title) page.permille rs && meets target (length rs) }
+    ensures { let rs = axes.runs_by cutter.entry slots.entry in
+        result ≡ all_fit (space_of page.side) (titled cutter.entry.frame.title) page.permille rs && meets target (length rs) }
 {
     let title = cutter.frame.title;
     let mut rest = slots;
@@ -121,9 +118,7 @@ fn runs_pass(page: ScaledPage, cutter: Cutter, target: u16, slots: Measured) -> 
 
 // Whether an axis passes at a permille: its runs, cut without breaks, fit the page and meet the target.
 fn fit_passes(axis: FittedAxis, permille: u16) -> bool
-    ensures { let slots = axis.entry.slots in
-        let merges = axis.entry.merges in
-        result ≡ fit_passes axis.entry.fit merges.firsts.now merges.lasts.now slots.indexes.now slots.sizes.now permille }
+    ensures { result ≡ axes.passes axis.entry permille }
 {
     let fit = axis.fit;
     let page = ScaledPage {
@@ -142,10 +137,7 @@ fn fit_passes(axis: FittedAxis, permille: u16) -> bool
 
 // Whether both axes pass at a permille: rows, then columns.
 fn both_pass(rows: FittedAxis, columns: FittedAxis, permille: u16) -> bool
-    ensures { let r = rows.entry in
-        let c = columns.entry in
-        result ≡ fit_passes r.fit r.merges.firsts.now r.merges.lasts.now r.slots.indexes.now r.slots.sizes.now permille
-        && fit_passes c.fit c.merges.firsts.now c.merges.lasts.now c.slots.indexes.now c.slots.sizes.now permille }
+    ensures { result ≡ axes.both_pass rows.entry columns.entry permille }
 {
     if !fit_passes(rows, permille) {
         return false;
@@ -155,10 +147,7 @@ fn both_pass(rows: FittedAxis, columns: FittedAxis, permille: u16) -> bool
 
 // The halving from 100 to 1,000.
 fn halved_permille(rows: FittedAxis, columns: FittedAxis) -> u16
-    ensures { let r = rows.entry in
-        let c = columns.entry in
-        result ≡ halve (λ p. fit_passes r.fit r.merges.firsts.now r.merges.lasts.now r.slots.indexes.now r.slots.sizes.now p
-        && fit_passes c.fit c.merges.firsts.now c.merges.lasts.now c.slots.indexes.now c.slots.sizes.now p) 10 100 1000 }
+    ensures { result ≡ halve (axes.both_pass rows.entry columns.entry) 10 100 1000 }
 {
     // Over numbers, of which there is no list: the library's search by halving goes over the elements of one.
     let mut low: u16 = 100;
@@ -176,10 +165,7 @@ fn halved_permille(rows: FittedAxis, columns: FittedAxis) -> u16
 
 // The scale at which both axes fit: 100 with a note where they do not fit there, and else by halving.
 pub(crate) fn fit_scale(rows: FittedAxis, columns: FittedAxis) -> ChosenScale
-    ensures { let r = rows.entry in
-        let c = columns.entry in
-        scale_of result ≡ fit_scale (λ p. fit_passes r.fit r.merges.firsts.now r.merges.lasts.now r.slots.indexes.now r.slots.sizes.now p
-        && fit_passes c.fit c.merges.firsts.now c.merges.lasts.now c.slots.indexes.now c.slots.sizes.now p) }
+    ensures { scale_of result ≡ fit_scale (axes.both_pass rows.entry columns.entry) }
 {
     if !both_pass(rows, columns, 100) {
         return ChosenScale {

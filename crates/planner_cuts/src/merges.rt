@@ -36,9 +36,11 @@ fn nearer_of(span: Span, b: u32, held: Option<Span>) -> Option<Span>
 fn none_holds(merges: MergeList, b: u32) -> bool
     ensures { result ≡ no_merge (λ f l. holds f l b) merges.entry.firsts.now merges.entry.lasts.now }
 {
+    let MergeList { firsts, lasts } = merges;
     let mut none = true;
-    for (first, last) in merges.firsts.iter().zip(merges.lasts) {
-        none = !((*first < b) & (b <= *last)) & none;
+    // By number: over a zip it takes a sixth more time.
+    for i in 0..firsts.len().min(lasts.len()) {
+        none = !((firsts[i] < b) & (b <= lasts[i])) & none;
     }
     none
 }

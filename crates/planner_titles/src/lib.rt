@@ -58,17 +58,13 @@ fn none_widens(span: Span, merges: MergeList) -> bool
     ensures { result ≡ no_merge (widens span) merges.entry.firsts.now merges.entry.lasts.now }
 {
     let Span { first, last } = span;
-    let firsts = merges.firsts;
-    let lasts = merges.lasts;
-    let end = firsts.len().min(lasts.len());
+    let MergeList { firsts, lasts } = merges;
     let mut none = true;
-    let mut i = 0;
     // By number: over a zip, which ends where either list does, the machine asks one merge at a time and takes twice as long.
-    while i < end {
+    for i in 0..firsts.len().min(lasts.len()) {
         let f = firsts[i];
         let l = lasts[i];
         none = !((f <= last) & ((first <= l) & !((first <= f) & (l <= last)))) & none;
-        i += 1;
     }
     none
 }

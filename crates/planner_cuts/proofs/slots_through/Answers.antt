@@ -40,7 +40,9 @@ loop-n-preserved c =
     let i = c.loop-n.invariant in
     let s = c.in-Some.ensures.steps in
     let x = c.in-Some.index.now in
-    (s.0 ∙ i.0, (x ∷ i.1.0, one_back c.args.last x c.args.indexes.now _ _ i.1.0 i.1.1 s.1.0, missed c.args.last x c.args.indexes.now _ _ i.1.0 i.1.1 s.1.0 i.1.2 (omega arith)))
+    let is = c.args.indexes.now in
+    let back = one_back c.args.last x is _ _ i.1.0 i.1.1 s.1.0 in
+    (s.0 ∙ i.0, (x ∷ i.1.0, back, missed c.args.last x is _ _ i.1.0 i.1.1 s.1.0 i.1.2 (omega arith)))
 
 pub returns-clause-value : goal.returns-clause-value
 returns-clause-value c =

@@ -1,7 +1,8 @@
 -- A turn asks the middle, which lies above low and not above high.
-use Rattle.std.proofs.Common.{ℕ, Bool, ◌&&◌, sym, arith}
-use Rattle.planner_rules.specs.Scale.{fit_passes, middle, halve}
+use Rattle.std.proofs.Common.{sym, arith}
+use Rattle.planner_rules.specs.Scale.{middle, halve}
 use Rattle.planner_rules.proofs.Halving.{halving_stop, up_at, down_at}
+use Rattle.planner.specs.Axes.{both_pass}
 use Rattle.planner.proofs.scale.halved_permille.Goals as goal
 
 pub loop-low-smaller-then-both_pass : goal.loop-low-smaller-then-both_pass
@@ -13,9 +14,7 @@ unfolding middle
 loop-low-preserved-then-both_pass c =
     let a = c.args in
     let l = c.loop-low in
-    let passes : ℕ → Bool = λ p.
-    fit_passes a.rows.fit a.rows.merges.firsts.now a.rows.merges.lasts.now a.rows.slots.indexes.now a.rows.slots.sizes.now p
-    && fit_passes a.columns.fit a.columns.merges.firsts.now a.columns.merges.lasts.now a.columns.slots.indexes.now a.columns.slots.sizes.now p in
+    let passes = both_pass a.rows a.columns in
     record {
       from = omega (arith, c.middle_of-middle.ensures, l.invariant.from);
       to = l.invariant.to;
@@ -38,9 +37,7 @@ unfolding middle
 loop-low-preserved c =
     let a = c.args in
     let l = c.loop-low in
-    let passes : ℕ → Bool = λ p.
-    fit_passes a.rows.fit a.rows.merges.firsts.now a.rows.merges.lasts.now a.rows.slots.indexes.now a.rows.slots.sizes.now p
-    && fit_passes a.columns.fit a.columns.merges.firsts.now a.columns.merges.lasts.now a.columns.slots.indexes.now a.columns.slots.sizes.now p in
+    let passes = both_pass a.rows a.columns in
     record {
       from = l.invariant.from;
       to = omega (arith, c.middle_of-middle.ensures, c.loop-low-test.true, l.invariant.to);
@@ -54,7 +51,5 @@ pub returns : goal.returns
 returns c =
     let a = c.args in
     let l = c.loop-low in
-    let passes : ℕ → Bool = λ p.
-    fit_passes a.rows.fit a.rows.merges.firsts.now a.rows.merges.lasts.now a.rows.slots.indexes.now a.rows.slots.sizes.now p
-    && fit_passes a.columns.fit a.columns.merges.firsts.now a.columns.merges.lasts.now a.columns.slots.indexes.now a.columns.slots.sizes.now p in
+    let passes = both_pass a.rows a.columns in
     halving_stop passes (halve passes 10 100 1000) l.low l.high c.loop-low-test.false l.invariant.halving

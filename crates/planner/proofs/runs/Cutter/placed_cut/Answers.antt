@@ -5,17 +5,17 @@ use Rattle.planner_rules.specs.Runs.{moved}
 use Rattle.planner_rules.proofs.AxisLaws.{placed_zero, placed_past, placed_title, placed_moved}
 use Rattle.planner.proofs.runs.Cutter.placed_cut.Goals as goal
 
-pub returns-then-p-eq0 : goal.returns-then-p-eq0
-returns-then-p-eq0 c = placed_zero _ _ _ _ _ _ (omega arith)
+pub returns-then-p-eq0-clause-value : goal.returns-then-p-eq0-clause-value
+returns-then-p-eq0-clause-value c = placed_zero _ _ _ _ _ _ (omega arith)
 
-pub returns-then-p-slots : goal.returns-then-p-slots
-returns-then-p-slots c = placed_past _ _ _ _ _ _ (omega arith) (omega arith)
+pub returns-then-p-slots-clause-value : goal.returns-then-p-slots-clause-value
+returns-then-p-slots-clause-value c = placed_past _ _ _ _ _ _ (omega arith) (omega arith)
 
-pub returns-then-title_holds : goal.returns-then-title_holds
-returns-then-title_holds c = placed_title _ _ _ _ _ _ (omega arith) (omega arith) (sym c.title_holds.ensures ∙ c.if-title_holds.true)
+pub returns-then-title_holds-clause-value : goal.returns-then-title_holds-clause-value
+returns-then-title_holds-clause-value c = placed_title _ _ _ _ _ _ (omega arith) (omega arith) (sym c.title_holds.ensures ∙ c.if-title_holds.true)
 
-pub returns : goal.returns
-returns c =
+pub returns-clause-value : goal.returns-clause-value
+returns-clause-value c =
     let a = c.args in
-    c.moved_cut.ensures ∙ ap (λ (h : Option Span). moved h a.prev a.p a.slots.indexes.now) c.holder.ensures
+    c.moved_cut.ensures.value ∙ ap (λ (h : Option Span). moved h a.prev a.p a.slots.indexes.now) c.holder.ensures
     ∙ placed_moved _ _ _ _ _ _ (omega arith) (omega arith) (sym c.title_holds.ensures ∙ c.if-title_holds.false)
