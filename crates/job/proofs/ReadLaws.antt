@@ -5,7 +5,7 @@ use mathlib.Core.List.{List}
 use Prim.Native.Nat.{ℕ, ◌≤◌}
 use native.Mathlib.Omega.{arith}
 use lib.ListN.{length, take, drop, length-map, length-append}
-use lib.Seq.{length-take-le, take_at}
+use lib.Seq.{take_at}
 use borrow.Author.Tests.{eq-eqb}
 use Rattle.units.specs.Outcome.{Outcome, given, refused, and_then}
 use Rattle.planner_rules.specs.Slots.{written}
@@ -47,10 +47,6 @@ holds_of room {s} {ri} {rs} {ci} {cs} {fr} {fc} {lr} {lc} w a b c d e f g h i j 
   );
   room = λ q. rw (← a, ← c, ← e, ← i, ← j) (items_fit (length s) room (w q) s (omega arith));
 }
-
--- a part of a list, by its length
-pub part_long : (n : ℕ) (xs : List ℕ) → n ≤ length xs → n ≡ length (take n xs)
-part_long n xs h = sym (length-take-le n xs h)
 
 -- ---- the lists after a job was read
 
