@@ -2,12 +2,8 @@
 use mathlib.Core.Path.{◌∙◌}
 use Rattle.job_records.specs.Records.{AR, records}
 use Rattle.job_walk.specs.Walk.{in_place}
-use Rattle.job_walk.proofs.WalkLaws.{among_counted, past_counted}
+use Rattle.job_walk.proofs.WalkLaws.{among_counted}
 use Rattle.job_walk.proofs.counted_area.Goals as goal
-
-pub returns-then-before-count : goal.returns-then-before-count
-returns-then-before-count c =
-    c.nowhere.ensures ∙ past_counted c.args.before c.args.count (in_place AR (records c.args.bytes.now)) c.if-before-count.true
 
 pub returns : goal.returns
 returns c =
