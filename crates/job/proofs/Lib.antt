@@ -1,5 +1,4 @@
 -- Laws that belong to no one function.
-pub mod JobLaws
 pub mod ReadLaws
 pub mod Agreement
 pub mod CountedAreas

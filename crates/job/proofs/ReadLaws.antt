@@ -5,7 +5,7 @@ use mathlib.Core.List.{List}
 use Prim.Native.Nat.{ℕ, ◌≤◌}
 use native.Mathlib.Omega.{arith}
 use lib.ListN.{length, take, drop, length-map, length-append}
-use lib.Seq.{length-take-le, take_at}
+use lib.Seq.{take_at}
 use borrow.Author.Tests.{eq-eqb}
 use Rattle.units.specs.Outcome.{Outcome, given, refused, and_then}
 use Rattle.planner_rules.specs.Slots.{written}
@@ -20,11 +20,14 @@ use Rattle.job_questions.specs.Verdict.{verdict_lent, question1}
 use Rattle.job_reader.specs.Reading.{Lists, lists, even_lists as items_even, room_in, read_job, job_of, JobRead}
 use Rattle.job_reader.proofs.ReadingLaws.{admit_refused, read_refused}
 use Rattle.job_reader.proofs.ItemRoom.{Brings, items_fit, all_answered, read_whole}
-use Rattle.job_settings.specs.Meaning.{areas_for}
-use Rattle.job.specs.declared.bytes.Wanted.{Wanted}
-use Rattle.job.specs.declared.bytes.Answer.{Answer}
-use Rattle.job.specs.PlanJob.{sheet_read, job_lists, job_sheet, job_areas, fronts, Filled, ReadTold, Holds, JobTold}
-use Rattle.job.proofs.JobLaws.{refused_told, same_told}
+use Rattle.job_settings.specs.Meaning.{settings_for, areas_for}
+use Rattle.planner_rules.specs.Plan.{Sheet, sheet_of}
+use Rattle.planner_rules.specs.Asked.{sheet_with}
+use Rattle.planner_rules.specs.declared.lists.SheetLists.{SheetLists}
+use Rattle.planner_rules.specs.declared.planning.Settings.{Settings}
+use Rattle.job_settings.specs.declared.JobSettings.{JobSettings}
+use Rattle.planner_rules.specs.declared.planning.Areas.{Areas}
+use Rattle.job.specs.PlanJob.{lists_in, sheet_read, job_lists, job_sheet, job_areas, fronts, Long, Telling, Holds, JobTold}
 
 -- ---- lists that hold what a job brings
 
@@ -44,10 +47,6 @@ holds_of room {s} {ri} {rs} {ci} {cs} {fr} {fc} {lr} {lc} w a b c d e f g h i j 
   );
   room = λ q. rw (← a, ← c, ← e, ← i, ← j) (items_fit (length s) room (w q) s (omega arith));
 }
-
--- a part of a list, by its length
-pub part_long : (n : ℕ) (xs : List ℕ) → n ≤ length xs → n ≡ length (take n xs)
-part_long n xs h = sym (length-take-le n xs h)
 
 -- ---- the lists after a job was read
 
@@ -154,40 +153,51 @@ module _ (s : List ℕ) {before : Lists} (holds : Holds s before) where
       go (given items) i h = (cc, (items, i))
       go (refused m) i h = let z : ◌≡◌ {A = ℕ} 0 1 = cc in absurd (omega arith)
 
+-- the sheet of settings as the planner has them
+abbrev sheet_by : JobSettings → Settings → Lists → Sheet
+sheet_by j set l =
+    sheet_of set j.row_title j.column_title l.row_indexes l.row_sizes l.column_indexes l.column_sizes
+    l.merge_first_rows l.merge_first_columns l.merge_last_rows l.merge_last_columns l.row_breaks l.column_breaks
+
+-- the clauses of an answer, of the same job
+same_told : {A : Type 0} (told : Telling A) {v u : Outcome Items} {s t : Sheet} {a b : Areas} → v ≡ u → s ≡ t → a ≡ b
+    → (r : Result A Refusal) (rows₀ columns₀ rows columns : List ℕ) → told v s a r rows₀ columns₀ rows columns → told u t b r rows₀ columns₀ rows columns
+same_told told e f g r rows₀ columns₀ rows columns t = rw (← e, ← f, ← g) t
+
 -- a job that was read to lists that hold it, and answered
 module _ {s : List ℕ} {before after : Lists} (holds : Holds s before) {got : Result Job Refusal} (w : JobRead s got before after) where
   yes_is : (j : Job) → got ≡ Ok j → (j ≡ job_of (records s)) × ((items : Items) × (verdict_lent true s ≡ given items))
   yes_is j k = verdict_yes s holds j (sym (ap outcome k) ∙ w.answer)
 
-  pub was_filled : Filled got after
-  was_filled = record {
-    filled = λ j k.
-        let f = read_to s before after got w j k (yes_is j k).0 in
-        record {
-          row_indexes_long = f.row_indexes.few;
-          row_sizes_long = f.row_sizes.few;
-          column_indexes_long = f.column_indexes.few;
-          column_sizes_long = f.column_sizes.few;
-          merge_first_rows_long = f.merge_first_rows.few;
-          merge_first_columns_long = f.merge_first_columns.few;
-          merge_last_rows_long = f.merge_last_rows.few;
-          merge_last_columns_long = f.merge_last_columns.few;
-          row_breaks_long = f.row_breaks.few;
-          column_breaks_long = f.column_breaks.few;
-        };
-  }
+  pub long_lists : (j : Job) → got ≡ Ok j → Long j.items after
+  long_lists j k =
+      let f = read_to s before after got w j k (yes_is j k).0 in
+      record {
+        row_indexes_long = f.row_indexes.few;
+        row_sizes_long = f.row_sizes.few;
+        column_indexes_long = f.column_indexes.few;
+        column_sizes_long = f.column_sizes.few;
+        merge_first_rows_long = f.merge_first_rows.few;
+        merge_first_columns_long = f.merge_first_columns.few;
+        merge_last_rows_long = f.merge_last_rows.few;
+        merge_last_columns_long = f.merge_last_columns.few;
+        row_breaks_long = f.row_breaks.few;
+        column_breaks_long = f.column_breaks.few;
+      }
 
-  pub job_told : (x : Wanted) (r : Answer) (rows₀ columns₀ rows columns : List ℕ) → ReadTold x got after r rows₀ columns₀ rows columns
-      → JobTold x s r rows₀ columns₀ rows columns
-  job_told x r rows₀ columns₀ rows columns t = go got refl
-    where
-      go : (q : Result Job Refusal) → got ≡ q → JobTold x s r rows₀ columns₀ rows columns
-      go (Err n) k =
-          let told = t.no n k in
-          rw (told.0, told.1.0, told.1.1)
-          (refused_told x n (verdict_no s holds (number_of n) (sym (ap outcome k) ∙ w.answer)) (job_sheet s) (job_areas s) rows₀ columns₀)
-      go (Ok j) k =
-          let y = yes_is j k in
-          let m = y.0 in
-          same_told x (sym y.1.1) (sheet_is s j after m (read_to s before after got w j k m)) (areas_are s j m) r rows₀ columns₀ rows columns
-          (t.yes j k y.1.0)
+  module _ {A : Type 0} (told : Telling A) {r : Result A Refusal} (rows₀ columns₀ rows columns : List ℕ) where
+    -- a refusal of the reader is the questions'
+    pub refusal_told : {x : Refusal} → got ≡ Err x → told (refused (number_of x)) (job_sheet s) (job_areas s) r rows₀ columns₀ rows columns
+        → JobTold told s r rows₀ columns₀ rows columns
+    refusal_told {x} k t =
+        same_told told (sym (verdict_no s holds (number_of x) (sym (ap outcome k) ∙ w.answer))) refl refl r rows₀ columns₀ rows columns t
+
+    -- an answer to what was read answers the job
+    pub reading_told : {j : Job} → got ≡ Ok j → {set : Settings} {areas : Areas} (l : SheetLists) → set ≡ settings_for j.settings
+        → areas ≡ areas_for j.settings.areas → lists_in l ≡ fronts j.items after
+        → ((items : Items) → told (given items) (sheet_with set j.settings.row_title j.settings.column_title l) areas r rows₀ columns₀ rows columns)
+        → JobTold told s r rows₀ columns₀ rows columns
+    reading_told {j} k l e f h t =
+        let y = yes_is j k in
+        same_told told (sym y.1.1) (ap₂ (sheet_by j.settings) e h ∙ sheet_is s j after y.0 (read_to s before after got w j k y.0))
+        (f ∙ areas_are s j y.0) r rows₀ columns₀ rows columns (t y.1.0)

@@ -1,2 +1,3 @@
 -- What the contracts of `job` cite.
 pub mod PlanJob
+pub mod Refused

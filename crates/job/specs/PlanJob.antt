@@ -1,6 +1,6 @@
 -- The plan of a job's bytes: document 01, sections "Jobs" and "Questions in order", and document 02, T-02. Assumes nothing.
-use Rattle.std.specs.Prelude.{◌≡◌, true, List, ℕ, suc, ◌*◌, ◌<◌, ◌≤◌, length, take, Result, Ok, Err}
-use Rattle.units.specs.Outcome.{Outcome, given, and_then}
+use Rattle.std.specs.Prelude.{◌≡◌, true, List, ℕ, suc, ◌*◌, ◌<◌, ◌≤◌, length, take, Result}
+use Rattle.units.specs.Outcome.{Outcome, and_then}
 use Rattle.planner_rules.specs.declared.lists.SheetLists.{SheetLists}
 use Rattle.planner_rules.specs.declared.planning.Areas.{Areas}
 use Rattle.planner_rules.specs.Plan.{Sheet, Layout, AreaLayout, Planned, Counted, AreaWrote, sheet_of, planned, counted, area_written}
@@ -10,18 +10,12 @@ use Rattle.planner_rules.specs.declared.planning.RunCounts.{RunCounts}
 use Rattle.job_records.specs.Records.{RW, CL, MR, BR, BC, records, values}
 use Rattle.job_questions.specs.Verdict.{verdict, question1, items_of}
 use Rattle.job_reader.specs.Reading.{Lists, lists, even_lists, room_in, fit_in}
-use Rattle.job_reader.specs.declared.lists.Job.{Job}
 use Rattle.units.specs.declared.refusal.Refusal.{Refusal}
-use Rattle.units.specs.declared.refusal.Refusal.TheVariants as no
 use Rattle.units.specs.Refusals.{outcome}
 use Rattle.job_settings.specs.Meaning.{settings_for, areas_for}
 use Rattle.job_reader.specs.Settings.{settings_of}
 use Rattle.job_questions.specs.declared.Items.{Items}
 use Rattle.job_settings.specs.declared.JobSettings.{JobSettings}
-use Rattle.job.specs.declared.bytes.Wanted.{Wanted}
-use Rattle.job.specs.declared.bytes.Wanted.TheVariants.{Plan, Count, Area}
-use Rattle.job.specs.declared.bytes.Answer.{Answer}
-use Rattle.job.specs.declared.bytes.Answer.TheVariants.{ToPlan, ToWrite}
 
 -- ---- what was read, as the planner takes it
 
@@ -71,39 +65,29 @@ write_job_area s n p rows columns = and_then (verdict s) (λ (items : Items). ar
 
 -- ---- for the private functions
 
--- the planning and the writing of an answer; what it does not have is refused
-abbrev pub planning_in : Answer → Result pages.Plan Refusal
-planning_in (ToPlan r) = r
-planning_in (ToWrite r) = Err no.CoordinateOverflow
-
-abbrev pub writing_in : Answer → Result RunCounts Refusal
-writing_in (ToPlan r) = Err no.CoordinateOverflow
-writing_in (ToWrite r) = r
-
--- the refusal of what is wanted
-abbrev pub refused_to : Wanted → Refusal → Answer
-refused_to Plan x = ToPlan (Err x)
-refused_to Count x = ToPlan (Err x)
-refused_to (Area k p) x = ToWrite (Err x)
-
 -- the four clauses: the answer r and the run lists, which were rows₀ and columns₀, where the outcome is o
 abbrev pub PlanTold : Outcome Layout → Sheet → Areas → Outcome pages.Plan → List ℕ → List ℕ → List ℕ → List ℕ → Type 0
 PlanTold o s areas r rows₀ columns₀ rows columns =
     Planned o r rows₀ columns₀ rows columns
     × (CoversPairs r s areas rows columns × (FewestPlan r s areas rows columns × LargestPlan r s areas))
 
--- the clauses of what is wanted, of a job whose questions come to v
-abbrev pub Told : Wanted → Outcome Items → Sheet → Areas → Answer → List ℕ → List ℕ → List ℕ → List ℕ → Type 0
-Told Plan v s areas r rows₀ columns₀ rows columns =
-    PlanTold (and_then v (λ (items : Items). planned s areas rows₀ columns₀)) s areas (outcome (planning_in r)) rows₀ columns₀ rows columns
-Told Count v s areas r rows₀ columns₀ rows columns = Counted (and_then v (λ (items : Items). counted s areas)) (outcome (planning_in r))
-Told (Area n p) v s areas r rows₀ columns₀ rows columns =
-    AreaWrote (and_then v (λ (items : Items). area_written s areas n p rows₀ columns₀)) (outcome (writing_in r)) rows₀ columns₀ rows columns
+-- clauses of an answer to a job whose questions come to an outcome: the answer, the run lists before it and those after it
+abbrev pub Telling : Type 0 → Type 1
+Telling A = Outcome Items → Sheet → Areas → Result A Refusal → List ℕ → List ℕ → List ℕ → List ℕ → Type 0
 
--- the same of settings and ten lists, whatever the questions come to where a job was read
-abbrev pub ListsTold : Wanted → JobSettings → Lists → Answer → List ℕ → List ℕ → List ℕ → List ℕ → Type 0
-ListsTold w j l r rows₀ columns₀ rows columns =
-    (items : Items) → Told w (given items) (sheet_read j l) (areas_for j.areas) r rows₀ columns₀ rows columns
+-- of its plan
+abbrev pub plan_told : Telling pages.Plan
+plan_told v s areas r rows₀ columns₀ rows columns =
+    PlanTold (and_then v (λ (items : Items). planned s areas rows₀ columns₀)) s areas (outcome r) rows₀ columns₀ rows columns
+
+-- of how many pages it has
+abbrev pub count_told : Telling pages.Plan
+count_told v s areas r rows₀ columns₀ rows columns = Counted (and_then v (λ (items : Items). counted s areas)) (outcome r)
+
+-- of the runs of the area with the number n at the permille p
+abbrev pub area_told : ℕ → ℕ → Telling RunCounts
+area_told n p v s areas r rows₀ columns₀ rows columns =
+    AreaWrote (and_then v (λ (items : Items). area_written s areas n p rows₀ columns₀)) (outcome r) rows₀ columns₀ rows columns
 
 -- the fronts of ten lists, as long as so many items say
 abbrev pub fronts : Items → Lists → Lists
@@ -125,15 +109,6 @@ pub record Long (n : Items) (l : Lists) : Type 0 where
   pub row_breaks_long : n.row_breaks ≤ length l.row_breaks
   pub column_breaks_long : n.column_breaks ≤ length l.column_breaks
 
--- what was read, if a job was, stands in the lists
-pub record Filled (reading : Result Job Refusal) (l : Lists) : Type 0 where
-  pub filled : (j : Job) → reading ≡ Ok j → Long j.items l
-
--- a refusal is handed on, and writes nothing; a job is answered
-pub record ReadTold (w : Wanted) (reading : Result Job Refusal) (l : Lists) (r : Answer) (rows₀ columns₀ rows columns : List ℕ) : Type 0 where
-  pub no : (x : Refusal) → reading ≡ Err x → (r ≡ refused_to w x) × ((rows ≡ rows₀) × (columns ≡ columns₀))
-  pub yes : (j : Job) → reading ≡ Ok j → ListsTold w j.settings (fronts j.items l) r rows₀ columns₀ rows columns
-
 -- room for all that a job's bytes bring where question 1 lets them pass: one item more of a kind has more bytes than those
 pub record RoomFor (s : List ℕ) (rows columns row_breaks column_breaks : ℕ) : Type 0 where
   pub rows_held : question1 s ≡ true → length s < 14 * suc rows
@@ -147,6 +122,6 @@ pub record Holds (s : List ℕ) (l : Lists) : Type 0 where
   pub even : even_lists l ≡ true
   pub room : question1 s ≡ true → fit_in (items_of (records s)) (room_in l) ≡ true
 
--- the clauses of what is wanted of a job's bytes
-abbrev pub JobTold : Wanted → List ℕ → Answer → List ℕ → List ℕ → List ℕ → List ℕ → Type 0
-JobTold w s r rows₀ columns₀ rows columns = Told w (verdict s) (job_sheet s) (job_areas s) r rows₀ columns₀ rows columns
+-- clauses of the answer to a job's bytes
+abbrev pub JobTold : {A : Type 0} → Telling A → List ℕ → Result A Refusal → List ℕ → List ℕ → List ℕ → List ℕ → Type 0
+JobTold told s r rows₀ columns₀ rows columns = told (verdict s) (job_sheet s) (job_areas s) r rows₀ columns₀ rows columns

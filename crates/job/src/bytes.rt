@@ -7,86 +7,12 @@ ghost use Rattle.planner_rules.specs.Demand.{CoversPairs, FewestPlan, LargestPla
 ghost use Rattle.job_reader.specs.Reading.{lists_in};
 ghost use Rattle.job.specs.PlanJob as section;
 
+use crate::wanted::{AreaRuns, PageCount, Wanted, WholePlan};
 use job_questions::Items;
-use job_reader::{Job, JobLists, read_job};
-use job_settings::{JobSettings, areas_for, settings_for};
-use planner::{count_pages, plan_pages, write_area};
+use job_reader::{JobLists, read_job};
+use job_settings::{areas_for, settings_for};
 use planner_rules::{AxisLists, MergeList, Plan, Request, RunCounts, SheetLists, SlotList};
 use units::Refusal;
-
-// What is asked of a job: its plan, how many pages it has, or the runs of the area with a number, from 1, at a permille.
-#[derive(Clone, Copy)]
-pub(crate) enum Wanted {
-    Plan,
-    Count,
-    Area(u64, u16),
-}
-
-// What is answered: the first two are answered with a planning, the third with a writing.
-#[derive(Clone, Copy)]
-pub(crate) enum Answer {
-    ToPlan(Result<Plan, Refusal>),
-    ToWrite(Result<RunCounts, Refusal>),
-}
-
-fn planning_in(answer: Answer) -> Result<Plan, Refusal>
-    ensures { result ≡ section.planning_in answer }
-{
-    match answer {
-        Answer::ToPlan(planning) => planning,
-        Answer::ToWrite(_) => Err(Refusal::CoordinateOverflow),
-    }
-}
-
-fn writing_in(answer: Answer) -> Result<RunCounts, Refusal>
-    ensures { result ≡ section.writing_in answer }
-{
-    match answer {
-        Answer::ToPlan(_) => Err(Refusal::CoordinateOverflow),
-        Answer::ToWrite(writing) => writing,
-    }
-}
-
-fn refused_to(wanted: Wanted, refusal: Refusal) -> Answer
-    ensures { result ≡ section.refused_to wanted refusal }
-{
-    match wanted {
-        Wanted::Plan => Answer::ToPlan(Err(refusal)),
-        Wanted::Count => Answer::ToPlan(Err(refusal)),
-        Wanted::Area(_, _) => Answer::ToWrite(Err(refusal)),
-    }
-}
-
-// Answers what is wanted of settings and lists.
-fn answer_lists(
-    wanted: Wanted,
-    read: JobSettings,
-    lists: &SheetLists,
-    row_runs: &mut [u64],
-    column_runs: &mut [u64],
-) -> Answer
-    ensures { section.ListsTold wanted read (section.lists_in lists.now)
-        result row_runs.old column_runs.old row_runs.new column_runs.new }
-{
-    let request = Request {
-        settings: settings_for(read),
-        areas: areas_for(read.areas),
-        row_title: read.row_title,
-        column_title: read.column_title,
-    };
-    match wanted {
-        Wanted::Plan => Answer::ToPlan(plan_pages(&request, lists, row_runs, column_runs)),
-        Wanted::Count => Answer::ToPlan(count_pages(&request, lists)),
-        Wanted::Area(number, permille) => Answer::ToWrite(write_area(
-            &request,
-            lists,
-            number,
-            permille,
-            row_runs,
-            column_runs,
-        )),
-    }
-}
 
 // The fronts of lent lists, as long as so many items say.
 fn fronts<'a>(items: Items, lent: &'a JobLists<'_>) -> SheetLists<'a>
@@ -119,53 +45,45 @@ fn fronts<'a>(items: Items, lent: &'a JobLists<'_>) -> SheetLists<'a>
     }
 }
 
-// Answers what is wanted of what was read to lent lists.
-fn answer_read(
-    wanted: Wanted,
-    reading: Result<Job, Refusal>,
-    lent: &JobLists<'_>,
-    row_runs: &mut [u64],
-    column_runs: &mut [u64],
-) -> Answer
-    requires { section.Filled reading (lists_in lent.now) }
-    ensures { section.ReadTold wanted reading (lists_in lent.now)
-        result row_runs.old column_runs.old row_runs.new column_runs.new }
-{
-    match reading {
-        Err(refusal) => refused_to(wanted, refusal),
-        Ok(job) => {
-            let lists = fronts(job.items, lent);
-            answer_lists(wanted, job.settings, &lists, row_runs, column_runs)
-        }
-    }
-}
-
 // Reads a job into ten lists that hold its items, and answers what is wanted of it.
-fn answer_in(
-    wanted: Wanted,
+fn answer_in<W: Wanted>(
+    wanted: W,
     bytes: &[u8],
     lent: &mut JobLists<'_>,
     row_runs: &mut [u64],
     column_runs: &mut [u64],
-) -> Answer
+) -> Result<W::Answer, Refusal>
     requires { section.Holds bytes.now (lists_in lent.old) }
-    ensures { section.JobTold wanted bytes.now result row_runs.old column_runs.old row_runs.new
+    ensures { section.JobTold (W.told wanted) bytes.now result row_runs.old column_runs.old row_runs.new
         column_runs.new }
 {
-    let reading = read_job(bytes, lent);
-    answer_read(wanted, reading, lent, row_runs, column_runs)
+    let job = read_job(bytes, lent)?;
+    let lists = fronts(job.items, lent);
+    let request = Request {
+        settings: settings_for(job.settings),
+        areas: areas_for(job.settings.areas),
+        row_title: job.settings.row_title,
+        column_title: job.settings.column_title,
+    };
+    wanted.answer(&request, &lists, row_runs, column_runs)
 }
 
 // Answers what is wanted of a job, by arrays that hold so many rows and merges, columns and breaks.
 #[inline(never)]
 fn answer_sized<
+    W: Wanted,
     const ROWS: usize,
     const COLUMNS: usize,
     const ROW_BREAKS: usize,
     const COLUMN_BREAKS: usize,
->(wanted: Wanted, bytes: &[u8], row_runs: &mut [u64], column_runs: &mut [u64]) -> Answer
+>(
+    wanted: W,
+    bytes: &[u8],
+    row_runs: &mut [u64],
+    column_runs: &mut [u64],
+) -> Result<W::Answer, Refusal>
     requires { section.RoomFor bytes.now ROWS COLUMNS ROW_BREAKS COLUMN_BREAKS }
-    ensures { section.JobTold wanted bytes.now result row_runs.old column_runs.old row_runs.new
+    ensures { section.JobTold (W.told wanted) bytes.now result row_runs.old column_runs.old row_runs.new
         column_runs.new }
 {
     let mut row_indexes = [0u32; ROWS];
@@ -194,28 +112,34 @@ fn answer_sized<
 }
 
 // An array is cleared before it is lent, so a job gets none that is much longer than its bytes can fill.
-fn answer_job(wanted: Wanted, bytes: &[u8], row_runs: &mut [u64], column_runs: &mut [u64]) -> Answer
-    ensures { section.JobTold wanted bytes.now result row_runs.old column_runs.old row_runs.new
+fn answer_job<W: Wanted>(
+    wanted: W,
+    bytes: &[u8],
+    row_runs: &mut [u64],
+    column_runs: &mut [u64],
+) -> Result<W::Answer, Refusal>
+    ensures { section.JobTold (W.told wanted) bytes.now result row_runs.old column_runs.old row_runs.new
         column_runs.new }
 {
     let n = bytes.len();
     if n <= 750 {
-        return answer_sized::<53, 62, 125, 187>(wanted, bytes, row_runs, column_runs);
+        return answer_sized::<W, 53, 62, 125, 187>(wanted, bytes, row_runs, column_runs);
     }
     if n <= 3000 {
-        return answer_sized::<214, 250, 500, 750>(wanted, bytes, row_runs, column_runs);
+        return answer_sized::<W, 214, 250, 500, 750>(wanted, bytes, row_runs, column_runs);
     }
     if n <= 12_000 {
-        return answer_sized::<857, 1000, 2000, 3000>(wanted, bytes, row_runs, column_runs);
+        return answer_sized::<W, 857, 1000, 2000, 3000>(wanted, bytes, row_runs, column_runs);
     }
     if n <= 24_000 {
-        return answer_sized::<1714, 2000, 4000, 6000>(wanted, bytes, row_runs, column_runs);
+        return answer_sized::<W, 1714, 2000, 4000, 6000>(wanted, bytes, row_runs, column_runs);
     }
-    answer_sized::<4285, 5000, 10_000, 15_000>(wanted, bytes, row_runs, column_runs)
+    answer_sized::<W, 4285, 5000, 10_000, 15_000>(wanted, bytes, row_runs, column_runs)
 }
 
 // Plans the pages of a job, area by area: each one's scale and its runs of rows and columns, which go to the fronts of two lent lists, area
 // after area, and the notes.
+#[tactic(auto, unfolding(crate::specs::PlanJob::plan_job))]
 pub fn plan_job(
     bytes: &[u8],
     row_runs: &mut [u64],
@@ -229,21 +153,21 @@ pub fn plan_job(
         FewestPlan (outcome result) (section.job_sheet s) (section.job_areas s) row_runs.new column_runs.new }
     ensures largest { let s = bytes.now in LargestPlan (outcome result) (section.job_sheet s) (section.job_areas s) }
 {
-    let answer = answer_job(Wanted::Plan, bytes, row_runs, column_runs);
-    planning_in(answer)
+    answer_job(WholePlan, bytes, row_runs, column_runs)
 }
 
 // The plan that `plan_job` answers where its lists are long enough, of a job whose runs are not written.
+#[tactic(auto, unfolding(crate::specs::PlanJob::count_job))]
 pub fn count_job(bytes: &[u8]) -> Result<Plan, Refusal>
     ensures { call.Counted (section.count_job bytes.now) (outcome result) }
 {
     let mut rows = [0u64; 0];
     let mut columns = [0u64; 0];
-    let answer = answer_job(Wanted::Count, bytes, &mut rows, &mut columns);
-    planning_in(answer)
+    answer_job(PageCount, bytes, &mut rows, &mut columns)
 }
 
 // Writes the runs of the area with a number, from 1, at a permille to the fronts of two lent lists.
+#[tactic(auto, unfolding(crate::specs::PlanJob::write_job_area))]
 pub fn write_job_area(
     bytes: &[u8],
     number: u64,
@@ -254,6 +178,5 @@ pub fn write_job_area(
     ensures { call.AreaWrote (section.write_job_area bytes.now number permille row_runs.old column_runs.old) (outcome result)
         row_runs.old column_runs.old row_runs.new column_runs.new }
 {
-    let answer = answer_job(Wanted::Area(number, permille), bytes, row_runs, column_runs);
-    writing_in(answer)
+    answer_job(AreaRuns { number, permille }, bytes, row_runs, column_runs)
 }

@@ -2,5 +2,6 @@
 #![tactic(auto)]
 
 mod bytes;
+mod wanted;
 
 pub use bytes::{count_job, plan_job, write_job_area};

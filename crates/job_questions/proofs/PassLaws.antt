@@ -28,7 +28,8 @@ use Rattle.job_walk.specs.Walk.{Sorted}
 use Rattle.job_questions.specs.Verdict.{asked, every, repeats, follows, ordered, flag_ok, not_reversed, in_grid, sized, rising}
 use Rattle.job_questions.specs.Verdict.{question1, question2, question3, question4, question5, question6, question7, question8, question9}
 use Rattle.job_questions.specs.Verdict.{question15, in_order, questions, items_of, verdict_lent}
-use Rattle.job_questions.specs.Pass.{beyond, placed, rows_after, columns_after, one_more, counted, Few, start, advanced, after, surveyed, first_no, answer, rank_in, no_of}
+use Rattle.job_questions.specs.Pass.{beyond, placed, rows_after, columns_after, one_more, counted}
+use Rattle.job_questions.specs.Pass.{start, advanced, after, surveyed, first_no, answer, rank_in, no_of}
 use Rattle.planner_rules.proofs.QuestionLaws.{both}
 use Rattle.job_records.proofs.RecordLaws.{records_more, rest_more, records_stop, rest_stop, step_is, step_used, part}
 
@@ -208,17 +209,6 @@ pub record Room (c : Items) (k n : ℕ) : Type 0 where
 bit : (b : Bool) → cond b 1 0 ≤ 1
 bit true = omega arith
 bit false = omega arith
-
-pub room_few : (c : Items) (k n : ℕ) → Room c k n → n ≤ 60000 → Few c
-room_few c k n w h =
-    record {
-      areas = omega (arith, w.areas);
-      rows = omega (arith, w.rows);
-      columns = omega (arith, w.columns);
-      merges = omega (arith, w.merges);
-      row_breaks = omega (arith, w.row_breaks);
-      column_breaks = omega (arith, w.column_breaks);
-    }
 
 room_more : (c : Items) (k n u x : ℕ) → Room c k n → 1 ≤ u → u ≤ k → Room (counted c x) (k - u) n
 room_more c k n u x w h l = record {

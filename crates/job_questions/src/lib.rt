@@ -97,6 +97,7 @@ fn follows_on(last: Option<Mark>, next: Mark) -> bool
     }
 }
 
+// `is_upright` of `planner_questions` asks it of a `PrintRange`: for ranges of both types one body would go by a trait of their four numbers.
 fn firsts_ok(a: Range) -> bool
     ensures { result ≡ firsts_ok a }
 {
@@ -200,32 +201,13 @@ fn count(c: Items, mark: Mark) -> Items
     requires { Few c }
     ensures { result ≡ counted c (place mark) }
 {
-    match mark {
-        Mark::Area => Items {
-            areas: c.areas + 1,
-            ..c
-        },
-        Mark::Row => Items {
-            rows: c.rows + 1,
-            ..c
-        },
-        Mark::Column => Items {
-            columns: c.columns + 1,
-            ..c
-        },
-        Mark::Merge => Items {
-            merges: c.merges + 1,
-            ..c
-        },
-        Mark::RowBreak => Items {
-            row_breaks: c.row_breaks + 1,
-            ..c
-        },
-        Mark::ColumnBreak => Items {
-            column_breaks: c.column_breaks + 1,
-            ..c
-        },
-        _ => c,
+    Items {
+        areas: c.areas + usize::from(mark == Mark::Area),
+        rows: c.rows + usize::from(mark == Mark::Row),
+        columns: c.columns + usize::from(mark == Mark::Column),
+        merges: c.merges + usize::from(mark == Mark::Merge),
+        row_breaks: c.row_breaks + usize::from(mark == Mark::RowBreak),
+        column_breaks: c.column_breaks + usize::from(mark == Mark::ColumnBreak),
     }
 }
 

@@ -6,7 +6,7 @@ use native.Mathlib.Omega.{arith}
 use lib.ListN.{length, set, length-map}
 use Rattle.job_records.specs.Records.{field, records, marked}
 use Rattle.planner_rules.specs.Slots.{written}
-use Rattle.planner_rules.proofs.Lent.{Wrote, start, store, done}
+use Rattle.planner_rules.proofs.Lent.{Wrote, store, done}
 
 -- ---- one list, of a number of each item
 
@@ -19,9 +19,6 @@ pub record One {A : Type 0} (g : A → ℕ) (whole : List A) (old : List ℕ) (k
 -- the items are the records with a mark, of which the list has the numbers at one place: of all in `bytes`, those in `s` are to come
 abbrev pub Numbers : (mark at : ℕ) (bytes s : List ℕ) (k : ℕ) (old new : List ℕ) → Type 0
 Numbers mark at bytes s k old new = One (field at) (marked mark (records bytes)) old k (marked mark (records s)) new
-
-pub one_start : {A : Type 0} {g : A → ℕ} {whole : List A} {old : List ℕ} → length whole ≤ length old → One g whole old 0 whole old
-one_start p = record { room = p; counted = omega arith; wrote = start _ _ }
 
 module _ {A : Type 0} {g : A → ℕ} {whole : List A} {old : List ℕ} {k : ℕ} {left : List A} {new : List ℕ} (w : One g whole old k left new) where
   pub one_room : {x : A} {rest : List A} → left ≡ x ∷ rest → k < length new

@@ -87,9 +87,6 @@ pub record Going (i j : ℕ) (b s : List ℕ) : Type 0 where
   pub kept : (m : ℕ) → j ≤ m → marked m (records s) ≡ marked m (records b)
   pub suffix : Suffix b s
 
-pub going_start : (i j : ℕ) (b : List ℕ) → Sorted i (records b) → Going i j b b
-going_start i j b w = record { sorted = w; kept = λ m h. refl; suffix = suffix_start b }
-
 -- where the marks from j on are all that is left
 going_past : (i j : ℕ) (b s : List ℕ) → Going i j b s → Sorted j (records s) → Past j b (length b - length s)
 going_past i j b s w h =

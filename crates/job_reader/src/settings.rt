@@ -50,6 +50,7 @@ fn margins_of(job: SortedJob<'_>) -> Option<MarginBits>
     }
 }
 
+// A reader of its own, as for margins.
 fn limit_of(job: SortedJob<'_>) -> Option<u64>
     ensures { result ≡ section.limit_from (marked LP (records job.entry.bytes.now)) }
 {

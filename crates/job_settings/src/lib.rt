@@ -75,6 +75,7 @@ pub fn margin_setting(margins: Option<MarginBits>) -> Option<Margins>
     margins.map(inches_of)
 }
 
+// No `From`: neither type is of this crate.
 fn order_for(order: Option<u8>) -> PageOrder
     ensures { result ≡ section.order_for order }
 {

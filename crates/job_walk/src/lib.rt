@@ -45,6 +45,7 @@ pub fn find_record(bytes: &[u8], wanted: Mark, before: usize) -> Option<Record>
     None
 }
 
+// A limit is the only record of its type: a reader for any kind would take the kind as a closure, and say in it what this says.
 pub fn cell_limit_of(bytes: &[u8]) -> Option<u64>
     ensures { result ≡ section.cell_limit_from (walk.in_place UC (records bytes.now)) }
 {

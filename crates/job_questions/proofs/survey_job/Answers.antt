@@ -4,14 +4,11 @@ use Rattle.job_records.specs.Marks.{place}
 use Rattle.job_records.specs.declared.marks.Mark.TheVariants as mark
 use Rattle.job_records.proofs.MarkLaws.{same_place, other_place}
 use Rattle.job_records.proofs.RecordLaws.{step_is, step_used, length_part}
-use Rattle.job_questions.proofs.PassLaws.{seen_start, seen_more, seen_nothing, seen_early, seen_end, too_long}
+use Rattle.job_questions.proofs.PassLaws.{seen_more, seen_nothing, seen_early, seen_end, too_long}
 use Rattle.job_questions.proofs.survey_job.Goals as goal
 
 pub returns-then-bytes-gt-MOST_BYTES : goal.returns-then-bytes-gt-MOST_BYTES
 returns-then-bytes-gt-MOST_BYTES c = too_long c.args.bytes.now c.if-bytes-gt-MOST_BYTES.true
-
-pub loop-head-init : goal.loop-head-init
-loop-head-init c = seen_start c.args.bytes.now _ c.default-t.ensures
 
 pub returns : goal.returns
 returns c =

@@ -1,13 +1,10 @@
 -- `find_record` answers what it looks for: each turn is a step of `looked`.
-use Rattle.std.proofs.Common.{refl, sym, ap, ◌∙◌, arith}
+use Rattle.std.proofs.Common.{sym, ap, ◌∙◌, arith}
 use Rattle.job_records.specs.Marks.{place}
 use Rattle.job_records.proofs.MarkLaws.{same_place, other_place, later_place, no_later_place}
 use Rattle.job_walk.proofs.WalkLaws.{look_end, look_next}
 use Rattle.job_walk.proofs.find_record.Goals as goal
 use Rattle.job_walk.proofs.find_record.Goals.{then-eq+else-left-eq0, else-eq}
-
-pub loop-head-init : goal.loop-head-init
-loop-head-init c = refl
 
 pub returns-then-gt : goal.returns-then-gt
 returns-then-gt c =

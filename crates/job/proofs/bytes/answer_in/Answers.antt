@@ -1,9 +1,19 @@
 -- `job::bytes::answer_in` meets its contract: what was read to lists that hold it is answered.
-use Rattle.job.proofs.ReadLaws.{was_filled, job_told}
+use Rattle.std.proofs.Common.{◌≡◌, rules}
+use Rattle.std.specs.Prelude.{Err}
+use Rattle.job.proofs.ReadLaws.{long_lists, refusal_told, reading_told}
 use Rattle.job.proofs.bytes.answer_in.Goals as goal
 
-pub answer_read-requires : goal.answer_read-requires
-answer_read-requires c = was_filled c.requires c.read_job-reading.ensures
+pub fronts-lists-requires : goal.fronts-lists-requires
+fronts-lists-requires g c = long_lists c.requires c.read_job.ensures _ c.in_ok-job.was
+
+pub returns-in_err-job : goal.returns-in_err-job
+returns-in_err-job g c =
+    let e : c.from_residual.result ≡ Err c.in_err-job.field-0.0 = search rules in
+    refusal_told c.requires c.read_job.ensures (g.W.Wanted.told c.args.wanted) _ _ _ _ c.in_err-job.was
+    (rw e (g.met.W.Wanted.refuses c.args.wanted c.in_err-job.field-0.0 _ _ _ _))
 
 pub returns : goal.returns
-returns c = job_told c.requires c.read_job-reading.ensures _ _ _ _ _ _ c.answer_read.ensures
+returns g c =
+    reading_told c.requires c.read_job.ensures (g.W.Wanted.told c.args.wanted) _ _ _ _ c.in_ok-job.was
+    c.fronts-lists.result c.settings_for.ensures c.areas_for.ensures c.fronts-lists.ensures c.answer.ensures

@@ -12,7 +12,8 @@ returns c = past_end c.loop-head.invariant c.next_record.ensures c.in_default.is
 
 pub returns-then-gt : goal.returns-then-gt
 returns-then-gt c =
-    past_at c.loop-head.invariant c.next_record.ensures c.in-Some.is (omega (arith, later_place c.mark.result mark.ColumnTitle (sym c.gt.ensures ∙ c.if-gt.true), ap place c.mark.ensures))
+    past_at c.loop-head.invariant c.next_record.ensures c.in-Some.is
+    (omega (arith, later_place c.mark.result mark.ColumnTitle (sym c.gt.ensures ∙ c.if-gt.true), ap place c.mark.ensures))
 
 pub slice_bounds-s-count : goal.slice_bounds-s-count
 slice_bounds-s-count c = (walk_used c.loop-head.s.now c.next_record.ensures c.in-Some.is).within
@@ -25,4 +26,5 @@ loop-head-smaller c = (walk_used c.loop-head.s.now c.next_record.ensures c.in-So
 
 pub loop-head-preserved : goal.loop-head-preserved
 loop-head-preserved c =
-    going_on c.loop-head.invariant c.next_record.ensures c.in-Some.is (omega (arith, no_later_place c.mark.result mark.ColumnTitle (sym c.gt.ensures ∙ c.if-gt.false), ap place c.mark.ensures))
+    going_on c.loop-head.invariant c.next_record.ensures c.in-Some.is
+    (omega (arith, no_later_place c.mark.result mark.ColumnTitle (sym c.gt.ensures ∙ c.if-gt.false), ap place c.mark.ensures))

@@ -1,16 +1,7 @@
 -- `job_reader::lists::write_items` meets its contract: each kind of items is read from where the one before it ends.
 use Rattle.std.proofs.Common.{arith}
-use Rattle.job_reader.proofs.ReadingLaws.{rooms, part_from, from_on, room_from, values_from}
+use Rattle.job_reader.proofs.ReadingLaws.{part_from, from_on, values_from}
 use Rattle.job_reader.proofs.lists.write_items.Goals as goal
-
--- the column breaks come last
-pub write_breaks-requires-clause-bytes_in_bounds : goal.write_breaks-requires-clause-bytes_in_bounds
-write_breaks-requires-clause-bytes_in_bounds c =
-    let rows = part_from c.settings_end.ensures in
-    let columns = from_on rows c.write_slots-at_columns.ensures.past (omega arith) in
-    let merges = from_on columns c.write_slots-at_merges.ensures.past (omega arith) in
-    let row_breaks = from_on merges c.write_merges-at_breaks.ensures.past (omega arith) in
-    room_from (from_on row_breaks c.write_breaks-at_last.ensures.past (omega arith)) (rooms c.requires).column_breaks
 
 pub returns : goal.returns
 returns c =
