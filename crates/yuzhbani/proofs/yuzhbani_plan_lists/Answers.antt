@@ -24,7 +24,7 @@ returns c =
     let j = c.plan_pages-planning.ensures in
     let p = c.put_planning.ensures in
     let e =
-    request_same c.request_from-what.ensures ri rz ci cz fr fc lr lc rb cb _ _ _ _ (outcome c.plan_pages-planning.result)
+    request_same c.from-what.ensures ri rz ci cz fr fc lr lc rb cb _ _ _ _ (outcome c.plan_pages-planning.result)
     (j.planned, (j.covered, (j.fewest, j.largest))) in
     let few : areas_counted ns ≡ true = sym c.areas_counted.ensures ∙ c.if-not-areas_counted.false in
     let hold : flags_hold ns ≡ true = sym c.flags_hold.ensures ∙ c.if-not-flags_hold.false in
