@@ -1,6 +1,7 @@
 // Plans, pages and their text for a program in another language. `rt staticlib yuzhbani` makes an archive of these calls, which C or Rust
 // can link. A plan is handed over as sixty numbers and a page as twelve, in the order that `specs/Numbers.antt` of `yuzhbani_answers` says;
-// what is asked of a plan as sixty-one, in the order that `specs/Request.antt` of `yuzhbani_request` says.
+// what is asked of a plan as sixty-one, in the order that `specs/Request.antt` of `yuzhbani_request` says. Numbers, lent arrays and single
+// slices stand where a Rust call would have a `Result` and structs: the C interface needs them.
 #![tactic(auto)]
 
 ghost use Rattle.std.specs.Prelude.{◌≡◌};
@@ -64,7 +65,8 @@ pub extern "C" fn yuzhbani_count(bytes: &[u8], numbers: &mut [u64; 60]) -> u8
     put_planning(planning, numbers)
 }
 
-// Puts how many runs were written, or nothing, and answers 0, or the number of the refusal.
+// Puts how many runs were written, or nothing, and answers 0, or the number of the refusal. No one function for this, `put_block` and
+// `put_page`: each puts numbers of its own, and a closure for them is longer than the arm.
 fn put_counts(writing: Result<RunCounts, Refusal>, counts: &mut [u64; 2]) -> u8
     ensures value { result ≡ answer_to (outcome writing) }
     ensures counts_after { counts.new

@@ -169,7 +169,7 @@ pub fn told(answer: u8, numbers: &[u64; 60]) -> Result<Plan, u8>
     Ok(Plan::from(PlanNumbers(numbers)))
 }
 
-// The answer of a page call; the numbers of its page are put, or nothing.
+// The answer of a page call; the numbers of its page are put, or nothing. No `From`: the numbers go to a lent array, as the C interface needs.
 pub fn put_page(answer: Result<Page, Refusal>, numbers: &mut [u64; 12]) -> u8
     ensures { PageHanded (outcome answer) result numbers.old numbers.new }
 {
