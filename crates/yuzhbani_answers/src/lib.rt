@@ -1,4 +1,4 @@
-// A plan and a page as numbers, for a caller in another language.
+// A plan and a page as numbers, for a caller in another language: a number and a lent array stand for a `Result`, as the C interface needs.
 #![tactic(auto)]
 
 ghost use Rattle.std.specs.Prelude.{◌≡◌, ◌≤◌, min};
@@ -33,11 +33,10 @@ pub fn u16_from(n: u64) -> u16
 fn put_head(numbers: &mut [u64; 60], plan: Plan)
     ensures { numbers.new ≡ section.head_put plan numbers.old }
 {
-    let order = plan.order;
     let notes = plan.notes;
     numbers[0] = plan.areas.count as u64;
     numbers[1] = plan.pages;
-    numbers[2] = order as u64;
+    numbers[2] = plan.order as u64;
     numbers[3] = notes.unknown_paper;
     numbers[4] = notes.invalid_margins;
     numbers[5] = notes.scale_clamped;
@@ -169,7 +168,7 @@ pub fn told(answer: u8, numbers: &[u64; 60]) -> Result<Plan, u8>
     Ok(Plan::from(PlanNumbers(numbers)))
 }
 
-// The answer of a page call; the numbers of its page are put, or nothing. No `From`: the numbers go to a lent array, as the C interface needs.
+// The answer of a page call; the numbers of its page are put, or nothing. No `From`: a refusal leaves the lent array as it was.
 pub fn put_page(answer: Result<Page, Refusal>, numbers: &mut [u64; 12]) -> u8
     ensures { PageHanded (outcome answer) result numbers.old numbers.new }
 {

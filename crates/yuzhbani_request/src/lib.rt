@@ -38,14 +38,16 @@ impl RequestNumbers<'_> {
     fn margins(self) -> Option<Margins>
         ensures { result ≡ section.margins_from self.entry.0.now }
     {
-        margin_setting((self.0[3] > 0).then_some(MarginBits {
-            left: self.0[4],
-            right: self.0[5],
-            top: self.0[6],
-            bottom: self.0[7],
-            header: self.0[8],
-            footer: self.0[9],
-        }))
+        margin_setting(
+            (self.0[3] > 0).then_some(MarginBits {
+                left: self.0[4],
+                right: self.0[5],
+                top: self.0[6],
+                bottom: self.0[7],
+                header: self.0[8],
+                footer: self.0[9],
+            }),
+        )
     }
 
     fn cell_limit(self) -> Option<u64>
