@@ -75,6 +75,7 @@ fn margins(fields: &Fields) -> Margins {
     }
 }
 
+// The numbers of a content stand as `standard_papers` writes them: a library for this one line would be longer than the line.
 fn write_content<W: Write>(
     out: &mut W,
     fields: &Fields,

@@ -84,6 +84,7 @@ impl RunLists {
 
     // Prints the lines of all areas and pages.
     fn print_pages<W: Write>(&mut self, job: &[u8], plan: &Plan, out: &mut W) -> io::Result<()> {
+        // By number: the calls for one page take it, and no list has the pages.
         for number in 1..=plan.pages {
             let Some(spot) = page_spot(*plan, number) else {
                 break;

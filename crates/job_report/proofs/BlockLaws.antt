@@ -110,12 +110,7 @@ one_line n p pages = append-nil (page_line n p)
 
 -- ---- a loop over pages
 
--- a loop's test: there is room, and a number that is not past the count
-pub open_told : (bytes last pages most : ℕ) → (leb bytes last && leb pages most) ≡ true → (bytes ≤ last) × (pages ≤ most)
-open_told bytes last pages most e =
-    let w = both (leb bytes last) (leb pages most) e in
-    (leb-true bytes last w.0, leb-true pages most w.1)
-
+-- where it ends there is no room, or the number is past the count
 pub shut_told : {X : Type 0} (bytes last pages most : ℕ) → (leb bytes last && leb pages most) ≡ false → (last < bytes → X) → (most < pages → X) → X
 shut_told bytes last pages most e f g =
     split bytes last (λ h. split pages most (λ l. absurd (never (rw (le-leb bytes last h, le-leb pages most l)) e)) g) f
@@ -199,7 +194,7 @@ module _ (order : PageOrder) (a : AreaPlan) (rows columns : List ℕ) (before mo
       (omega (arith, length-take (most + 1) (drop before (area_pages order a rows columns))))
 
   -- a page of them, by `area_page`
-  pub part_asked : holds_area a rows columns ≡ true → (k : ℕ) → k ≤ most
+  part_asked : holds_area a rows columns ≡ true → (k : ℕ) → k ≤ most
       → area_numbered order a rows columns (before + k + 1) ≡ numbered (part order a rows columns before most) (suc k)
   unfolding area_numbered
   part_asked holds k h =
@@ -220,7 +215,7 @@ module _ (p : Plan) (n : ℕ) (s : Spot) (rows columns : List ℕ) where
     area_same : a ≡ area_of p s
     area_same = e ∙ sym (placed p n s w.found).area_is
 
-    pub area_holds : holds_area a rows columns ≡ true
+    area_holds : holds_area a rows columns ≡ true
     area_holds = rw area_same w.holds
 
     pub part_is : part p.order a rows columns s.before (p.pages - n) ≡ pages_on p rows columns n s
@@ -228,6 +223,25 @@ module _ (p : Plan) (n : ℕ) (s : Spot) (rows columns : List ℕ) where
     part_is =
         let most : p.pages - n + 1 ≡ p.pages + 1 - n = omega (arith, (placed p n s w.found).to_count) in
         rw (area_same, most)
+
+    -- a turn that goes on: there is room, the numbers of its page stay within the plan's count, and what `area_page` answers
+    pub record Turn (bytes k : ℕ) : Type 0 where
+      pub room : bytes ≤ 65280
+      pub own : s.before + k < p.pages
+      pub number : n + k ≤ p.pages
+      pub asked : area_numbered p.order a rows columns (s.before + k + 1) ≡ numbered (part p.order a rows columns s.before (p.pages - n)) (suc k)
+
+    pub turn : (bytes k : ℕ) → (leb bytes 65280 && leb k (p.pages - n)) ≡ true → Turn bytes k
+    turn bytes k e =
+        let t = both (leb bytes 65280) (leb k (p.pages - n)) e in
+        let few = leb-true k (p.pages - n) t.1 in
+        let at = placed p n s w.found in
+        record {
+          room = leb-true bytes 65280 t.0;
+          own = omega (arith, few, at.from_one, at.to_count, at.within.not_later);
+          number = omega (arith, few, at.to_count);
+          asked = part_asked p.order a rows columns s.before (p.pages - n) area_holds k few;
+        }
 
     -- so the block that the loop leaves is the one that is asked for
     pub held_on : (b : Block) (old new : List ℕ) → LinesHeld n (part p.order a rows columns s.before (p.pages - n)) b old new

@@ -2,12 +2,11 @@
 use mathlib.Core.Path.{◌≡◌, sym}
 use mathlib.Core.List.{[], ◌∷◌, ◌++◌}
 use Prim.Native.Nat.{ℕ, zero, suc, ◌+◌, ◌-◌, ◌*◌, ◌/◌, ◌%◌, ◌^◌, ◌≤◌, ◌<◌}
-use native.Mathlib.Nat.{pow-succ', one-le-pow, pow-le-pow_right}
+use native.Mathlib.Nat.{pow-succ', one-le-pow}
 use native.Mathlib.Omega.{arith}
 use borrow.Author.Tests.{lt-ltb, le-ltb}
 use Rattle.io.specs.Digits.{hex_digit_ascii, last_digits, IsDigitCount}
 use Rattle.job_report.specs.Lines.{digits_within, decimal}
-use Rattle.planner_rules.proofs.Laws.{split}
 
 last_digit : (n : ℕ) → hex_digit_ascii (n % 10) ≡ 48 + n % 10
 last_digit n = let h : n % 10 < 10 = omega arith in rw (lt-ltb (n % 10) 10 h)
@@ -47,12 +46,3 @@ fewest_within (suc (suc k)) (suc most) n h f =
 pub fewest_decimal : (n k : ℕ) → IsDigitCount 10 1 n k → last_digits 10 k n ≡ decimal n
 unfolding decimal
 fewest_decimal n k f = fewest_within k (suc n) n (omega arith) f
-
--- and they are no more than 20 for a number of 64 bits
-pub fewest_twenty : (n k : ℕ) → n < 2 ^ 64 → IsDigitCount 10 1 n k → k ≤ 20
-fewest_twenty n k h f =
-    split k 20 (λ w. w)
-    (λ w.
-    let p = f.2 (omega arith) in
-    let q : 10 ^ 20 ≤ 10 ^ (k - 1) = pow-le-pow_right (omega arith) {i = 20} {j = k - 1} (omega arith) in
-    absurd (omega arith))

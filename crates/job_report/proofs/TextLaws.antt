@@ -5,7 +5,7 @@ use Prim.Native.Nat.{ℕ, suc, ◌+◌, ◌*◌, ◌≤◌, ◌<◌}
 use native.Mathlib.Numerals.{add-one}
 use native.Mathlib.Omega.{arith}
 use lib.ListN.{length, get_or, take, drop, set, length-append, take-append-drop}
-use lib.Seq.{take-suc, take_all, length-take-le, set_split, take_at, drop_at, drop-drop}
+use lib.Seq.{take-suc, length-take-le, set_split, take_at, drop_at, drop-drop}
 use Rattle.io.specs.Counts.{IsPrefixLen}
 use Rattle.io.specs.Digits.{last_digits, IsDigitCount}
 use Rattle.planner_rules.specs.Slots.{written}
@@ -85,13 +85,6 @@ told_more {list = list} {i = i} h room w e l s =
     ∙ numbers-append (take i list) (get_or list i 0 ∷ [])
     ∙ ap (λ (t : List ℕ). numbers (take i list) ++ t) (one_number (get_or list i 0)) in
     record { so_far = rw more (and_then_lem room w.so_far e); within = omega arith; short = omega arith; same = s ∙ w.same }
-
-pub told_all : {old : List ℕ} {at : ℕ} {list new : List ℕ} {next i : ℕ} → length list ≤ i → Told old at list new next i
-    → PutAt (numbers list) at next old new × (next ≤ at + 21 * length list)
-told_all {list = list} {i = i} h w =
-    let l = w.within in
-    let b = w.short in
-    (rw (take_all i list h) at w.so_far, omega arith)
 
 -- ---- a line
 

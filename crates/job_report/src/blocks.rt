@@ -1,4 +1,5 @@
-// Blocks of page lines (document 01, section "Jobs"), for a program that writes many at a time. A block has pages of one area.
+// Blocks of page lines (document 01, section "Jobs"), for a program that writes many at a time. A block has pages of one area. The lists of runs
+// are two slices, as `planner_pages` takes them and the C interface hands them over; a struct would be made for one call and taken apart for the next.
 ghost use Rattle.job_report.specs.Blocks as section;
 
 use crate::lines::page_at;
@@ -36,6 +37,7 @@ fn lines_held(
     let most = plan.pages - from;
     let mut pages = 0;
     let mut bytes = 0;
+    // No `for`: whether there is room for a line is known once the one before is put.
     while (bytes <= LAST) & (pages <= most) {
         let own = spot.before as u64 + pages + 1;
         let answer = area_page(order, area, own, row_runs, column_runs);

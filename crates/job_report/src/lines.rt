@@ -1,5 +1,5 @@
 // The lines of a plan: document 01, section "Jobs", and document 02, T-02. Each private function puts its line from the place `at` on, and
-// returns the place after it.
+// returns the place after it. No `Display`, as in `text.rt`.
 ghost use Rattle.std.specs.Prelude.{◌≡◌, ◌+◌, ◌≤◌, length};
 ghost use Rattle.units.specs.Refusals.{outcome};
 ghost use Rattle.job_report.specs.Lines as section;

@@ -1,5 +1,5 @@
 // Text in ASCII. Each function puts its text from the place `at` on, and returns the place after it. No `Display`: it writes to a lent array, and
-// each byte there is proved.
+// each byte there is proved. A word and its numbers are no struct: `line` alone takes them together.
 ghost use Rattle.std.specs.Prelude.{[], ◌∷◌, ◌+◌, ◌*◌, ◌≤◌, ◌<◌, length};
 ghost use Rattle.job_report.specs.Lines as section;
 

@@ -30,6 +30,7 @@ fn write_difference<W: Write>(out: &mut W, code: u16, found: Finding) -> io::Res
 fn main(rt: HostRuntime) -> io::Result<()> {
     let mut out = BufWriter::new(rt.alloc(), io::writer(&rt))?;
     let mut tally = Tally::default();
+    // By number: neither list has a place for each code.
     for code in 0..=LAST {
         let found = Finding::of(code);
         write_difference(&mut out, code, found)?;

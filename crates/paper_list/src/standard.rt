@@ -1,6 +1,7 @@
 // The paper list of ECMA-376 Part 1, 18.3.1.63 (`pageSetup`, attribute `paperSize`).
 
-// A size as the standard gives it, width and height: in thousandths of an inch, or in millimetres.
+// A size as the standard gives it, width and height: in thousandths of an inch, or in millimetres. An enum of its own: neither is a failure
+// of the other, nor absent, as `Result` and `Option` say.
 #[derive(Clone, Copy)]
 pub enum Size {
     Inches(u16, u16),

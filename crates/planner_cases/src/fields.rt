@@ -6,7 +6,7 @@ use thiserror::Error;
 // The most numbers of a list.
 const MOST: u8 = 24;
 
-// Why a line was not read.
+// Why a line was not read. An error of its own: a bad line is answered, and memory that ran out ends the program.
 #[derive(Debug, Drop, Error)]
 pub(crate) enum Fault {
     #[error("bad line")]

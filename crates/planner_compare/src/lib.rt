@@ -3,13 +3,9 @@
 
 ghost use Rattle.std.specs.Prelude.{◌≡◌, min};
 
-// The largest index that a u32 holds stands for any number above it.
+// No `From`: the largest index that a u32 holds stands for any number above it.
 pub fn index_of(n: u64) -> u32
     ensures { result ≡ min n 4294967295 }
 {
-    if n < u32::MAX as u64 {
-        n as u32
-    } else {
-        u32::MAX
-    }
+    n.min(u32::MAX as u64) as u32
 }

@@ -11,7 +11,8 @@ use units::Fixed;
 // The codes whose sizes the standard decides.
 const CODES: [u16; 5] = [12, 13, 24, 25, 26];
 
-// Writes what margins leave of a paper: where the content, the header and the footer stand, and whether the margins held.
+// Writes what margins leave of a paper: where the content, the header and the footer stand, and whether the margins held. The numbers stand as
+// `geometry_cases` writes them: a library for this one line would be longer than the line.
 fn write_content<W: Write>(
     out: &mut W,
     name: &str,

@@ -1,6 +1,7 @@
 // Plans, pages and their text for a program in another language. `rt staticlib yuzhbani` makes an archive of these calls, which C or Rust
 // can link. A plan is handed over as sixty numbers and a page as twelve, in the order that `specs/Numbers.antt` of `yuzhbani_answers` says;
-// what is asked of a plan as sixty-one, in the order that `specs/Request.antt` of `yuzhbani_request` says.
+// what is asked of a plan as sixty-one, in the order that `specs/Request.antt` of `yuzhbani_request` says. Numbers, lent arrays and single
+// slices stand where a Rust call would have a `Result` and structs: the C interface needs them.
 #![tactic(auto)]
 
 ghost use Rattle.std.specs.Prelude.{◌≡◌};
@@ -23,10 +24,10 @@ use job::{count_job, plan_job, write_job_area};
 use job_report::{Block, area_block, area_line, head_lines, refusal_line};
 use planner::plan_pages;
 use planner_pages::page_numbered;
-use planner_rules::{AxisLists, MergeList, RunCounts, SheetLists, SlotList};
+use planner_rules::{AxisLists, MergeList, Plan, Request, RunCounts, SheetLists, SlotList};
 use units::Refusal;
-use yuzhbani_answers::{plan_from, put_page, put_planning, told};
-use yuzhbani_request::{areas_counted, flags_hold, request_from};
+use yuzhbani_answers::{PlanNumbers, put_page, put_planning, told};
+use yuzhbani_request::RequestNumbers;
 
 // Plans the pages of a job: 0, with the plan's numbers in `numbers` and its runs at the fronts of two lent lists, area after area; or the
 // number of a refusal, and nothing is written.
@@ -64,7 +65,8 @@ pub extern "C" fn yuzhbani_count(bytes: &[u8], numbers: &mut [u64; 60]) -> u8
     put_planning(planning, numbers)
 }
 
-// Puts how many runs were written, or nothing, and answers 0, or the number of the refusal.
+// Puts how many runs were written, or nothing, and answers 0, or the number of the refusal. No one function for this, `put_block` and
+// `put_page`: each puts numbers of its own, and a closure for them is longer than the arm.
 fn put_counts(writing: Result<RunCounts, Refusal>, counts: &mut [u64; 2]) -> u8
     ensures value { result ≡ answer_to (outcome writing) }
     ensures counts_after { counts.new
@@ -142,13 +144,14 @@ pub extern "C" fn yuzhbani_plan_lists<'a>(
         merge_last_columns.now row_breaks.now column_breaks.now in
         LargestPlan (section.told result numbers.new) sheet (areas_from asked) }
 {
-    if !areas_counted(request) {
-        return 4;
+    let asked = RequestNumbers(request);
+    if !asked.areas_counted() {
+        return Refusal::MisplacedRecord.number();
     }
-    if !flags_hold(request) {
-        return 5;
+    if !asked.flags_hold() {
+        return Refusal::BadFlag.number();
     }
-    let what = request_from(request);
+    let what = Request::from(asked);
     let lists = SheetLists {
         rows: AxisLists {
             slots: SlotList {
@@ -191,7 +194,7 @@ pub extern "C" fn yuzhbani_page(
         (page_numbered (section.plan_from numbers.now) row_runs.now column_runs.now number)
         result page.old page.new }
 {
-    let plan = plan_from(numbers);
+    let plan = Plan::from(PlanNumbers(numbers));
     let answer = page_numbered(plan, number, row_runs, column_runs);
     put_page(answer, page)
 }
@@ -247,7 +250,7 @@ pub extern "C" fn yuzhbani_block(
         (block_pages (section.plan_from numbers.now) row_runs.now column_runs.now from) from
         result block.old out.old block.new out.new }
 {
-    let plan = plan_from(numbers);
+    let plan = Plan::from(PlanNumbers(numbers));
     let answer = area_block(plan, from, row_runs, column_runs, out);
     put_block(answer, block)
 }

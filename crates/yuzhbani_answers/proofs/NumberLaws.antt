@@ -1,17 +1,15 @@
 -- The numbers of a plan stand for the plan, and what the code makes of numbers and of answers. Assumes nothing.
-use mathlib.Core.Path.{◌≡◌, refl, ap}
-use mathlib.Core.Bool.{Bool, true, false, cond}
+use mathlib.Core.Path.{◌≡◌, refl}
+use mathlib.Core.Bool.{Bool, true, false}
 use mathlib.Core.List.{List}
-use Prim.Native.Nat.{ℕ, zero, suc, ◌+◌, ◌*◌, ◌<◌, ◌≤◌, min}
+use Prim.Native.Nat.{ℕ, ◌+◌, ◌*◌, ◌<◌, min}
 use native.Mathlib.Numerals.{add-one}
 use native.Mathlib.Omega.{arith}
 use lib.ListN.{get_or, replicate}
-use borrow.Author.Tests.{lt-ltb, le-ltb}
 use mir.Val.{bool_byte}
-use Rattle.units.specs.Outcome.{given, refused}
 use Rattle.planner_rules.specs.declared.pages.Page.{Page}
-use Rattle.std.specs.Prelude.{Result, Ok, Err}
-use Rattle.units.specs.Refusals.{number_of, outcome}
+use Rattle.std.specs.Prelude.{Result, Ok}
+use Rattle.units.specs.Refusals.{outcome}
 use Rattle.units.specs.declared.refusal.Refusal.{Refusal}
 use Rattle.planner_rules.specs.declared.pages.PageOrder.{PageOrder}
 use Rattle.planner_rules.specs.declared.pages.PageOrder.TheVariants.{DownThenOver, OverThenDown}
@@ -19,23 +17,7 @@ use Rattle.planner_rules.specs.declared.pages.AreaPlan.{AreaPlan}
 use Rattle.planner_rules.specs.declared.pages.AreaPlans.{AreaPlans}
 use Rattle.planner_rules.specs.declared.pages.Plan.{Plan}
 use Rattle.planner_rules.specs.Areas.{eight_plans, no_plan}
-use Rattle.yuzhbani_answers.specs.Numbers.{
-  bit,
-  order_number,
-  is_set,
-  order_from,
-  plan_numbers,
-  page_numbers,
-  area_from,
-  areas_from,
-  plan_from,
-  told,
-  area_put,
-  areas_put,
-  head_put,
-  AreaBack,
-  AllBack,
-}
+use Rattle.yuzhbani_answers.specs.Numbers.{bit, order_number, is_set, order_from, plan_numbers, page_numbers, area_from, areas_from, plan_from, area_put, areas_put, head_put, AreaBack, AllBack}
 use Rattle.yuzhbani_answers.specs.Answers.{PageHanded}
 
 bit_back : (b : Bool) → is_set (bit b) ≡ b
@@ -92,16 +74,6 @@ pub as_bit : (b : Bool) → bool_byte b ≡ bit b
 as_bit true = refl
 as_bit false = refl
 
--- what a number above 0 picks, and what 0 picks
-pub when_set : {A : Type 0} (n : ℕ) (a b : A) → 0 < n → a ≡ cond (is_set n) a b
-when_set n a b h = rw (lt-ltb 0 n h)
-
-pub when_not : {A : Type 0} (n : ℕ) (a b : A) → n ≤ 0 → b ≡ cond (is_set n) a b
-when_not n a b h = rw (le-ltb 0 n h)
-
--- the two answers of a page call
+-- the numbers of a page that is given
 pub page_put : (a : Result Page Refusal) (p : Page) (old ns : List ℕ) → a ≡ Ok p → ns ≡ page_numbers p → PageHanded (outcome a) 0 old ns
 page_put a p old ns e i = rw e (record { answer = refl; numbers_are = i })
-
-pub page_refused : (a : Result Page Refusal) (k : Refusal) (old : List ℕ) → a ≡ Err k → PageHanded (outcome a) (number_of k) old old
-page_refused a k old e = rw e (record { answer = refl; numbers_are = refl })

@@ -1,4 +1,4 @@
-// A plan and a page as numbers, for a caller in another language.
+// A plan and a page as numbers, for a caller in another language: a number and a lent array stand for a `Result`, as the C interface needs.
 #![tactic(auto)]
 
 ghost use Rattle.std.specs.Prelude.{◌≡◌, ◌≤◌, min};
@@ -10,15 +10,7 @@ use planner_areas::plan_at;
 use planner_rules::{AreaPlan, AreaPlans, Notes, Page, PageOrder, Plan};
 use units::Refusal;
 
-fn order_number(order: PageOrder) -> u64
-    ensures { result ≡ section.order_number order }
-{
-    match order {
-        PageOrder::DownThenOver => 0,
-        PageOrder::OverThenDown => 1,
-    }
-}
-
+// No `From`: what a number above 0 stands for is a rule of these numbers, and neither type is of this crate.
 pub fn order_from(n: u64) -> PageOrder
     ensures { result ≡ section.order_from n }
 {
@@ -29,10 +21,11 @@ pub fn order_from(n: u64) -> PageOrder
     }
 }
 
+// No `From`: a number that does not fit stands for the largest that does.
 pub fn u16_from(n: u64) -> u16
     ensures { result ≡ min n 65535 }
 {
-    if n < 65535 { n as u16 } else { 65535 }
+    n.min(u16::MAX as u64) as u16
 }
 
 // The count of areas, the pages, the order and the notes, at the front.
@@ -40,11 +33,10 @@ pub fn u16_from(n: u64) -> u16
 fn put_head(numbers: &mut [u64; 60], plan: Plan)
     ensures { numbers.new ≡ section.head_put plan numbers.old }
 {
-    let order = plan.order;
     let notes = plan.notes;
     numbers[0] = plan.areas.count as u64;
     numbers[1] = plan.pages;
-    numbers[2] = order_number(order);
+    numbers[2] = plan.order as u64;
     numbers[3] = notes.unknown_paper;
     numbers[4] = notes.invalid_margins;
     numbers[5] = notes.scale_clamped;
@@ -138,25 +130,31 @@ fn areas_from(numbers: &[u64; 60]) -> AreaPlans
     }
 }
 
-#[tactic(auto, unfolding(crate::specs::Numbers::plan_from))]
-pub fn plan_from(numbers: &[u64; 60]) -> Plan
-    ensures { result ≡ section.plan_from numbers.now }
-{
-    Plan {
-        areas: areas_from(numbers),
-        pages: numbers[1],
-        order: order_from(numbers[2]),
-        notes: Notes {
-            unknown_paper: numbers[3],
-            invalid_margins: numbers[4],
-            scale_clamped: numbers[5],
-            fit_unreachable: numbers[6],
-            titles_ignored: numbers[7],
-            titles_expanded: numbers[8],
-            merge_expansions: numbers[9],
-            break_shifts: numbers[10],
-            overflowing_runs: numbers[11],
-        },
+// Sixty numbers of a plan, whoever wrote them.
+#[derive(Clone, Copy)]
+pub struct PlanNumbers<'a>(pub &'a [u64; 60]);
+
+impl From<PlanNumbers<'_>> for Plan {
+    ghost from_gives = { λ numbers plan. plan ≡ section.plan_from numbers.0.now };
+
+    #[tactic(auto, unfolding(crate::specs::Numbers::plan_from))]
+    fn from(PlanNumbers(numbers): PlanNumbers<'_>) -> Plan {
+        Plan {
+            areas: areas_from(numbers),
+            pages: numbers[1],
+            order: order_from(numbers[2]),
+            notes: Notes {
+                unknown_paper: numbers[3],
+                invalid_margins: numbers[4],
+                scale_clamped: numbers[5],
+                fit_unreachable: numbers[6],
+                titles_ignored: numbers[7],
+                titles_expanded: numbers[8],
+                merge_expansions: numbers[9],
+                break_shifts: numbers[10],
+                overflowing_runs: numbers[11],
+            },
+        }
     }
 }
 
@@ -167,10 +165,10 @@ pub fn told(answer: u8, numbers: &[u64; 60]) -> Result<Plan, u8>
     if answer > 0 {
         return Err(answer);
     }
-    Ok(plan_from(numbers))
+    Ok(Plan::from(PlanNumbers(numbers)))
 }
 
-// The answer of a page call; the numbers of its page are put, or nothing.
+// The answer of a page call; the numbers of its page are put, or nothing. No `From`: a refusal leaves the lent array as it was.
 pub fn put_page(answer: Result<Page, Refusal>, numbers: &mut [u64; 12]) -> u8
     ensures { PageHanded (outcome answer) result numbers.old numbers.new }
 {

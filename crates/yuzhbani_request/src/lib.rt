@@ -11,85 +11,97 @@ use planner_compare::index_of;
 use planner_rules::{Areas, PrintRange, Request, Settings, Title};
 use yuzhbani_answers::{order_from, u16_from};
 
-fn setting_from(request: &[u64; 61], at: usize) -> Option<u16>
-    requires { at ≤ 59 }
-    ensures { result ≡ section.setting_from request.now at }
-{
-    if request[at] > 0 {
-        Some(u16_from(request[at + 1]))
-    } else {
-        None
-    }
-}
+// What a caller asks, as 61 numbers.
+#[derive(Clone, Copy)]
+pub struct RequestNumbers<'a>(pub &'a [u64; 61]);
 
-fn title_from(request: &[u64; 61], at: usize) -> Title
-    requires { at ≤ 58 }
-    ensures { result ≡ section.title_from request.now at }
-{
-    if request[at] > 0 {
-        Title::Pair(index_of(request[at + 1]), index_of(request[at + 2]))
-    } else {
-        Title::Absent
+impl RequestNumbers<'_> {
+    fn setting(self, at: usize) -> Option<u16>
+        requires { at ≤ 59 }
+        ensures { result ≡ section.setting_from self.entry.0.now at }
+    {
+        (self.0[at] > 0).then_some(u16_from(self.0[at + 1]))
     }
-}
 
-#[tactic(auto, unfolding(crate::specs::Request::margins_from))]
-fn margins_from(request: &[u64; 61]) -> Option<Margins>
-    ensures { result ≡ section.margins_from request.now }
-{
-    if request[3] > 0 {
-        margin_setting(Some(MarginBits {
-            left: request[4],
-            right: request[5],
-            top: request[6],
-            bottom: request[7],
-            header: request[8],
-            footer: request[9],
-        }))
-    } else {
-        None
+    fn title(self, at: usize) -> Title
+        requires { at ≤ 58 }
+        ensures { result ≡ section.title_from self.entry.0.now at }
+    {
+        if self.0[at] > 0 {
+            Title::Pair(index_of(self.0[at + 1]), index_of(self.0[at + 2]))
+        } else {
+            Title::Absent
+        }
     }
-}
 
-fn cell_limit_from(request: &[u64; 61]) -> Option<u64>
-    ensures { result ≡ section.cell_limit_from request.now }
-{
-    if request[20] > 0 {
-        Some(request[21])
-    } else {
-        None
+    #[tactic(auto, unfolding(crate::specs::Request::margins_from))]
+    fn margins(self) -> Option<Margins>
+        ensures { result ≡ section.margins_from self.entry.0.now }
+    {
+        margin_setting(
+            (self.0[3] > 0).then_some(MarginBits {
+                left: self.0[4],
+                right: self.0[5],
+                top: self.0[6],
+                bottom: self.0[7],
+                header: self.0[8],
+                footer: self.0[9],
+            }),
+        )
     }
-}
 
-#[tactic(auto, unfolding(crate::specs::Request::settings_from))]
-fn settings_from(request: &[u64; 61]) -> Settings
-    ensures { result ≡ section.settings_from request.now }
-{
-    Settings {
-        paper: setting_from(request, 0),
-        landscape: request[2] > 0,
-        margins: margins_from(request),
-        percent: setting_from(request, 10),
-        fit: request[12] > 0,
-        fit_width: setting_from(request, 13),
-        fit_height: setting_from(request, 15),
-        order: order_from(request[17]),
-        headings: request[18] > 0,
-        page_limit: request[19],
-        cell_limit: cell_limit_from(request),
+    fn cell_limit(self) -> Option<u64>
+        ensures { result ≡ section.cell_limit_from self.entry.0.now }
+    {
+        (self.0[20] > 0).then_some(self.0[21])
     }
-}
 
-#[tactic(auto, unfolding(crate::specs::Request::range_from))]
-fn range_from(request: &[u64; 61], at: usize) -> PrintRange
-    requires { at ≤ 57 }
-    ensures { result ≡ section.range_from request.now at }
-{
-    PrintRange {
-        first_row: index_of(request[at]),
-        first_column: index_of(request[at + 1]),
-        last_row: index_of(request[at + 2]),
-        last_column: index_of(request[at + 3]),
+    #[tactic(auto, unfolding(crate::specs::Request::settings_from))]
+    fn settings(self) -> Settings
+        ensures { result ≡ section.settings_from self.entry.0.now }
+    {
+        Settings {
+            paper: self.setting(0),
+            landscape: self.0[2] > 0,
+            margins: self.margins(),
+            percent: self.setting(10),
+            fit: self.0[12] > 0,
+            fit_width: self.setting(13),
+            fit_height: self.setting(15),
+            order: order_from(self.0[17]),
+            headings: self.0[18] > 0,
+            page_limit: self.0[19],
+            cell_limit: self.cell_limit(),
+        }
+    }
+
+    #[tactic(auto, unfolding(crate::specs::Request::range_from))]
+    fn range(self, at: usize) -> PrintRange
+        requires { at ≤ 57 }
+        ensures { result ≡ section.range_from self.entry.0.now at }
+    {
+        PrintRange {
+            first_row: index_of(self.0[at]),
+            first_column: index_of(self.0[at + 1]),
+            last_row: index_of(self.0[at + 2]),
+            last_column: index_of(self.0[at + 3]),
+        }
+    }
+
+    // 4: one to eight areas are asked for.
+    #[tactic(auto, unfolding(crate::specs::Request::areas_counted))]
+    pub fn areas_counted(self) -> bool
+        ensures { result ≡ section.areas_counted self.entry.0.now }
+    {
+        (1..=8).contains(&self.0[22])
+    }
+
+    // 5: a fit and an order are 0 or 1, in numbers as in bytes.
+    #[tactic(auto, unfolding(crate::specs::Request::flags_hold))]
+    pub fn flags_hold(self) -> bool
+        ensures { result ≡ section.flags_hold self.entry.0.now }
+    {
+        (self.0[12] <= 1) & (self.0[17] <= 1)
     }
 }
 
@@ -97,42 +109,29 @@ fn range_from(request: &[u64; 61], at: usize) -> PrintRange
 fn areas_from(request: &[u64; 61]) -> Areas
     ensures { result ≡ section.areas_from request.now }
 {
+    let numbers = RequestNumbers(request);
     Areas {
         count: request[22] as usize,
-        first: range_from(request, 23),
-        second: range_from(request, 27),
-        third: range_from(request, 31),
-        fourth: range_from(request, 35),
-        fifth: range_from(request, 39),
-        sixth: range_from(request, 43),
-        seventh: range_from(request, 47),
-        eighth: range_from(request, 51),
+        first: numbers.range(23),
+        second: numbers.range(27),
+        third: numbers.range(31),
+        fourth: numbers.range(35),
+        fifth: numbers.range(39),
+        sixth: numbers.range(43),
+        seventh: numbers.range(47),
+        eighth: numbers.range(51),
     }
 }
 
-// 4: one to eight areas are asked for.
-#[tactic(auto, unfolding(crate::specs::Request::areas_counted))]
-pub fn areas_counted(request: &[u64; 61]) -> bool
-    ensures { result ≡ section.areas_counted request.now }
-{
-    (1 <= request[22]) & (request[22] <= 8)
-}
+impl From<RequestNumbers<'_>> for Request {
+    ghost from_gives = { λ numbers request. request ≡ section.request_from numbers.0.now };
 
-// 5: a fit and an order are 0 or 1, in numbers as in bytes.
-#[tactic(auto, unfolding(crate::specs::Request::flags_hold))]
-pub fn flags_hold(request: &[u64; 61]) -> bool
-    ensures { result ≡ section.flags_hold request.now }
-{
-    (request[12] <= 1) & (request[17] <= 1)
-}
-
-pub fn request_from(request: &[u64; 61]) -> Request
-    ensures { result ≡ section.request_from request.now }
-{
-    Request {
-        settings: settings_from(request),
-        areas: areas_from(request),
-        row_title: title_from(request, 55),
-        column_title: title_from(request, 58),
+    fn from(numbers: RequestNumbers<'_>) -> Request {
+        Request {
+            settings: numbers.settings(),
+            areas: areas_from(numbers.0),
+            row_title: numbers.title(55),
+            column_title: numbers.title(58),
+        }
     }
 }

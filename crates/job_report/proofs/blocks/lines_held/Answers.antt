@@ -2,8 +2,7 @@
 use Rattle.std.proofs.Common.{◌-◌, sym, ap, ◌∙◌, arith}
 use Rattle.units.specs.Refusals.{outcome}
 use Rattle.job_report.proofs.SpotLaws.{placed}
-use Rattle.job_report.proofs.BlockLaws.{holding_none, holding_more, holding_refused, holding_full, open_told, shut_told}
-use Rattle.job_report.proofs.BlockLaws.{part_last, part_asked, area_holds, held_on}
+use Rattle.job_report.proofs.BlockLaws.{holding_none, holding_more, holding_refused, holding_full, shut_told, part_last, turn, held_on}
 use Rattle.job_report.proofs.blocks.lines_held.Goals as goal
 
 pub overflow_sub-most : goal.overflow_sub-most
@@ -13,36 +12,27 @@ pub loop-bytes-init : goal.loop-bytes-init
 loop-bytes-init c = holding_none _ _ _
 
 pub overflow_add-own : goal.overflow_add-own
-overflow_add-own c =
-    let w = placed c.args.plan c.args.from c.args.spot c.requires.found in
-    let goes_on = open_told c.loop-bytes.bytes 65280 c.loop-bytes.pages (c.args.plan.pages - c.args.from) c.loop-bytes-test.true in
-    omega (arith, goes_on.1, w.from_one, w.to_count, w.within.not_later)
+overflow_add-own c = omega (arith, (turn _ _ _ _ _ c.requires _ c.plan_at-area.ensures _ _ c.loop-bytes-test.true).own)
 
 pub overflow_add-own-in-loop-bytes : goal.overflow_add-own-in-loop-bytes
-overflow_add-own-in-loop-bytes c =
-    let w = placed c.args.plan c.args.from c.args.spot c.requires.found in
-    let goes_on = open_told c.loop-bytes.bytes 65280 c.loop-bytes.pages (c.args.plan.pages - c.args.from) c.loop-bytes-test.true in
-    omega (arith, goes_on.1, w.from_one, w.to_count, w.within.not_later)
+overflow_add-own-in-loop-bytes c = omega (arith, (turn _ _ _ _ _ c.requires _ c.plan_at-area.ensures _ _ c.loop-bytes-test.true).own)
 
 pub returns-in_default : goal.returns-in_default
 returns-in_default c =
-    let goes_on = open_told _ _ _ _ c.loop-bytes-test.true in
-    let asked = part_asked _ _ _ _ _ _ (area_holds _ _ _ _ _ c.requires _ c.plan_at-area.ensures) _ goes_on.1 in
+    let t = turn _ _ _ _ _ c.requires _ c.plan_at-area.ensures _ _ c.loop-bytes-test.true in
     held_on _ _ _ _ _ c.requires _ c.plan_at-area.ensures _ _ _
-    (holding_refused _ _ _ _ _ _ c.loop-bytes.invariant _ (sym asked ∙ sym c.area_page-answer.ensures ∙ ap outcome c.in_default.is))
+    (holding_refused _ _ _ _ _ _ c.loop-bytes.invariant _ (sym t.asked ∙ sym c.area_page-answer.ensures ∙ ap outcome c.in_default.is))
 
 pub overflow_add-pages : goal.overflow_add-pages
 overflow_add-pages c =
-    let w = placed c.args.plan c.args.from c.args.spot c.requires.found in
-    let goes_on = open_told c.loop-bytes.bytes 65280 c.loop-bytes.pages (c.args.plan.pages - c.args.from) c.loop-bytes-test.true in
-    omega (arith, goes_on.1, w.from_one, w.to_count)
+    let t = turn _ _ _ _ _ c.requires _ c.plan_at-area.ensures _ _ c.loop-bytes-test.true in
+    omega (arith, t.own, t.number)
 
 pub loop-bytes-preserved : goal.loop-bytes-preserved
 loop-bytes-preserved c =
-    let goes_on = open_told c.loop-bytes.bytes 65280 c.loop-bytes.pages (c.args.plan.pages - c.args.from) c.loop-bytes-test.true in
-    let asked = part_asked _ _ _ _ _ _ (area_holds _ _ _ _ _ c.requires _ c.plan_at-area.ensures) _ goes_on.1 in
-    holding_more _ _ _ _ _ _ c.loop-bytes.invariant _ _ _ (sym asked ∙ sym c.area_page-answer.ensures ∙ ap outcome c.in-Ok.is)
-    goes_on.0 (omega (arith, goes_on.0)) c.page_at-bytes.ensures.put_at c.page_at-bytes.auto.out
+    let t = turn _ _ _ _ _ c.requires _ c.plan_at-area.ensures _ _ c.loop-bytes-test.true in
+    holding_more _ _ _ _ _ _ c.loop-bytes.invariant _ _ _ (sym t.asked ∙ sym c.area_page-answer.ensures ∙ ap outcome c.in-Ok.is)
+    t.room (omega (arith, t.room)) c.page_at-bytes.ensures.put_at c.page_at-bytes.auto.out
 
 pub returns : goal.returns
 returns c =

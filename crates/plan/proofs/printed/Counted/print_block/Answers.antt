@@ -3,12 +3,7 @@ use Rattle.std.proofs.Common.{arith}
 use Rattle.job_report.proofs.WholeLaws.{block_told}
 use Rattle.plan.proofs.printed.Counted.print_block.Goals as goal
 
-pub returns-in_ok-write-in-Ok-clause-some : goal.returns-in_ok-write-in-Ok-clause-some
-returns-in_ok-write-in-Ok-clause-some g c =
+pub returns-in_ok-write-in-Ok : goal.returns-in_ok-write-in-Ok
+returns-in_ok-write-in-Ok g c =
     let got = block_told _ _ _ _ _ _ _ (rw c.in-Ok.is at c.area_block-answer.ensures) in
-    got.1.some
-
-pub returns-in_ok-write-in-Ok-clause-to_count : goal.returns-in_ok-write-in-Ok-clause-to_count
-returns-in_ok-write-in-Ok-clause-to_count g c =
-    let got = block_told _ _ _ _ _ _ _ (rw c.in-Ok.is at c.area_block-answer.ensures) in
-    omega (arith, got.1.to_count)
+    record { some = got.1.some; to_count = omega (arith, got.1.to_count) }
