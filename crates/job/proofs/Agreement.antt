@@ -4,7 +4,7 @@ use mathlib.Core.Bool.{true}
 use mathlib.Core.List.{List, []}
 use Prim.Native.Nat.{ℕ}
 use Rattle.units.specs.Outcome.{given}
-use Rattle.planner_rules.specs.declared.planning.Areas.{Areas}
+use Rattle.planner_rules.specs.declared.planning.PrintRange.{PrintRange}
 use Rattle.planner_rules.specs.Plan.{Sheet, planned, counted, area_written}
 use Rattle.planner_rules.proofs.QuestionLaws.{both}
 use Rattle.job_reader.specs.declared.lists.Job.{Job}
@@ -51,8 +51,8 @@ module _ (s : List ℕ) (before after : Lists) (j : Job) (w : JobRead s (Ok j) b
   abbrev sheet : Sheet
   sheet = sheet_read j.settings (fronts j.items after)
 
-  abbrev areas : Areas
-  areas = areas_for j.settings.areas
+  abbrev areas : List PrintRange
+  areas = areas_for j.settings.areas.items
 
   same_sheet : sheet ≡ job_sheet s
   same_sheet = sheet_is s j after job_is (read_to s before after (Ok j) w j refl job_is)

@@ -13,15 +13,13 @@ use lib.Seq.{take_at, drop-append-add, ext_get_or}
 use Rattle.units.specs.Outcome.{Outcome, given, refused, and_then}
 use Rattle.std.specs.Prelude.{Option}
 use Rattle.planner_rules.specs.declared.pages.AreaPlan.{AreaPlan}
-use Rattle.planner_rules.specs.declared.pages.AreaPlans.{AreaPlans}
 use Rattle.planner_rules.specs.declared.pages.Plan.{Plan}
 use Rattle.planner_rules.specs.declared.planning.PrintRange.{PrintRange}
-use Rattle.planner_rules.specs.declared.planning.Areas.{Areas}
 use Rattle.planner_rules.specs.declared.planning.Settings.{Settings}
 use Rattle.planner_rules.specs.Questions.{ask}
 use Rattle.planner_rules.specs.Runs.{Run}
 use Rattle.planner_rules.specs.Lent.{room_in}
-use Rattle.planner_rules.specs.Areas.{eight_ranges, areas_in, no_range, plans_in, no_plan, held_plans, over_areas}
+use Rattle.planner_rules.specs.Areas.{no_range, no_plan, over_areas}
 use Rattle.planner_rules.specs.Scale.{Scale, middle, halve, fixed_scale, fit_scale}
 use Rattle.planner_rules.specs.Pages.{joined, or_empty, pages_in, row_runs, column_runs}
 use Rattle.planner_rules.specs.Plan.{AxisInput, Sheet, Sides, rows_in, columns_in, chosen_scale, cut_runs, page_runs}
@@ -31,8 +29,6 @@ use Rattle.planner_rules.specs.Plan.{numbered_area, area_written}
 use Rattle.planner_rules.specs.Steps.{asked}
 use Rattle.planner_rules.proofs.Laws.{either, split}
 use Rattle.planner_rules.proofs.Halving.{by_test, halve_stop, halve_up, halve_down}
-use Rattle.planner_rules.proofs.AreaPages.{plans_count, plans_at}
-use Rattle.planner_rules.proofs.AreasLaws.{plan_is}
 use Rattle.planner_rules.proofs.PlanLaws.{questions_first, numbered_is, asks_number}
 use Rattle.planner_rules.proofs.NoTen.{not_given}
 use Rattle.planner_rules.proofs.RunCount.{area_never_eleven}
@@ -89,25 +85,23 @@ some_run side a p = go (cut_runs side a p)
     go [] = omega arith
     go (r ∷ rs) = omega arith
 
-module _ (c : Sides) (s : Sheet) (gs : List PrintRange) (few : length gs ≤ 8) where
+module _ (c : Sides) (s : Sheet) (gs : List PrintRange) where
   -- what an area came to
   abbrev came : PrintRange → AreaPlan
   came g = plan_in (area_layout c s g)
 
-  abbrev plans : AreaPlans
-  plans = held_plans (map plan_in (layouts_of c s gs))
+  abbrev plans : List AreaPlan
+  plans = map plan_in (layouts_of c s gs)
 
-  pub plans_are : plans_in plans ≡ map came gs
-  plans_are =
-      ext_get_or no_plan (plans_in plans) (map came gs) (long ∙ sym (length-map gs came))
-      (λ k h. plans_at plans k h ∙ plan_is c s gs k (get_or gs k no_range) (omega (arith, long)) refl few plans _ refl refl
-      ∙ sym (map_at came gs k (omega (arith, long))))
+  plans_are : plans ≡ map came gs
+  plans_are = go gs
     where
-      long : length (plans_in plans) ≡ length gs
-      long = omega (arith, plans_count plans, length-map (layouts_of c s gs) plan_in, length-map gs (area_layout c s))
+      go : (hs : List PrintRange) → map plan_in (layouts_of c s hs) ≡ map came hs
+      go [] = refl
+      go (h ∷ hs) = ap (λ (l : List AreaPlan). came h ∷ l) (go hs)
 
   -- the pages of a plan are those of its areas, and each area has one
-  pub pages_are : (plan_of c s (layouts_of c s gs)).pages ≡ over_areas pages_in (plans_in plans)
+  pub pages_are : (plan_of c s (layouts_of c s gs)).pages ≡ over_areas pages_in plans
   unfolding plan_of over_areas
   pages_are = rw plans_are (go gs)
     where
@@ -115,7 +109,7 @@ module _ (c : Sides) (s : Sheet) (gs : List PrintRange) (few : length gs ≤ 8) 
       go [] = refl
       go (h ∷ hs) = ap (λ (n : ℕ). pages_in (came h) + n) (go hs)
 
-  pub some_page : (k : ℕ) → k < length (plans_in plans) → 1 ≤ pages_in (get_or (plans_in plans) k no_plan)
+  pub some_page : (k : ℕ) → k < length plans → 1 ≤ pages_in (get_or plans k no_plan)
   unfolding area_layout area_at counted_at
   some_page k h =
       let l : k < length gs = omega (arith, ap length plans_are, length-map gs came) in
@@ -144,17 +138,17 @@ module _ (c : Sides) (s : Sheet) (gs : List PrintRange) (few : length gs ≤ 8) 
 -- ---- a plan that was counted
 
 -- the questions were answered yes, with these sides, and the plan is this one
-pub record CountedAs (s : Sheet) (areas : Areas) (l : Layout) : Type 0 where
+pub record CountedAs (s : Sheet) (areas : List PrintRange) (l : Layout) : Type 0 where
   pub sides : Sides
   pub asked_is : asked s areas ≡ given sides
-  pub is : layout sides s (areas_in areas) ≡ l
+  pub is : layout sides s areas ≡ l
 
-pub counted_as : (s : Sheet) (areas : Areas) (l : Layout) → counted s areas ≡ given l → CountedAs s areas l
+pub counted_as : (s : Sheet) (areas : List PrintRange) (l : Layout) → counted s areas ≡ given l → CountedAs s areas l
 unfolding counted within_limit
 counted_as s areas l e = go (asked s areas) refl (sym (questions_first s areas rest) ∙ e)
   where
     rest : Sides → Outcome Layout
-    rest c = within_limit s (layout c s (areas_in areas))
+    rest c = within_limit s (layout c s areas)
 
     same : (whole : Layout) (b : Bool) → ask 12 b (given whole) ≡ given l → whole ≡ l
     same whole true e = cc
@@ -163,57 +157,54 @@ counted_as s areas l e = go (asked s areas) refl (sym (questions_first s areas r
     go : (o : Outcome Sides) → asked s areas ≡ o → and_then o rest ≡ given l → CountedAs s areas l
     go (refused n) i j = absurd (not_given l n (sym j))
     go (given c) i j =
-        let whole = layout c s (areas_in areas) in
+        let whole = layout c s areas in
         record { sides = c; asked_is = i; is = same whole (leb whole.plan.pages s.settings.page_limit) j }
-
-few_areas : (areas : Areas) → length (areas_in areas) ≤ 8
-few_areas areas = omega (arith, length-take areas.count (eight_ranges areas))
 
 -- ---- one area of it, written
 
 -- the runs of the area with the number k, from 0, where one plan has them
 abbrev pub rows_own : Layout → ℕ → List Run
 rows_own l k =
-    let areas = plans_in l.plan.areas in
+    let areas = l.plan.areas.items in
     take (get_or areas k no_plan).row_runs (drop (row_runs (take k areas)) l.rows)
 
 abbrev pub columns_own : Layout → ℕ → List Run
 columns_own l k =
-    let areas = plans_in l.plan.areas in
+    let areas = l.plan.areas.items in
     take (get_or areas k no_plan).column_runs (drop (column_runs (take k areas)) l.columns)
 
 -- the area is written at the permille that was found for it, and its runs are those
 pub record Writes (o : ℕ → Outcome AreaLayout) (l : Layout) (k : ℕ) : Type 0 where
   pub area : AreaLayout
-  pub is : o (get_or (plans_in l.plan.areas) k no_plan).permille ≡ given area
+  pub is : o (get_or l.plan.areas.items k no_plan).permille ≡ given area
   pub rows_are : area.rows ≡ rows_own l k
   pub columns_are : area.columns ≡ columns_own l k
 
-module _ (s : Sheet) (areas : Areas) (c : Sides) (asked_is : asked s areas ≡ given c) where
+module _ (s : Sheet) (areas : List PrintRange) (c : Sides) (asked_is : asked s areas ≡ given c) where
   abbrev gs : List PrintRange
-  gs = areas_in areas
+  gs = areas
 
   abbrev l : Layout
   l = layout c s gs
 
   abbrev to : PrintRange → AreaPlan
-  to = came c s gs (few_areas areas)
+  to = came c s gs
 
-  plan_areas : plans_in l.plan.areas ≡ map to gs
+  plan_areas : l.plan.areas.items ≡ map to gs
   unfolding layout plan_of
-  plan_areas = plans_are c s gs (few_areas areas)
+  plan_areas = plans_are c s gs
 
-  module _ (k : ℕ) (h : k < length (plans_in l.plan.areas)) where
+  module _ (k : ℕ) (h : k < length l.plan.areas.items) where
     abbrev g : PrintRange
     g = get_or gs k no_range
 
     abbrev p : ℕ
-    p = (get_or (plans_in l.plan.areas) k no_plan).permille
+    p = (get_or l.plan.areas.items k no_plan).permille
 
     inside : k < length gs
     inside = omega (arith, ap length plan_areas, length-map gs to)
 
-    at : get_or (plans_in l.plan.areas) k no_plan ≡ to g
+    at : get_or l.plan.areas.items k no_plan ≡ to g
     at = rw plan_areas (map_at to gs k inside)
 
     permille_is : p ≡ (chosen_scale s.settings c (rows_in s g) (columns_in s g)).permille
@@ -228,11 +219,11 @@ module _ (s : Sheet) (areas : Areas) (c : Sides) (asked_is : asked s areas ≡ g
 
     own_rows : area.rows ≡ rows_own l k
     unfolding area_at area_layout layout
-    own_rows = ap (λ (q : ℕ). page_runs c.height (rows_in s g) q) permille_is ∙ sym (rows_part c s gs (few_areas areas) k inside plan_areas at)
+    own_rows = ap (λ (q : ℕ). page_runs c.height (rows_in s g) q) permille_is ∙ sym (rows_part c s gs k inside plan_areas at)
 
     own_columns : area.columns ≡ columns_own l k
     unfolding area_at area_layout layout
-    own_columns = ap (λ (q : ℕ). page_runs c.width (columns_in s g) q) permille_is ∙ sym (columns_part c s gs (few_areas areas) k inside plan_areas at)
+    own_columns = ap (λ (q : ℕ). page_runs c.width (columns_in s g) q) permille_is ∙ sym (columns_part c s gs k inside plan_areas at)
 
     module _ (rows columns : List ℕ) (room : length s.row_indexes ≤ room_in rows) (one : 1 ≤ room_in rows)
         (column_room : length s.column_indexes ≤ room_in columns) (column_one : 1 ≤ room_in columns) where
@@ -257,7 +248,7 @@ module _ (s : Sheet) (areas : Areas) (c : Sides) (asked_is : asked s areas ≡ g
           }
 
 -- an area of what was counted, in lists with room for as many runs as there are slots, and for one
-pub counted_writes : (s : Sheet) (areas : Areas) (l : Layout) → counted s areas ≡ given l → (k : ℕ) → k < length (plans_in l.plan.areas)
+pub counted_writes : (s : Sheet) (areas : List PrintRange) (l : Layout) → counted s areas ≡ given l → (k : ℕ) → k < length l.plan.areas.items
     → (rows columns : List ℕ) → length s.row_indexes ≤ room_in rows → 1 ≤ room_in rows → length s.column_indexes ≤ room_in columns
     → 1 ≤ room_in columns → Writes (λ (q : ℕ). area_written s areas (k + 1) q rows columns) l k
 counted_writes s areas l e k h rows columns room one column_room column_one =
@@ -267,14 +258,14 @@ counted_writes s areas l e k h rows columns room one column_room column_one =
 -- the pages of a plan are those of its areas, and each area has one
 abbrev pub Adds : Plan → Type 0
 Adds p =
-    (p.pages ≡ over_areas pages_in (plans_in p.areas))
-    × ((k : ℕ) → k < length (plans_in p.areas) → 1 ≤ pages_in (get_or (plans_in p.areas) k no_plan))
+    (p.pages ≡ over_areas pages_in p.areas.items)
+    × ((k : ℕ) → k < length p.areas.items → 1 ≤ pages_in (get_or p.areas.items k no_plan))
 
 -- so of what was counted
-pub counted_pages : (s : Sheet) (areas : Areas) (l : Layout) → counted s areas ≡ given l → Adds l.plan
+pub counted_pages : (s : Sheet) (areas : List PrintRange) (l : Layout) → counted s areas ≡ given l → Adds l.plan
 unfolding layout plan_of
 counted_pages s areas l e =
     let w = counted_as s areas l e in
-    let whole : Adds (layout w.sides s (areas_in areas)).plan =
-    (pages_are w.sides s (areas_in areas) (few_areas areas), some_page w.sides s (areas_in areas) (few_areas areas)) in
+    let whole : Adds (layout w.sides s areas).plan =
+    (pages_are w.sides s areas, some_page w.sides s areas) in
     subst (λ (x : Layout). Adds x.plan) w.is whole

@@ -26,7 +26,7 @@ use Rattle.planner_rules.specs.Asked.{sheet_with}
 use Rattle.planner_rules.specs.declared.lists.SheetLists.{SheetLists}
 use Rattle.planner_rules.specs.declared.planning.Settings.{Settings}
 use Rattle.job_settings.specs.declared.JobSettings.{JobSettings}
-use Rattle.planner_rules.specs.declared.planning.Areas.{Areas}
+use Rattle.planner_rules.specs.declared.planning.PrintRange.{PrintRange}
 use Rattle.job.specs.PlanJob.{lists_in, sheet_read, job_lists, job_sheet, job_areas, fronts, Long, Telling, Holds, JobTold}
 
 -- ---- lists that hold what a job brings
@@ -119,8 +119,8 @@ pub sheet_is : (s : List ℕ) (j : Job) (after : Lists) → j ≡ job_of (record
     → sheet_read j.settings (fronts j.items after) ≡ job_sheet s
 sheet_is s j after m f = ap₂ sheet_read (ap (λ (x : Job). x.settings) m) (fronts_are s j.items after f)
 
-pub areas_are : (s : List ℕ) (j : Job) → j ≡ job_of (records s) → areas_for j.settings.areas ≡ job_areas s
-areas_are s j m = ap (λ (x : Job). areas_for x.settings.areas) m
+pub areas_are : (s : List ℕ) (j : Job) → j ≡ job_of (records s) → areas_for j.settings.areas.items ≡ job_areas s
+areas_are s j m = ap (λ (x : Job). areas_for x.settings.areas.items) m
 
 -- ---- the questions of a job that is read
 
@@ -160,7 +160,7 @@ sheet_by j set l =
     l.merge_first_rows l.merge_first_columns l.merge_last_rows l.merge_last_columns l.row_breaks l.column_breaks
 
 -- the clauses of an answer, of the same job
-same_told : {A : Type 0} (told : Telling A) {v u : Outcome Items} {s t : Sheet} {a b : Areas} → v ≡ u → s ≡ t → a ≡ b
+same_told : {A : Type 0} (told : Telling A) {v u : Outcome Items} {s t : Sheet} {a b : List PrintRange} → v ≡ u → s ≡ t → a ≡ b
     → (r : Result A Refusal) (rows₀ columns₀ rows columns : List ℕ) → told v s a r rows₀ columns₀ rows columns → told u t b r rows₀ columns₀ rows columns
 same_told told e f g r rows₀ columns₀ rows columns t = rw (← e, ← f, ← g) t
 
@@ -193,8 +193,8 @@ module _ {s : List ℕ} {before after : Lists} (holds : Holds s before) {got : R
         same_told told (sym (verdict_no s holds (number_of x) (sym (ap outcome k) ∙ w.answer))) refl refl r rows₀ columns₀ rows columns t
 
     -- an answer to what was read answers the job
-    pub reading_told : {j : Job} → got ≡ Ok j → {set : Settings} {areas : Areas} (l : SheetLists) → set ≡ settings_for j.settings
-        → areas ≡ areas_for j.settings.areas → lists_in l ≡ fronts j.items after
+    pub reading_told : {j : Job} → got ≡ Ok j → {set : Settings} {areas : List PrintRange} (l : SheetLists) → set ≡ settings_for j.settings
+        → areas ≡ areas_for j.settings.areas.items → lists_in l ≡ fronts j.items after
         → ((items : Items) → told (given items) (sheet_with set j.settings.row_title j.settings.column_title l) areas r rows₀ columns₀ rows columns)
         → JobTold told s r rows₀ columns₀ rows columns
     reading_told {j} k l e f h t =

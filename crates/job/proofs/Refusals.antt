@@ -7,7 +7,6 @@ use native.Mathlib.Omega.{arith}
 use lib.ListN.{length, length-map}
 use Rattle.units.specs.Outcome.{Outcome, given, refused, and_then}
 use Rattle.planner_rules.specs.Lent.{room_in}
-use Rattle.planner_rules.specs.Areas.{plans_in}
 use Rattle.planner_rules.specs.Plan.{Layout, planned, counted, area_written}
 use Rattle.planner_rules.proofs.NoTen.{among, plan_numbers_lem, count_numbers, area_numbers}
 use Rattle.planner_rules.proofs.RunCount.{never_eleven}
@@ -98,7 +97,7 @@ module _ (s : List ℕ) (items : Items) (v : verdict_lent true s ≡ given items
   columns_few = omega (arith, few_columns s items v, length-map (marked CL (records s)) (field 0))
 
 -- 5,000 entries an axis for each area are enough for one plan
-pub job_never_eleven : (s rows columns : List ℕ) → (job_areas s).count * 5000 ≤ room_in rows → (job_areas s).count * 5000 ≤ room_in columns
+pub job_never_eleven : (s rows columns : List ℕ) → length (job_areas s) * 5000 ≤ room_in rows → length (job_areas s) * 5000 ≤ room_in columns
     → plan_job s rows columns ≡ refused 11 → ⊥
 unfolding plan_job
 job_never_eleven s rows columns hr hc e =
@@ -107,7 +106,7 @@ job_never_eleven s rows columns hr hc e =
 
 -- "Its run lists hold 5,000 entries an axis": area by area, that many are enough for all; a job that was counted is written, each area at the
 -- permille that was found for it, and refused with nothing
-pub job_writes : (s : List ℕ) (l : Layout) → count_job s ≡ given l → (k : ℕ) → k < length (plans_in l.plan.areas)
+pub job_writes : (s : List ℕ) (l : Layout) → count_job s ≡ given l → (k : ℕ) → k < length l.plan.areas.items
     → (rows columns : List ℕ) → 5000 ≤ room_in rows → 5000 ≤ room_in columns → Writes (λ (p : ℕ). write_job_area s (k + 1) p rows columns) l k
 unfolding count_job write_job_area
 job_writes s l e k h rows columns hr hc =

@@ -2,7 +2,7 @@
 use Rattle.std.specs.Prelude.{◌≡◌, true, List, ℕ, suc, ◌*◌, ◌<◌, ◌≤◌, length, take, Result}
 use Rattle.units.specs.Outcome.{Outcome, and_then}
 use Rattle.planner_rules.specs.declared.lists.SheetLists.{SheetLists}
-use Rattle.planner_rules.specs.declared.planning.Areas.{Areas}
+use Rattle.planner_rules.specs.declared.planning.PrintRange.{PrintRange}
 use Rattle.planner_rules.specs.Plan.{Sheet, Layout, AreaLayout, Planned, Counted, AreaWrote, sheet_of, planned, counted, area_written}
 use Rattle.planner_rules.specs.Demand.{CoversPairs, FewestPlan, LargestPlan}
 use Rattle.planner_rules.specs.declared.pages.Plan as pages
@@ -46,8 +46,8 @@ abbrev pub job_sheet : List ℕ → Sheet
 job_sheet s = sheet_read (settings_of (records s)) (job_lists s)
 
 -- "AR may stand up to eight times": the areas, in job order
-abbrev pub job_areas : List ℕ → Areas
-job_areas s = areas_for (settings_of (records s)).areas
+abbrev pub job_areas : List ℕ → List PrintRange
+job_areas s = areas_for (settings_of (records s)).areas.items
 
 -- ---- the calls
 
@@ -66,14 +66,14 @@ write_job_area s n p rows columns = and_then (verdict s) (λ (items : Items). ar
 -- ---- for the private functions
 
 -- the four clauses: the answer r and the run lists, which were rows₀ and columns₀, where the outcome is o
-abbrev pub PlanTold : Outcome Layout → Sheet → Areas → Outcome pages.Plan → List ℕ → List ℕ → List ℕ → List ℕ → Type 0
+abbrev pub PlanTold : Outcome Layout → Sheet → List PrintRange → Outcome pages.Plan → List ℕ → List ℕ → List ℕ → List ℕ → Type 0
 PlanTold o s areas r rows₀ columns₀ rows columns =
     Planned o r rows₀ columns₀ rows columns
     × (CoversPairs r s areas rows columns × (FewestPlan r s areas rows columns × LargestPlan r s areas))
 
 -- clauses of an answer to a job whose questions come to an outcome: the answer, the run lists before it and those after it
 abbrev pub Telling : Type 0 → Type 1
-Telling A = Outcome Items → Sheet → Areas → Result A Refusal → List ℕ → List ℕ → List ℕ → List ℕ → Type 0
+Telling A = Outcome Items → Sheet → List PrintRange → Result A Refusal → List ℕ → List ℕ → List ℕ → List ℕ → Type 0
 
 -- of its plan
 abbrev pub plan_told : Telling pages.Plan

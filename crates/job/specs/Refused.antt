@@ -7,7 +7,7 @@ use Rattle.units.specs.Outcome.{Outcome, given, refused}
 use Rattle.units.specs.declared.refusal.Refusal.{Refusal}
 use Rattle.units.specs.Refusals.{number_of}
 use Rattle.planner_rules.specs.declared.pages.Plan.{Plan}
-use Rattle.planner_rules.specs.declared.planning.Areas.{Areas}
+use Rattle.planner_rules.specs.declared.planning.PrintRange.{PrintRange}
 use Rattle.planner_rules.specs.Plan.{Sheet, Layout}
 use Rattle.planner_rules.proofs.PlanLaws.{refuses_plan}
 use Rattle.std.specs.Prelude.{Err}
@@ -17,7 +17,7 @@ no_plan : {X : Type 0} (n : ℕ) (plan : Plan) → refused n ≡ given plan → 
 no_plan n plan e = let z : ◌≡◌ {A = ℕ} 0 1 = cc in absurd (omega arith)
 
 -- a refusal: nothing is found in it, and nothing was written
-pub refused_plan : (o : Outcome Layout) (s : Sheet) (areas : Areas) (n : ℕ) (rows columns : List ℕ) → o ≡ refused n
+pub refused_plan : (o : Outcome Layout) (s : Sheet) (areas : List PrintRange) (n : ℕ) (rows columns : List ℕ) → o ≡ refused n
     → PlanTold o s areas (refused n) rows columns rows columns
 refused_plan o s areas n rows columns e = (
   refuses_plan o n rows columns e,
@@ -30,14 +30,14 @@ refused_plan o s areas n rows columns e = (
   ),
 )
 
-pub plan_refused : (x : Refusal) (s : Sheet) (areas : Areas) (rows columns : List ℕ)
+pub plan_refused : (x : Refusal) (s : Sheet) (areas : List PrintRange) (rows columns : List ℕ)
     → plan_told (refused (number_of x)) s areas (Err x) rows columns rows columns
 plan_refused x s areas rows columns = refused_plan (refused (number_of x)) s areas (number_of x) rows columns refl
 
-pub count_refused : (x : Refusal) (s : Sheet) (areas : Areas) (rows columns : List ℕ)
+pub count_refused : (x : Refusal) (s : Sheet) (areas : List PrintRange) (rows columns : List ℕ)
     → count_told (refused (number_of x)) s areas (Err x) rows columns rows columns
 count_refused x s areas rows columns = refl
 
-pub area_refused : (n p : ℕ) (x : Refusal) (s : Sheet) (areas : Areas) (rows columns : List ℕ)
+pub area_refused : (n p : ℕ) (x : Refusal) (s : Sheet) (areas : List PrintRange) (rows columns : List ℕ)
     → area_told n p (refused (number_of x)) s areas (Err x) rows columns rows columns
 area_refused n p x s areas rows columns = record { answer = refl; rows_are = refl; columns_are = refl }

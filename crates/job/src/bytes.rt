@@ -59,9 +59,10 @@ fn answer_in<W: Wanted>(
 {
     let job = read_job(bytes, lent)?;
     let lists = fronts(job.items, lent);
+    let areas = areas_for(&job.settings.areas);
     let request = Request {
-        settings: settings_for(job.settings),
-        areas: areas_for(job.settings.areas),
+        settings: settings_for(&job.settings),
+        areas: areas.as_slice(),
         row_title: job.settings.row_title,
         column_title: job.settings.column_title,
     };

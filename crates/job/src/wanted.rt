@@ -5,7 +5,7 @@ ghost use Rattle.units.specs.Refusals.{number_of};
 ghost use Rattle.units.specs.declared.refusal.Refusal.{Refusal};
 ghost use Rattle.planner_rules.specs.Asked.{sheet_asked};
 ghost use Rattle.planner_rules.specs.Plan.{Sheet};
-ghost use Rattle.planner_rules.specs.declared.planning.Areas.{Areas};
+ghost use Rattle.planner_rules.specs.declared.planning.PrintRange.{PrintRange};
 ghost use Rattle.job_questions.specs.declared.Items.{Items};
 ghost use Rattle.job.specs.PlanJob.{Telling, plan_told, count_told, area_told};
 ghost use Rattle.job.specs.Refused.{plan_refused, count_refused, area_refused};
@@ -27,11 +27,11 @@ pub(crate) trait Wanted: Copy {
         row_runs: &mut [u64],
         column_runs: &mut [u64],
     ) -> Result<Self::Answer, Refusal>
-        ensures { (items : Items) → told self (given items) (sheet_asked request.now lists.now) request.now.areas result
+        ensures { (items : Items) → told self (given items) (sheet_asked request.now lists.now) request.now.areas.now result
             row_runs.old column_runs.old row_runs.new column_runs.new };
 
     // A refusal of the questions is handed on, and nothing is written.
-    ghost refuses: { (wanted : Self) (x : Refusal) (sheet : Sheet) (areas : Areas) (rows columns : List ℕ)
+    ghost refuses: { (wanted : Self) (x : Refusal) (sheet : Sheet) (areas : List PrintRange) (rows columns : List ℕ)
         → told wanted (refused (number_of x)) sheet areas (Err x) rows columns rows columns };
 }
 

@@ -1,5 +1,5 @@
 -- `job::bytes::answer_in` meets its contract: what was read to lists that hold it is answered.
-use Rattle.std.proofs.Common.{◌≡◌, rules}
+use Rattle.std.proofs.Common.{◌≡◌, ◌∙◌, rules}
 use Rattle.std.specs.Prelude.{Err}
 use Rattle.job.proofs.ReadLaws.{long_lists, refusal_told, reading_told}
 use Rattle.job.proofs.bytes.answer_in.Goals as goal
@@ -16,4 +16,4 @@ returns-in_err-job g c =
 pub returns : goal.returns
 returns g c =
     reading_told c.requires c.read_job.ensures (g.W.Wanted.told c.args.wanted) _ _ _ _ c.in_ok-job.was
-    c.fronts-lists.result c.settings_for.ensures c.areas_for.ensures c.fronts-lists.ensures c.answer.ensures
+    c.fronts-lists.result c.settings_for.ensures (c.as_slice.ensures.value ∙ c.areas_for-areas.ensures) c.fronts-lists.ensures c.answer.ensures
