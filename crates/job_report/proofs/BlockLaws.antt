@@ -19,7 +19,7 @@ use Rattle.units.specs.Refusals.{number_of, outcome}
 use Rattle.units.specs.declared.refusal.Refusal.{Refusal}
 use Rattle.units.specs.declared.refusal.Refusal.TheVariants as no
 use Rattle.planner_rules.specs.Questions.{ask}
-use Rattle.planner_rules.specs.Areas.{eight_plans, no_plan}
+use Rattle.planner_rules.specs.Areas.{no_plan}
 use Rattle.planner_rules.specs.Pages.{area_pages, page_at, pages_in, holds_area, numbered, area_numbered, spot_of}
 use Rattle.planner_rules.proofs.Laws.{split}
 use Rattle.planner_rules.proofs.NoTen.{not_given}
@@ -211,18 +211,15 @@ module _ (p : Plan) (n : ℕ) (s : Spot) (rows columns : List ℕ) where
   on_count = omega (arith, length-take (p.pages + 1 - n) (drop s.before (area_pages p.order (area_of p s) rows columns)))
 
   -- of the area as it is held
-  module _ (w : There p n s rows columns) (a : AreaPlan) (e : a ≡ get_or (eight_plans p.areas) s.area no_plan) where
-    area_same : a ≡ area_of p s
-    area_same = e ∙ sym (placed p n s w.found).area_is
-
+  module _ (w : There p n s rows columns) (a : AreaPlan) (e : a ≡ area_of p s) where
     area_holds : holds_area a rows columns ≡ true
-    area_holds = rw area_same w.holds
+    area_holds = rw e w.holds
 
     pub part_is : part p.order a rows columns s.before (p.pages - n) ≡ pages_on p rows columns n s
     unfolding pages_on
     part_is =
         let most : p.pages - n + 1 ≡ p.pages + 1 - n = omega (arith, (placed p n s w.found).to_count) in
-        rw (area_same, most)
+        rw (e, most)
 
     -- a turn that goes on: there is room, the numbers of its page stay within the plan's count, and what `area_page` answers
     pub record Turn (bytes k : ℕ) : Type 0 where
@@ -256,15 +253,12 @@ module _ (p : Plan) (n : ℕ) (rows columns : List ℕ) where
   unfolding block_pages
   block_nowhere e old = rw e (record { answer = refl; array_is = refl })
 
-  module _ (s : Spot) (found : spot_of p n ≡ Some s) (a : AreaPlan) (is : a ≡ get_or (eight_plans p.areas) s.area no_plan)
+  module _ (s : Spot) (found : spot_of p n ≡ Some s) (a : AreaPlan) (is : a ≡ area_of p s)
       (answer : Result Page Refusal) (asked : outcome answer ≡ area_numbered p.order a rows columns 1) where
-    held_same : a ≡ area_of p s
-    held_same = is ∙ sym (placed p n s found).area_is
-
     -- the area has a page, so that only 11 refuses its first
     first_is : ask 11 (holds_area (area_of p s) rows columns) (numbered (area_pages p.order (area_of p s) rows columns) 1) ≡ outcome answer
     unfolding area_numbered
-    first_is = rw (← held_same) (sym asked)
+    first_is = rw (← is) (sym asked)
 
     -- the runs of the area are held
     pub first_there : (first : Page) → answer ≡ Ok first → There p n s rows columns

@@ -12,7 +12,7 @@ use Rattle.planner_rules.specs.declared.pages.AreaPlan.{AreaPlan}
 use Rattle.planner_rules.specs.declared.pages.Plan.{Plan}
 use Rattle.planner_rules.specs.declared.pages.Spot.{Spot}
 use Rattle.std.specs.Prelude.{Some, None}
-use Rattle.planner_rules.specs.Areas.{eight_plans, plans_in, no_plan}
+use Rattle.planner_rules.specs.Areas.{no_plan}
 use Rattle.planner_rules.specs.Pages.{pages_in, spot_from, spot_of}
 use Rattle.planner_rules.proofs.Laws.{split}
 use Rattle.planner_rules.proofs.QuestionLaws.{both}
@@ -49,32 +49,29 @@ spot_within (a ∷ areas) k before s e =
 pub record Placed (p : Plan) (n : ℕ) (s : Spot) : Type 0 where
   pub from_one : 1 ≤ n
   pub to_count : n ≤ p.pages
-  pub is : spot_from 0 (n - 1) (plans_in p.areas) ≡ Some s
-  pub within : Within (plans_in p.areas) 0 (n - 1) s
-  pub area_is : area_of p s ≡ get_or (eight_plans p.areas) s.area no_plan
+  pub is : spot_from 0 (n - 1) p.areas.items ≡ Some s
+  pub within : Within p.areas.items 0 (n - 1) s
 
 pub placed : (p : Plan) (n : ℕ) (s : Spot) → spot_of p n ≡ Some s → Placed p n s
 unfolding spot_of
 placed p n s e = go (leb 1 n && leb n p.pages) refl e
   where
-    go : (b : Bool) → (leb 1 n && leb n p.pages) ≡ b → cond b (spot_from 0 (n - 1) (plans_in p.areas)) None ≡ Some s → Placed p n s
+    go : (b : Bool) → (leb 1 n && leb n p.pages) ≡ b → cond b (spot_from 0 (n - 1) p.areas.items) None ≡ Some s → Placed p n s
     go false i j = no_spot s j
     go true i j =
         let asked = both (leb 1 n) (leb n p.pages) i in
-        let w = spot_within (plans_in p.areas) 0 (n - 1) s j in
+        let w = spot_within p.areas.items 0 (n - 1) s j in
         record {
           from_one = leb-true 1 n asked.0;
           to_count = leb-true n p.pages asked.1;
           is = j;
           within = w;
-          area_is = get_or-take p.areas.count (eight_plans p.areas) s.area no_plan
-              (omega (arith, w.to_last, length-take p.areas.count (eight_plans p.areas)));
         }
 
 -- an area's own page
 pub own_page : (p : Plan) (n : ℕ) (s : Spot) → spot_of p n ≡ Some s → s.before < pages_in (area_of p s)
 own_page p n s e = let none : s.area - 0 ≡ s.area = omega arith in rw none at (placed p n s e).within.own
 
--- one of eight
-pub spot_eight : (p : Plan) (n : ℕ) (s : Spot) → spot_of p n ≡ Some s → s.area < 8
-spot_eight p n s e = omega (arith, (placed p n s e).within.to_last, length-take p.areas.count (eight_plans p.areas))
+-- one of the plan's
+pub spot_within_plan : (p : Plan) (n : ℕ) (s : Spot) → spot_of p n ≡ Some s → s.area < length p.areas.items
+spot_within_plan p n s e = omega (arith, (placed p n s e).within.to_last)

@@ -3,7 +3,6 @@
 ghost use Rattle.job_report.specs.Blocks as section;
 
 use crate::lines::page_at;
-use planner_areas::plan_at;
 use planner_pages::{area_page, page_spot};
 use planner_rules::{Plan, Spot};
 use units::Refusal;
@@ -21,19 +20,19 @@ pub struct Block {
 
 // Puts the lines of an area's pages from one that is there on. No number goes past the plan's count.
 fn lines_held(
-    plan: Plan,
+    plan: &Plan,
     from: u64,
     spot: Spot,
     row_runs: &[u64],
     column_runs: &[u64],
     out: &mut [u8; 65536],
 ) -> Block
-    requires { section.There plan from spot row_runs.now column_runs.now }
-    ensures { section.LinesHeld from (section.pages_on plan row_runs.now column_runs.now from spot) result
+    requires { section.There plan.now from spot row_runs.now column_runs.now }
+    ensures { section.LinesHeld from (section.pages_on plan.now row_runs.now column_runs.now from spot) result
         out.old out.new }
 {
     let order = plan.order;
-    let area = plan_at(plan.areas, spot.area);
+    let area = plan.areas.as_slice()[spot.area];
     let most = plan.pages - from;
     let mut pages = 0;
     let mut bytes = 0;
@@ -53,19 +52,19 @@ fn lines_held(
 // Puts the lines of the pages from a number on, of the area that this page belongs to, at the start of `out`, as long as there is such a page
 // and 256 bytes are left, and answers how many; or refuses and writes nothing. The lists hold the area's runs at the front.
 pub fn area_block(
-    plan: Plan,
+    plan: &Plan,
     from: u64,
     row_runs: &[u64],
     column_runs: &[u64],
     out: &mut [u8; 65536],
 ) -> Result<Block, Refusal>
-    ensures { section.BlockPut (section.block_pages plan row_runs.now column_runs.now from) from result
+    ensures { section.BlockPut (section.block_pages plan.now row_runs.now column_runs.now from) from result
         out.old out.new }
 {
     let Some(spot) = page_spot(plan, from) else {
         return Err(Refusal::NoSuchNumber);
     };
-    let area = plan_at(plan.areas, spot.area);
+    let area = plan.areas.as_slice()[spot.area];
     let _first = area_page(plan.order, area, 1, row_runs, column_runs)?;
     Ok(lines_held(plan, from, spot, row_runs, column_runs, out))
 }

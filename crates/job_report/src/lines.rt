@@ -9,22 +9,20 @@ use planner_rules::{Notes, Page, Plan};
 use units::Refusal;
 
 // The first area's permille; 0 where there is no area.
-fn first_permille(plan: Plan) -> u16
-    ensures { result ≡ section.first_permille plan }
+fn first_permille(plan: &Plan) -> u16
+    ensures { result ≡ section.first_permille plan.now }
 {
-    let areas = plan.areas;
-    if areas.count == 0 {
-        return 0;
+    match plan.areas.as_slice().first() {
+        Some(area) => area.permille,
+        None => 0,
     }
-    let first = areas.first;
-    first.permille
 }
 
 // The first area's permille and the pages.
 #[tactic(auto, unfolding(crate::specs::Lines::plan_line))]
-fn plan_line(out: &mut [u8], at: usize, plan: Plan) -> usize
+fn plan_line(out: &mut [u8], at: usize, plan: &Plan) -> usize
     requires { at + 47 ≤ length out.old }
-    ensures put_at { section.PutAt (section.plan_line plan) at result out.old out.new }
+    ensures put_at { section.PutAt (section.plan_line plan.now) at result out.old out.new }
     ensures upper_bound { result ≤ at + 47 }
 {
     let list = [first_permille(plan) as u64, plan.pages];
@@ -98,14 +96,13 @@ pub(crate) fn page_at(out: &mut [u8], at: usize, number: u64, page: Page) -> usi
 }
 
 // The first lines of what a plan is told by, or the line of a refusal, at the start of `out`; it answers how many bytes.
-pub fn head_lines(planning: Result<Plan, Refusal>, out: &mut [u8; 256]) -> usize
-    ensures { section.LinesPut (section.head_lines (outcome planning)) result out.old out.new }
+pub fn head_lines(planning: &Result<Plan, Refusal>, out: &mut [u8; 256]) -> usize
+    ensures { section.LinesPut (section.head_lines (outcome planning.now)) result out.old out.new }
 {
     match planning {
         Ok(plan) => {
             let next = plan_line(out, 0, plan);
-            let notes = plan.notes;
-            notes_line(out, next, notes)
+            notes_line(out, next, plan.notes)
         }
         Err(refusal) => refusal_at(out, 0, refusal.number()),
     }
