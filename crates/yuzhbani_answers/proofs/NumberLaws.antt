@@ -1,11 +1,11 @@
 -- The numbers of a plan stand for the plan, and what the code makes of numbers and of answers. Assumes nothing.
 use mathlib.Core.Path.{◌≡◌, refl}
 use mathlib.Core.Bool.{Bool, true, false}
-use mathlib.Core.List.{List}
-use Prim.Native.Nat.{ℕ, ◌+◌, ◌*◌, ◌<◌, min}
+use mathlib.Core.List.{List, [], ◌∷◌}
+use Prim.Native.Nat.{ℕ, ◌+◌, ◌*◌, ◌≤◌, ◌<◌, min}
 use native.Mathlib.Numerals.{add-one}
 use native.Mathlib.Omega.{arith}
-use lib.ListN.{get_or, replicate}
+use lib.ListN.{length, take, replicate}
 use mir.Val.{bool_byte}
 use Rattle.planner_rules.specs.declared.pages.Page.{Page}
 use Rattle.std.specs.Prelude.{Result, Ok}
@@ -14,10 +14,8 @@ use Rattle.units.specs.declared.refusal.Refusal.{Refusal}
 use Rattle.planner_rules.specs.declared.pages.PageOrder.{PageOrder}
 use Rattle.planner_rules.specs.declared.pages.PageOrder.TheVariants.{DownThenOver, OverThenDown}
 use Rattle.planner_rules.specs.declared.pages.AreaPlan.{AreaPlan}
-use Rattle.planner_rules.specs.declared.pages.AreaPlans.{AreaPlans}
 use Rattle.planner_rules.specs.declared.pages.Plan.{Plan}
-use Rattle.planner_rules.specs.Areas.{eight_plans, no_plan}
-use Rattle.yuzhbani_answers.specs.Numbers.{bit, order_number, is_set, order_from, plan_numbers, page_numbers, area_from, areas_from, plan_from, area_put, areas_put, head_put, AreaBack, AllBack}
+use Rattle.yuzhbani_answers.specs.Numbers.{bit, area_at, eight_areas, order_number, is_set, order_from, plan_numbers, page_numbers, area_from, areas_from, plan_from, area_put, areas_put, head_put, AreaBack, AllBack}
 use Rattle.yuzhbani_answers.specs.Answers.{PageHanded}
 
 bit_back : (b : Bool) → is_set (bit b) ≡ b
@@ -36,36 +34,46 @@ pub area_back : (a : AreaPlan) → a.permille < 65536 → AreaBack a
 unfolding area_from
 area_back a h = rw (low a.permille h, bit_back a.rows_empty, bit_back a.columns_empty)
 
+-- the first of eight areas, as many as there are, are all
+held : (as' : List AreaPlan) → length as' ≤ 8 → take (length as') (eight_areas as') ≡ as'
+held [] h = refl
+held (a ∷ []) h = refl
+held (a ∷ b ∷ []) h = refl
+held (a ∷ b ∷ c ∷ []) h = refl
+held (a ∷ b ∷ c ∷ d ∷ []) h = refl
+held (a ∷ b ∷ c ∷ d ∷ e ∷ []) h = refl
+held (a ∷ b ∷ c ∷ d ∷ e ∷ f ∷ []) h = refl
+held (a ∷ b ∷ c ∷ d ∷ e ∷ f ∷ g ∷ []) h = refl
+held (a ∷ b ∷ c ∷ d ∷ e ∷ f ∷ g ∷ i ∷ []) h = refl
+held (a ∷ b ∷ c ∷ d ∷ e ∷ f ∷ g ∷ i ∷ j ∷ as') h = absurd (omega arith)
+
 -- "For a plan left as it was answered": a plan is had back from its numbers, if its areas are
-pub plan_back : (p : Plan) → AllBack p.areas 8 → plan_from (plan_numbers p) ≡ p
+pub plan_back : (p : Plan) → length p.areas.items ≤ 8 → AllBack p.areas.items 8 → plan_from (plan_numbers p) ≡ p
 unfolding plan_numbers plan_from areas_from area_from
-plan_back p back = λ i. record {
-  areas = record {
-    count = p.areas.count;
-    first = back 0 (omega arith) i;
-    second = back 1 (omega arith) i;
-    third = back 2 (omega arith) i;
-    fourth = back 3 (omega arith) i;
-    fifth = back 4 (omega arith) i;
-    sixth = back 5 (omega arith) i;
-    seventh = back 6 (omega arith) i;
-    eighth = back 7 (omega arith) i;
-  };
-  pages = p.pages;
-  order = order_back p.order i;
-  notes = p.notes;
-}
+plan_back p few back =
+    let areas : (areas_from (plan_numbers p)).items ≡ p.areas.items =
+    rw (
+      back 0 (omega arith),
+      back 1 (omega arith),
+      back 2 (omega arith),
+      back 3 (omega arith),
+      back 4 (omega arith),
+      back 5 (omega arith),
+      back 6 (omega arith),
+      back 7 (omega arith),
+    ) (held p.areas.items few) in
+    λ i. record { areas = record { items = areas i }; pages = p.pages; order = order_back p.order i; notes = p.notes }
 
 -- ---- numbers that are put, one after another
 
 -- the front and the eight areas, put into sixty places, are the numbers of the plan
-pub all_put : (p : Plan) → areas_put p.areas 8 (head_put p (replicate 60 0)) ≡ plan_numbers p
+pub all_put : (p : Plan) → areas_put p.areas.items 8 (head_put p (replicate 60 0)) ≡ plan_numbers p
 unfolding plan_numbers areas_put area_put head_put
 all_put p = refl
 
 -- one area more
-pub more_put : (as' : AreaPlans) (k : ℕ) (ns : List ℕ)
-    → area_put (get_or (eight_plans as') k no_plan) (12 + 6 * k) (areas_put as' k ns) ≡ areas_put as' (k + 1) ns
+pub more_put : (as' : List AreaPlan) (k : ℕ) (ns : List ℕ)
+    → area_put (area_at as' k) (12 + 6 * k) (areas_put as' k ns) ≡ areas_put as' (k + 1) ns
 unfolding areas_put
 more_put as' k ns = rw (add-one)
 

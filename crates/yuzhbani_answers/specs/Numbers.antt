@@ -1,13 +1,13 @@
 -- A plan and a page as numbers, for a caller in another language. Assumes nothing.
-use Rattle.std.specs.Prelude.{◌≡◌, Bool, cond, List, [], ◌∷◌, ◌++◌, ℕ, zero, suc, ◌+◌, ◌*◌, ◌<◌, min, ltb, get_or, set}
+use Rattle.std.specs.Prelude.{◌≡◌, Bool, cond, List, [], ◌∷◌, ◌++◌, ℕ, zero, suc, ◌+◌, ◌*◌, ◌<◌, min, ltb, length, get_or, set, take}
 use Rattle.units.specs.Outcome.{Outcome, given, refused}
 use Rattle.planner_rules.specs.declared.pages.PageOrder.{PageOrder}
 use Rattle.planner_rules.specs.declared.pages.PageOrder.TheVariants.{DownThenOver, OverThenDown}
 use Rattle.planner_rules.specs.declared.pages.Page.{Page}
 use Rattle.planner_rules.specs.declared.pages.AreaPlan.{AreaPlan}
-use Rattle.planner_rules.specs.declared.pages.AreaPlans.{AreaPlans}
+use Rattle.arrayvec.specs.ArrayVec.{ArrayVec}
 use Rattle.planner_rules.specs.declared.pages.Plan.{Plan}
-use Rattle.planner_rules.specs.Areas.{eight_plans, no_plan}
+use Rattle.planner_rules.specs.Areas.{no_plan}
 
 -- ---- to numbers
 
@@ -29,13 +29,21 @@ abbrev pub areas_numbers : List AreaPlan → List ℕ
 areas_numbers [] = []
 areas_numbers (a ∷ rest) = area_numbers a ++ areas_numbers rest
 
--- how many areas there are, pages, order, the nine notes in order, and the eight areas; behind the last that counts, nothing is meant
+-- the area that has so many before it; where there is none, one whose numbers are 0
+abbrev pub area_at : List AreaPlan → ℕ → AreaPlan
+area_at as' k = get_or as' k no_plan
+
+-- eight areas
+abbrev pub eight_areas : List AreaPlan → List AreaPlan
+eight_areas as' = area_at as' 0 ∷ area_at as' 1 ∷ area_at as' 2 ∷ area_at as' 3 ∷ area_at as' 4 ∷ area_at as' 5 ∷ area_at as' 6 ∷ area_at as' 7 ∷ []
+
+-- how many areas there are, pages, order, the nine notes in order, and the eight areas
 unfoldable pub plan_numbers : Plan → List ℕ
 plan_numbers p =
-    p.areas.count ∷ p.pages ∷ order_number p.order
+    length p.areas.items ∷ p.pages ∷ order_number p.order
     ∷ p.notes.unknown_paper ∷ p.notes.invalid_margins ∷ p.notes.scale_clamped ∷ p.notes.fit_unreachable ∷ p.notes.titles_ignored
     ∷ p.notes.titles_expanded ∷ p.notes.merge_expansions ∷ p.notes.break_shifts ∷ p.notes.overflowing_runs
-    ∷ areas_numbers (eight_plans p.areas)
+    ∷ areas_numbers (eight_areas p.areas.items)
 
 -- "A page has its vertical and horizontal run numbers from 0 and both runs", rows first; "A run has first, last, size, empty-body mark, manual-break mark."
 unfoldable pub page_numbers : Page → List ℕ
@@ -66,17 +74,10 @@ area_from ns at = record {
 }
 
 -- the areas; of more than eight, those that stand there are meant
-unfoldable pub areas_from : List ℕ → AreaPlans
+unfoldable pub areas_from : List ℕ → ArrayVec AreaPlan
 areas_from ns = record {
-  count = get_or ns 0 0;
-  first = area_from ns 12;
-  second = area_from ns 18;
-  third = area_from ns 24;
-  fourth = area_from ns 30;
-  fifth = area_from ns 36;
-  sixth = area_from ns 42;
-  seventh = area_from ns 48;
-  eighth = area_from ns 54;
+  items = take (get_or ns 0 0) (area_from ns 12 ∷ area_from ns 18 ∷ area_from ns 24 ∷ area_from ns 30 ∷ area_from ns 36 ∷ area_from ns 42
+      ∷ area_from ns 48 ∷ area_from ns 54 ∷ []);
 }
 
 -- the plan that sixty numbers stand for
@@ -112,14 +113,14 @@ area_put a at ns =
     (at + 4) (bit a.rows_empty)) (at + 5) (bit a.columns_empty)
 
 -- numbers with those of so many areas in their places, area k from 12 + 6 k on
-unfoldable pub areas_put : AreaPlans → ℕ → List ℕ → List ℕ
+unfoldable pub areas_put : List AreaPlan → ℕ → List ℕ → List ℕ
 areas_put as' zero ns = ns
-areas_put as' (suc k) ns = area_put (get_or (eight_plans as') k no_plan) (12 + 6 * k) (areas_put as' k ns)
+areas_put as' (suc k) ns = area_put (area_at as' k) (12 + 6 * k) (areas_put as' k ns)
 
 -- numbers with those of a plan in their places that stand before the areas
 unfoldable pub head_put : Plan → List ℕ → List ℕ
 head_put p ns =
-    set (set (set (set (set (set (set (set (set (set (set (set ns 0 p.areas.count) 1 p.pages) 2 (order_number p.order))
+    set (set (set (set (set (set (set (set (set (set (set (set ns 0 (length p.areas.items)) 1 p.pages) 2 (order_number p.order))
     3 p.notes.unknown_paper) 4 p.notes.invalid_margins) 5 p.notes.scale_clamped) 6 p.notes.fit_unreachable)
     7 p.notes.titles_ignored) 8 p.notes.titles_expanded) 9 p.notes.merge_expansions) 10 p.notes.break_shifts)
     11 p.notes.overflowing_runs
@@ -129,5 +130,5 @@ abbrev pub AreaBack : AreaPlan → Type 0
 AreaBack a = area_from (area_numbers a) 0 ≡ a
 
 -- so are the first areas
-abbrev pub AllBack : AreaPlans → ℕ → Type 0
-AllBack as' n = (k : ℕ) → k < n → AreaBack (get_or (eight_plans as') k no_plan)
+abbrev pub AllBack : List AreaPlan → ℕ → Type 0
+AllBack as' n = (k : ℕ) → k < n → AreaBack (area_at as' k)

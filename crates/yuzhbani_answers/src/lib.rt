@@ -6,7 +6,6 @@ ghost use Rattle.units.specs.Refusals.{outcome};
 ghost use Rattle.yuzhbani_answers.specs.Numbers as section;
 ghost use Rattle.yuzhbani_answers.specs.Answers.{answer_to, numbers_of, HadBack, PageHanded, by_number};
 
-use planner_areas::plan_at;
 use planner_rules::{AreaPlan, AreaPlans, Notes, Page, PageOrder, Plan};
 use units::Refusal;
 
@@ -30,11 +29,11 @@ pub fn u16_from(n: u64) -> u16
 
 // The count of areas, the pages, the order and the notes, at the front.
 #[tactic(auto, unfolding(crate::specs::Numbers::head_put))]
-fn put_head(numbers: &mut [u64; 60], plan: Plan)
-    ensures { numbers.new ≡ section.head_put plan numbers.old }
+fn put_head(numbers: &mut [u64; 60], plan: &Plan)
+    ensures { numbers.new ≡ section.head_put plan.now numbers.old }
 {
     let notes = plan.notes;
-    numbers[0] = plan.areas.count as u64;
+    numbers[0] = plan.areas.len() as u64;
     numbers[1] = plan.pages;
     numbers[2] = plan.order as u64;
     numbers[3] = notes.unknown_paper;
@@ -62,24 +61,27 @@ fn put_area(numbers: &mut [u64; 60], at: usize, area: AreaPlan)
     numbers[at + 5] = area.columns_empty as u64;
 }
 
-fn put_areas(numbers: &mut [u64; 60], areas: AreaPlans)
-    ensures numbers_after { numbers.new ≡ section.areas_put areas 8 numbers.old }
-    ensures all_back { section.AllBack areas 8 }
+// The numbers of the eight areas; those of an area that is not there are 0.
+fn put_areas(numbers: &mut [u64; 60], areas: &[AreaPlan])
+    ensures numbers_after { numbers.new ≡ section.areas_put areas.now 8 numbers.old }
+    ensures all_back { section.AllBack areas.now 8 }
 {
-    let mut k = 0;
-    while k < 8 {
-        put_area(numbers, 12 + 6 * k, plan_at(areas, k));
-        k += 1;
+    for k in 0..8 {
+        put_area(
+            numbers,
+            12 + 6 * k,
+            areas.get(k).copied().unwrap_or_default(),
+        );
     }
 }
 
-fn put_plan(numbers: &mut [u64; 60], plan: Plan)
-    ensures numbers_after { numbers.new ≡ section.plan_numbers plan }
-    ensures plan_value { section.plan_from (section.plan_numbers plan) ≡ plan }
+fn put_plan(numbers: &mut [u64; 60], plan: &Plan)
+    ensures numbers_after { numbers.new ≡ section.plan_numbers plan.now }
+    ensures plan_value { section.plan_from (section.plan_numbers plan.now) ≡ plan.now }
 {
     *numbers = [0; 60];
     put_head(numbers, plan);
-    put_areas(numbers, plan.areas);
+    put_areas(numbers, plan.areas.as_slice());
 }
 
 // The answer of a plan call; the numbers of its plan are put, or nothing.
@@ -91,7 +93,7 @@ pub fn put_planning(planning: Result<Plan, Refusal>, numbers: &mut [u64; 60]) ->
 {
     match planning {
         Ok(plan) => {
-            put_plan(numbers, plan);
+            put_plan(numbers, &plan);
             0
         }
         Err(refusal) => refusal.number(),
@@ -117,17 +119,18 @@ fn area_from(numbers: &[u64; 60], at: usize) -> AreaPlan
 fn areas_from(numbers: &[u64; 60]) -> AreaPlans
     ensures { result ≡ section.areas_from numbers.now }
 {
-    AreaPlans {
-        count: numbers[0] as usize,
-        first: area_from(numbers, 12),
-        second: area_from(numbers, 18),
-        third: area_from(numbers, 24),
-        fourth: area_from(numbers, 30),
-        fifth: area_from(numbers, 36),
-        sixth: area_from(numbers, 42),
-        seventh: area_from(numbers, 48),
-        eighth: area_from(numbers, 54),
-    }
+    let mut areas = AreaPlans::from([
+        area_from(numbers, 12),
+        area_from(numbers, 18),
+        area_from(numbers, 24),
+        area_from(numbers, 30),
+        area_from(numbers, 36),
+        area_from(numbers, 42),
+        area_from(numbers, 48),
+        area_from(numbers, 54),
+    ]);
+    areas.truncate(numbers[0] as usize);
+    areas
 }
 
 // Sixty numbers of a plan, whoever wrote them.

@@ -1,17 +1,15 @@
 -- What 61 numbers ask of a plan, whoever wrote them: settings, areas and titles. Assumes nothing.
-use Rattle.std.specs.Prelude.{Bool, cond, ◌&&◌, List, ℕ, ◌+◌, min, leb, get_or, Option, Some, None}
+use Rattle.std.specs.Prelude.{Bool, cond, ◌&&◌, List, [], ◌∷◌, ℕ, ◌+◌, min, leb, get_or, take, Option, Some, None}
 use Rattle.geometry.specs.declared.paper.Margins.{Margins}
 use Rattle.planner_rules.specs.declared.titles.Title.{Title}
 use Rattle.planner_rules.specs.declared.titles.Title.TheVariants as title
 use Rattle.planner_rules.specs.declared.planning.Settings.{Settings}
 use Rattle.planner_rules.specs.declared.planning.PrintRange.{PrintRange}
-use Rattle.planner_rules.specs.declared.planning.Areas.{Areas}
 use Rattle.planner_rules.specs.Areas.{one_to_eight}
 use Rattle.planner_rules.specs.Pages.{index_of}
 use Rattle.planner_rules.specs.Plan.{Sheet, sheet_of}
 use Rattle.job_records.specs.declared.records.MarginBits.{MarginBits}
 use Rattle.job_settings.specs.Meaning.{inches_of}
-use Rattle.planner_rules.specs.declared.planning.Request.{Request}
 use Rattle.yuzhbani_answers.specs.Numbers.{is_set, order_from}
 
 -- a mark at a place, and behind it the number; one above 65,535 is 65,535
@@ -64,19 +62,12 @@ range_from ns at = record {
   last_column = index_of (get_or ns (at + 3) 0);
 }
 
--- 22 is how many areas there are, 23 to 54 are the eight
-unfoldable pub areas_from : List ℕ → Areas
-areas_from ns = record {
-  count = get_or ns 22 0;
-  first = range_from ns 23;
-  second = range_from ns 27;
-  third = range_from ns 31;
-  fourth = range_from ns 35;
-  fifth = range_from ns 39;
-  sixth = range_from ns 43;
-  seventh = range_from ns 47;
-  eighth = range_from ns 51;
-}
+-- 22 is how many areas there are, 23 to 54 are the eight; of more, those that stand there are meant
+unfoldable pub areas_from : List ℕ → List PrintRange
+areas_from ns =
+    take (get_or ns 22 0)
+    (range_from ns 23 ∷ range_from ns 27 ∷ range_from ns 31 ∷ range_from ns 35 ∷ range_from ns 39 ∷ range_from ns 43 ∷ range_from ns 47
+    ∷ range_from ns 51 ∷ [])
 
 -- 55 to 57: the mark, the first and the last row
 abbrev pub row_title_from : List ℕ → Title
@@ -98,9 +89,3 @@ areas_counted ns = one_to_eight (get_or ns 22 0)
 -- 12 is fit and 17 the order: "5. FT and OD 0 or 1?"
 unfoldable pub flags_hold : List ℕ → Bool
 flags_hold ns = leb (get_or ns 12 0) 1 && leb (get_or ns 17 0) 1
-
--- ---- for the private functions
-
--- all that 61 numbers ask
-abbrev pub request_from : List ℕ → Request
-request_from ns = record { settings = settings_from ns; areas = areas_from ns; row_title = row_title_from ns; column_title = column_title_from ns }

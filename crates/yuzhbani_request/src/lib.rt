@@ -4,11 +4,12 @@
 ghost use Rattle.std.specs.Prelude.{◌≡◌, ◌≤◌};
 ghost use Rattle.yuzhbani_request.specs.Request as section;
 
+use arrayvec::ArrayVec;
 use geometry::Margins;
 use job_records::MarginBits;
 use job_settings::margin_setting;
 use planner_compare::index_of;
-use planner_rules::{Areas, PrintRange, Request, Settings, Title};
+use planner_rules::{PrintRange, Request, Settings, Title};
 use yuzhbani_answers::{order_from, u16_from};
 
 // What a caller asks, as 61 numbers.
@@ -88,6 +89,40 @@ impl RequestNumbers<'_> {
         }
     }
 
+    // The areas; of more than eight, those that stand there.
+    #[tactic(auto, unfolding(crate::specs::Request::areas_from))]
+    pub fn areas(self) -> ArrayVec<PrintRange, 8>
+        ensures { result.items ≡ section.areas_from self.entry.0.now }
+    {
+        let mut areas = ArrayVec::from([
+            self.range(23),
+            self.range(27),
+            self.range(31),
+            self.range(35),
+            self.range(39),
+            self.range(43),
+            self.range(47),
+            self.range(51),
+        ]);
+        areas.truncate(self.0[22] as usize);
+        areas
+    }
+
+    // All that is asked, with the areas.
+    pub fn request<'a>(self, areas: &'a [PrintRange]) -> Request<'a>
+        ensures settings_are { result.settings ≡ section.settings_from self.entry.0.now }
+        ensures areas_are { result.areas.now ≡ areas.now }
+        ensures titles_are { let asked = self.entry.0.now in
+            (result.row_title ≡ section.row_title_from asked) × (result.column_title ≡ section.column_title_from asked) }
+    {
+        Request {
+            settings: self.settings(),
+            areas,
+            row_title: self.title(55),
+            column_title: self.title(58),
+        }
+    }
+
     // 4: one to eight areas are asked for.
     #[tactic(auto, unfolding(crate::specs::Request::areas_counted))]
     pub fn areas_counted(self) -> bool
@@ -102,36 +137,5 @@ impl RequestNumbers<'_> {
         ensures { result ≡ section.flags_hold self.entry.0.now }
     {
         (self.0[12] <= 1) & (self.0[17] <= 1)
-    }
-}
-
-#[tactic(auto, unfolding(crate::specs::Request::areas_from))]
-fn areas_from(request: &[u64; 61]) -> Areas
-    ensures { result ≡ section.areas_from request.now }
-{
-    let numbers = RequestNumbers(request);
-    Areas {
-        count: request[22] as usize,
-        first: numbers.range(23),
-        second: numbers.range(27),
-        third: numbers.range(31),
-        fourth: numbers.range(35),
-        fifth: numbers.range(39),
-        sixth: numbers.range(43),
-        seventh: numbers.range(47),
-        eighth: numbers.range(51),
-    }
-}
-
-impl From<RequestNumbers<'_>> for Request {
-    ghost from_gives = { λ numbers request. request ≡ section.request_from numbers.0.now };
-
-    fn from(numbers: RequestNumbers<'_>) -> Request {
-        Request {
-            settings: numbers.settings(),
-            areas: areas_from(numbers.0),
-            row_title: numbers.title(55),
-            column_title: numbers.title(58),
-        }
     }
 }

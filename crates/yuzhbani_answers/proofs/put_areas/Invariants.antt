@@ -1,5 +1,5 @@
--- So many areas are put, and had back from their numbers; what is left of eight falls.
-use Rattle.std.proofs.Common.{◌≡◌, ◌≤◌, ◌-◌}
+-- So many areas are put, and had back from their numbers.
+use Rattle.std.proofs.Common.{◌≡◌, ◌≤◌}
 use Rattle.yuzhbani_answers.specs.Numbers.{areas_put, AllBack}
 use Rattle.yuzhbani_answers.proofs.put_areas.Given as goal
 
@@ -9,6 +9,3 @@ invariant-loop-k l = record {
   put : l.numbers ≡ areas_put l.areas l.k l.fn.numbers;
   back : AllBack l.areas l.k;
 }
-
-abbrev pub decreases-loop-k : goal.decreases-loop-k
-decreases-loop-k l = 8 - l.k
