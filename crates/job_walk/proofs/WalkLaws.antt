@@ -7,7 +7,7 @@ use native.Mathlib.Decide.{dec_le}
 use native.Mathlib.Nat.{lt_of_not-le}
 use native.Mathlib.Omega.{arith}
 use lib.Dec.{ltb, eqb}
-use lib.ListN.{length, take, drop, length-take, drop_of_length-le}
+use lib.ListN.{length, take, drop}
 use lib.Seq.{drop-nil, take_all}
 use borrow.Author.Tests.{eq-eqb, ne_eqb, eqb-true, lt-ltb, le-ltb}
 use Rattle.job_records.specs.declared.records.Record.{Record}
@@ -15,7 +15,7 @@ use Rattle.job_records.specs.declared.records.Head.{Head}
 use Rattle.std.specs.Prelude.{Option, Some, None}
 use Rattle.job_records.proofs.MarkLaws.{some_place}
 use Rattle.job_records.specs.Records.{AR, mark_before, head_record, step_outcome, step, rank, is_end, goes_on, records, marked}
-use Rattle.job_walk.specs.Areas.{nowhere, range_from, areas_held, areas_from}
+use Rattle.job_walk.specs.Areas.{range_from, areas_held, areas_from}
 use Rattle.job_walk.specs.declared.sorted.SortedJob.{SortedJob}
 use Rattle.job_records.specs.Marks.{place}
 use Rattle.job_walk.specs.Walk.{before, first_of, in_place, Sorted}
@@ -218,10 +218,6 @@ among_counted zero (suc count) [] h = refl
 among_counted zero (suc count) (r ∷ rs) h = refl
 among_counted (suc before) (suc count) [] h = refl
 among_counted (suc before) (suc count) (r ∷ rs) h = among_counted before count rs (omega arith)
-
--- past them there is none
-pub past_counted : (before count : ℕ) (rs : List Record) → count ≤ before → nowhere ≡ range_from (drop before (take count rs))
-past_counted before count rs h = rw (drop_of_length-le (take count rs) {i = before} (omega (arith, length-take count rs)))
 
 -- in order, as many as there are, they are the areas of the job
 pub all_areas : (count : ℕ) (job : SortedJob) → count ≡ length (marked AR (records job.bytes.now))
