@@ -227,13 +227,6 @@ pub record Seen (b s : List ℕ) (t : State) : Type 0 where
   pub same_after : after t (records s) ≡ after start (records b)
   pub room : Room t.items (length s) (length b)
 
-pub seen_start : (b : List ℕ) (t : State) → t ≡ start → Seen b b t
-seen_start b t e = rw e (record {
-  same_rest = refl;
-  same_after = refl;
-  room = record { areas = omega arith; rows = omega arith; columns = omega arith; merges = omega arith; row_breaks = omega arith; column_breaks = omega arith };
-})
-
 module _ (b s : List ℕ) (t : State) (w : Seen b s t) (f : Option Head) (o : step_outcome f ≡ head_record s) where
   at_head : f ≡ step s
   at_head = step_is s f o

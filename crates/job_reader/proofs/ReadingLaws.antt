@@ -6,7 +6,6 @@ use Prim.Native.Nat.{ℕ, ◌-◌, ◌≤◌}
 use native.Mathlib.Omega.{arith}
 use lib.Dec.{leb}
 use lib.ListN.{length, take, drop}
-use borrow.Author.Tests.{eqb-true, leb-true}
 use Rattle.units.specs.Outcome.{given, refused}
 use Rattle.planner_rules.specs.Slots.{written}
 use Rattle.job_records.specs.declared.records.Record.{Record}
@@ -16,7 +15,7 @@ use Rattle.units.specs.Refusals.{number_of, outcome}
 use Rattle.std.specs.Prelude.{Result, Ok, Err}
 use Rattle.job_reader.specs.declared.lists.Job.{Job}
 use Rattle.job_settings.specs.declared.JobSettings.{JobSettings}
-use Rattle.job_records.specs.Records.{AR, RW, CL, MR, BR, BC, field, records, marked, values}
+use Rattle.job_records.specs.Records.{AR, field, records, marked, values}
 use Rattle.job_questions.specs.Verdict.{ordered, questions, in_order, items_of, verdict_lent}
 use Rattle.job_reader.specs.Settings.{settings_of}
 use Rattle.job_walk.specs.Walk.{Sorted}
@@ -157,43 +156,6 @@ job_refused {s} {l} {f} {x} {r} e k h =
       column_breaks_are = rw (← q);
     }
 
--- ---- room for the items, list by list
-
-pub record Rooms (s : List ℕ) (l : Lists) : Type 0 where
-  pub rows : length (marked RW (records s)) ≤ length l.row_indexes
-  pub columns : length (marked CL (records s)) ≤ length l.column_indexes
-  pub merges : length (marked MR (records s)) ≤ length l.merge_first_rows
-  pub row_breaks : length (marked BR (records s)) ≤ length l.row_breaks
-  pub column_breaks : length (marked BC (records s)) ≤ length l.column_breaks
-  pub rows_even : length l.row_indexes ≡ length l.row_sizes
-  pub columns_even : length l.column_indexes ≡ length l.column_sizes
-  pub first_columns_even : length l.merge_first_rows ≡ length l.merge_first_columns
-  pub last_rows_even : length l.merge_first_rows ≡ length l.merge_last_rows
-  pub last_columns_even : length l.merge_first_rows ≡ length l.merge_last_columns
-
-pub rooms : {s : List ℕ} {l : Lists} → Room s l → Rooms s l
-rooms w =
-    let a = both _ _ w.fits in
-    let b = both _ _ a.1 in
-    let c = both _ _ b.1 in
-    let d = both _ _ c.1 in
-    let e = both _ _ w.even in
-    let f = both _ _ e.1 in
-    let g = both _ _ f.1 in
-    let h = both _ _ g.1 in
-    record {
-      rows = leb-true _ _ a.0;
-      columns = leb-true _ _ b.0;
-      merges = leb-true _ _ c.0;
-      row_breaks = leb-true _ _ d.0;
-      column_breaks = leb-true _ _ d.1;
-      rows_even = eqb-true _ _ e.0;
-      columns_even = eqb-true _ _ f.0;
-      first_columns_even = eqb-true _ _ g.0;
-      last_rows_even = eqb-true _ _ h.0;
-      last_columns_even = eqb-true _ _ h.1;
-    }
-
 -- ---- the part of a job that is left
 
 pub part_from : {k : ℕ} {b : List ℕ} {n : ℕ} → Past k b n → From k b (take (length b - n) (drop n b))
@@ -207,9 +169,6 @@ from_on w p h =
 module _ {k : ℕ} {b s : List ℕ} (w : From k b s) where
   same : marked k (records s) ≡ marked k (records b)
   same = w.kept k (omega arith)
-
-  pub room_from : {n : ℕ} → length (marked k (records b)) ≤ n → length (marked k (records s)) ≤ n
-  room_from h = rw same h
 
   pub values_from : (f : ℕ) (old : List ℕ) {new : List ℕ} → new ≡ written (values k f (records s)) old → new ≡ written (values k f (records b)) old
   values_from f old e = e ∙ ap (λ (l : List Record). written (map (field f) l) old) same

@@ -69,11 +69,6 @@ pub record Suffix (b s : List ℕ) : Type 0 where
   pub long : length s ≤ length b
   pub is : s ≡ drop (length b - length s) b
 
-suffix_start : (b : List ℕ) → Suffix b b
-suffix_start b =
-    let z : length b - length b ≡ 0 = omega arith in
-    record { long = omega arith; is = sym (ap (λ (k : ℕ). drop k b) z) }
-
 suffix_on : (b s : List ℕ) (n : ℕ) → Suffix b s → n ≤ length s → Suffix b (take (length s - n) (drop n s))
 suffix_on b s n w h =
     rw (part n s)
