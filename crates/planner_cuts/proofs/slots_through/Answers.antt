@@ -1,5 +1,5 @@
--- The slot before those that the loop passed decides; none is left at the front.
-use Rattle.std.proofs.Common.{ℕ, List, [], ◌∷◌, ◌++◌, ◌≡◌, ◌+◌, ◌≤◌, ◌<◌, length, sym, ap, ◌∙◌, append_assoc, append-nil, refl, arith, rules}
+-- The slot before those that the loop passed decides.
+use Rattle.std.proofs.Common.{ℕ, List, [], ◌∷◌, ◌++◌, ◌≡◌, ◌+◌, ◌≤◌, ◌<◌, length, ap, ◌∙◌, append_assoc, append-nil, refl, arith, rules}
 use Rattle.std.proofs.Math.Seq.{drop-append_seam}
 use borrow.Author.Tests.{le-leb, lt-leb}
 use Rattle.planner_rules.specs.Slots.{through}
@@ -21,10 +21,6 @@ module _ (k x : ℕ) (is rs ts ps : List ℕ) (e : is ≡ rs ++ ps) (f : rs ≡ 
   unfolding through
   missed z h = rw (z, lt-leb x k h) refl
 
-none_left : (k : ℕ) (is rs ps : List ℕ) → is ≡ rs ++ ps → length rs ≡ 0 → through k ps ≡ 0 → 0 ≡ through k is
-none_left k is [] ps e h z = rw e (sym z)
-none_left k is (r ∷ rs) ps e h z = absurd (omega arith)
-
 pub loop-n-init : goal.loop-n-init
 unfolding through
 loop-n-init c = (search rules, ([], search (rules, append-nil), refl))
@@ -43,8 +39,3 @@ loop-n-preserved c =
     let is = c.args.indexes.now in
     let back = one_back c.args.last x is _ _ i.1.0 i.1.1 s.1.0 in
     (s.0 ∙ i.0, (x ∷ i.1.0, back, missed c.args.last x is _ _ i.1.0 i.1.1 s.1.0 i.1.2 (omega arith)))
-
-pub returns-clause-value : goal.returns-clause-value
-returns-clause-value c =
-    let i = c.loop-n.invariant in
-    none_left c.args.last c.args.indexes.now _ i.1.0 i.1.1 c.in-None.ensures.steps.1.0 i.1.2
