@@ -17,7 +17,8 @@ use Rattle.planner_rules.specs.declared.pages.AreaPlan.{AreaPlan}
 use Rattle.planner_rules.specs.declared.pages.AreaPlans.{AreaPlans}
 use Rattle.planner_rules.specs.declared.pages.Plan.{Plan}
 use Rattle.planner_rules.specs.Areas.{eight_plans, no_plan}
-use Rattle.yuzhbani_answers.specs.Numbers.{bit, order_number, is_set, order_from, plan_numbers, page_numbers, area_from, areas_from, plan_from, area_put, areas_put, head_put, AreaBack, AllBack}
+use Rattle.yuzhbani_answers.specs.Numbers.{bit, order_number, plan_numbers, page_numbers, area_put, areas_put, head_put}
+use Rattle.yuzhbani_answers.specs.Numbers.{is_set, order_from, area_from, areas_from, plan_from, AreaBack, AllBack}
 use Rattle.yuzhbani_answers.specs.Answers.{PageHanded}
 
 bit_back : (b : Bool) → is_set (bit b) ≡ b
