@@ -24,7 +24,7 @@ use job::{count_job, plan_job, write_job_area};
 use job_report::{Block, area_block, area_line, head_lines, refusal_line};
 use planner::plan_pages;
 use planner_pages::page_numbered;
-use planner_rules::{AxisLists, MergeList, Plan, Request, RunCounts, SheetLists, SlotList};
+use planner_rules::{AxisLists, MergeList, Plan, RunCounts, SheetLists, SlotList};
 use units::Refusal;
 use yuzhbani_answers::{PlanNumbers, put_page, put_planning, told};
 use yuzhbani_request::RequestNumbers;
@@ -151,7 +151,8 @@ pub extern "C" fn yuzhbani_plan_lists<'a>(
     if !asked.flags_hold() {
         return Refusal::BadFlag.number();
     }
-    let what = Request::from(asked);
+    let areas = asked.areas();
+    let what = asked.request(areas.as_slice());
     let lists = SheetLists {
         rows: AxisLists {
             slots: SlotList {
@@ -195,7 +196,7 @@ pub extern "C" fn yuzhbani_page(
         result page.old page.new }
 {
     let plan = Plan::from(PlanNumbers(numbers));
-    let answer = page_numbered(plan, number, row_runs, column_runs);
+    let answer = page_numbered(&plan, number, row_runs, column_runs);
     put_page(answer, page)
 }
 
@@ -207,7 +208,7 @@ pub extern "C" fn yuzhbani_head(answer: u8, numbers: &[u64; 60], out: &mut [u8; 
         result out.old out.new }
 {
     match told(answer, numbers) {
-        Ok(plan) => head_lines(Ok(plan), out),
+        Ok(plan) => head_lines(&Ok(plan), out),
         Err(number) => refusal_line(number, out),
     }
 }
@@ -251,6 +252,6 @@ pub extern "C" fn yuzhbani_block(
         result block.old out.old block.new out.new }
 {
     let plan = Plan::from(PlanNumbers(numbers));
-    let answer = area_block(plan, from, row_runs, column_runs, out);
+    let answer = area_block(&plan, from, row_runs, column_runs, out);
     put_block(answer, block)
 }
