@@ -9,12 +9,12 @@ mod runs;
 mod scale;
 mod titles;
 
-pub use lists::{AxisLists, MergeList, SheetLists, SlotList};
+pub use lists::{AxisLists, MergeList, RunLists, SheetLists, SlotList};
 pub use pages::{AreaPlan, AreaPlans, Notes, Page, PageOrder, PageRun, Place, Plan, Spot};
 pub use partition::AxisSetup;
 pub use planning::{
-    AreaNotes, AxisRange, ContentSides, CountedArea, CountedAreas, FinalCut, Frames,
-    PrintRange, Ready, ReadyArea, ReadyTitle, Request, RunCounts, Settings, Shared,
+    AreaNotes, AxisRange, ContentSides, CountedArea, CountedAreas, FinalCut, Frames, PrintRange,
+    Ready, ReadyArea, ReadyTitle, Request, RunCounts, Settings, Shared,
 };
 pub use runs::{Cut, Frame, RUN_NUMBERS, RunEnd, Tally};
 pub use scale::{ChosenScale, Fit, PageSide, Stretch};

@@ -28,3 +28,10 @@ pub struct SheetLists<'a> {
     pub rows: AxisLists<'a>,
     pub columns: AxisLists<'a>,
 }
+
+// The runs of a plan, or of an area, as they were written: of the rows and of the columns, `RUN_NUMBERS` numbers a run.
+#[derive(Clone, Copy)]
+pub struct RunLists<'a> {
+    pub rows: &'a [u64],
+    pub columns: &'a [u64],
+}
