@@ -117,7 +117,7 @@ pub fn range_for(cells: Range) -> PrintRange
     }
 }
 
-// The areas as the planner takes them.
+// The areas as the planner takes them. No `From`, as for a range.
 pub fn areas_for(read: &JobAreas) -> ArrayVec<PrintRange, 8>
     ensures { result.items ≡ section.areas_for read.now.items }
 {

@@ -89,6 +89,7 @@ fn expand_repeat_for_merges(asked: Span, merges: MergeList) -> Expanded
 {
     let mut span = asked;
     let mut expanded = 0;
+    // A `loop`, as document 01 has it: that a pass was the last is known once it is over.
     let title = loop {
         let previous = span;
         let parts = merges.firsts.chunks(PART).zip(merges.lasts.chunks(PART));
