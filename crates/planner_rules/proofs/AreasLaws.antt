@@ -4,19 +4,17 @@ use mathlib.Core.List.{List, [], ◌∷◌, ◌++◌, map}
 use Prim.Native.Nat.{ℕ, zero, suc, ◌+◌, ◌<◌}
 use native.Mathlib.Numerals.{add-one}
 use native.Mathlib.Omega.{arith}
-use lib.ListN.{length, get_or, take, drop, length-map, length-append}
-use lib.Seq.{take-suc, drop-cons}
+use lib.ListN.{length, get_or, take, length-map}
+use lib.Seq.{take-suc}
 use Rattle.planner_rules.specs.declared.pages.AreaPlan.{AreaPlan}
 use Rattle.planner_rules.specs.declared.planning.PrintRange.{PrintRange}
 use Rattle.planner_rules.specs.declared.planning.AreaNotes.{AreaNotes}
 use Rattle.planner_rules.specs.declared.planning.CountedArea.{CountedArea}
 use Rattle.planner_rules.specs.declared.planning.CountedAreas.{CountedAreas}
 use Rattle.planner_rules.specs.Areas.{no_range, no_plan, over_areas}
-use Rattle.planner_rules.specs.Runs.{Run}
-use Rattle.planner_rules.specs.Pages.{joined, pages_in}
+use Rattle.planner_rules.specs.Pages.{pages_in}
 use Rattle.planner_rules.specs.Plan.{Sheet, Sides, AreaLayout, plan_in, noted, as_count, area_layout, layouts_of}
-use Rattle.planner_rules.specs.Steps.{counted_of, counted_areas, Added, Few, FewAll}
-use Rattle.planner_rules.proofs.CutLaws.{few_pages}
+use Rattle.planner_rules.specs.Steps.{counted_of, Added, FewAll}
 
 -- ---- lists with one more
 
@@ -47,20 +45,6 @@ few_none = record {
   expansions_few = omega arith;
   overflows_few = omega arith;
 }
-
-pub few_more : (all r : CountedAreas) (a : CountedArea) → FewAll all → Few a → Added r all a → FewAll r
-few_more all r a f few w =
-    let pages = few_pages _ _ few.cut.rows_few few.cut.columns_few in
-    let n : counted_areas r ≡ counted_areas all + 1 = omega (arith, ap length w.plans_are, length-append all.areas.items (a.area ∷ [])) in
-    record {
-      rows_few = omega (arith, n, w.rows_are, f.rows_few, few.cut.rows_few);
-      columns_few = omega (arith, n, w.columns_are, f.columns_few, few.cut.columns_few);
-      pages_few = omega (arith, n, w.pages_are, f.pages_few, pages);
-      clamped_few = omega (arith, n, w.clamped_is, f.clamped_few, few.clamped_few);
-      unreachable_few = omega (arith, n, w.unreachable_is, f.unreachable_few, few.unreachable_few);
-      expansions_few = omega (arith, n, w.expansions_are, f.expansions_few, few.cut.expansions_few);
-      overflows_few = omega (arith, n, w.overflows_are, f.overflows_few, few.cut.overflows_few);
-    }
 
 -- one more
 counted_more : (ls : List AreaLayout) (l : AreaLayout) (r : CountedAreas) → Added r (counted_of ls) l.counted → r ≡ counted_of (ls ++ l ∷ [])
@@ -111,9 +95,3 @@ module _ (c : Sides) (s : Sheet) (gs : List PrintRange) (k : ℕ) (g : PrintRang
       ea ∙ ap (λ (p : List AreaPlan). get_or p k no_plan) ep
       ∙ map_at plan_in ls k (area_layout c s no_range) no_plan (omega (arith, length-map gs (area_layout c s)))
       ∙ ap plan_in (map_at (area_layout c s) gs k no_range (area_layout c s no_range) h ∙ ap (area_layout c s) (sym e))
-
-  -- its runs stand before those of the areas after it
-  pub left_is : (f : AreaLayout → List Run)
-      → joined (map f (layouts_of c s (drop k gs))) ≡ f (area_layout c s g) ++ joined (map f (layouts_of c s (drop (k + 1) gs)))
-  unfolding joined
-  left_is f = rw (add-one, drop-cons gs k no_range h, e)

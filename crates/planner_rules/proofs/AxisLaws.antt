@@ -9,7 +9,7 @@ use lib.Seq.{drop-cons}
 use native.Mathlib.Numerals.{add-one}
 use lib.Dec.{ltb}
 use borrow.Author.Tests.{lt-ltb, le-ltb}
-use Rattle.std.specs.Prelude.{Option, Some, None}
+use Rattle.std.specs.Prelude.{Option, Some}
 use Rattle.planner_rules.specs.declared.titles.Span.{Span}
 use Rattle.planner_rules.specs.declared.runs.Frame.{Frame}
 use Rattle.planner_rules.specs.declared.runs.Cut.{Cut}
@@ -46,22 +46,6 @@ module _ (k : Frame) (fs ls is : List ℕ) (prev p : ℕ) where
       → moved (holding k.lo k.hi (get_or is p 0) fs ls) prev p is ≡ placed k fs ls is prev p
   unfolding placed
   placed_moved h q t = rw (lt-ltb 0 p, lt-ltb p (length is), t)
-
-  moved_shifted : (held : Option Span) → (moved held prev p is).shifted ≤ 1
-  unfolding moved
-  moved_shifted None = omega arith
-  moved_shifted (Some s) = omega arith
-
-  pub placed_shifted : (placed k fs ls is prev p).shifted ≤ 1
-  unfolding placed
-  placed_shifted =
-      either Low (ltb 0 p)
-      (either Low (ltb p (length is))
-      (either Low (title_holds k.title (get_or is p 0)) (omega arith) (moved_shifted (holding k.lo k.hi (get_or is p 0) fs ls))) (omega arith))
-      (omega arith)
-    where
-      Low : Cut → Type 0
-      Low c = c.shifted ≤ 1
 
 module _ (n prev : ℕ) (c : Cut) where
   pub kept_yes : prev < c.place → c.place < n → c ≡ kept n prev c

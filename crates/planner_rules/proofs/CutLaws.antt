@@ -1,6 +1,6 @@
 -- Laws of one axis of an area, ready to be cut and cut: of `specs/Plan.antt`'s definitions for the private functions. Assumes nothing.
-use mathlib.Core.Path.{◌≡◌, refl, sym, ap, ap₂, subst, ◌∙◌}
-use mathlib.Core.Bool.{Bool, true, false, cond, true≢false}
+use mathlib.Core.Path.{◌≡◌, refl, sym, ap, ap₂, ◌∙◌}
+use mathlib.Core.Bool.{Bool, true, false, cond}
 use mathlib.Core.List.{List, [], ◌∷◌}
 use Prim.Native.Nat.{ℕ, ◌+◌, ◌-◌, ◌*◌, ◌^◌, ◌≤◌, max}
 use native.Mathlib.Omega.{arith}
@@ -12,15 +12,13 @@ use borrow.Author.Tests.{ne_eqb}
 use Rattle.planner_rules.specs.declared.titles.Title.{Title}
 use Rattle.planner_rules.specs.declared.planning.Ready.{Ready}
 use Rattle.planner_rules.specs.declared.planning.FinalCut.{FinalCut}
-use Rattle.planner_rules.specs.Slots.{Slots, below, written}
+use Rattle.planner_rules.specs.Slots.{Slots, below}
 use Rattle.planner_rules.specs.Runs.{Run, expansions, tallies}
-use Rattle.planner_rules.specs.Lent.{flat, room_in, Room}
 use Rattle.planner_rules.specs.Scale.{Space, body_for, frame_for, axis_passes, fit_passes}
 use Rattle.planner_rules.specs.Pages.{none, or_empty, overflowing}
 use Rattle.planner_rules.specs.Plan.{AxisInput, title_of, start_of, body_part, body_of, space_on, looked_at, cut_runs, cut_shifts, page_runs, overflows}
 use Rattle.planner_rules.specs.Plan.{ReadyFor, within, ready_frame, ready_runs, ready_shifts, ready_overflows, cut_of, cut_from, Cuttable}
 use Rattle.planner_rules.proofs.EndLaws.{below-le}
-use Rattle.planner_rules.proofs.Lent.{room_runs}
 use Rattle.planner_rules.proofs.OverflowLaws.{empty_anywhere}
 
 -- ---- a ready axis
@@ -99,39 +97,7 @@ cut_of_lem r side a y p c e =
     let o = overflows_of r side a y p in
     e ∙ (λ i. cut_of (rs i) (n i) (o i))
 
-pub written_of : (r : Ready) (side : ℤ) (a : AxisInput) → ReadyFor r side a → (p : ℕ) (old new : List ℕ)
-    → new ≡ written (flat (or_empty a.first (ready_runs r p a.indexes a.sizes a.merge_firsts a.merge_lasts a.breaks))) old
-    → new ≡ written (flat (page_runs side a p)) old
-unfolding page_runs
-written_of r side a y p old new w = subst (λ (rs : List Run). new ≡ written (flat (or_empty a.first rs)) old) (runs_of r side a y p) w
-
 -- ---- the runs that are written
-
-pub none_is : (rs : List Run) → none rs ≡ true → rs ≡ []
-none_is [] e = refl
-none_is (r ∷ rs) e = absurd (true≢false (sym e))
-
-pub some_is : (first : ℕ) (rs : List Run) → none rs ≡ false → or_empty first rs ≡ rs
-some_is first [] e = absurd (true≢false e)
-some_is first (r ∷ rs) e = refl
-
-module _ (first : ℕ) (rs : List Run) (old new : List ℕ) where
-  pub empty_room : none rs ≡ true → Room (or_empty first rs) old → Room (or_empty first []) old
-  empty_room e w = subst (λ (x : List Run). Room (or_empty first x) old) (none_is rs e) w
-
-  pub empty_written : none rs ≡ true → new ≡ written (flat (or_empty first [])) old → new ≡ written (flat (or_empty first rs)) old
-  empty_written e w = subst (λ (x : List Run). new ≡ written (flat (or_empty first x)) old) (sym (none_is rs e)) w
-
-  pub some_room : none rs ≡ false → Room (or_empty first rs) old → Room rs old
-  some_room e w = subst (λ (x : List Run). Room x old) (some_is first rs e) w
-
-  pub some_written : none rs ≡ false → new ≡ written (flat rs) old → new ≡ written (flat (or_empty first rs)) old
-  some_written e w = subst (λ (x : List Run). new ≡ written (flat x) old) (sym (some_is first rs e)) w
-
--- ---- what the last steps of a cut rely on
-
-pub room_of : (first : ℕ) (rs : List Run) (k o : ℕ) (c : FinalCut) (l : List ℕ) → c ≡ cut_of rs k o → c.runs ≤ room_in l → Room (or_empty first rs) l
-room_of first rs k o c l e h = room_runs (or_empty first rs) l (omega (arith, as_many first rs, ap (λ (x : FinalCut). x.runs) e))
 
 pub few_pages : (m n : ℕ) → m ≤ 2 ^ 20 → n ≤ 2 ^ 20 → m * n ≤ 2 ^ 40
 few_pages m n h k = let a : m * n ≤ m * 2 ^ 20 = mul-le-mul_left m k in omega arith
@@ -140,7 +106,3 @@ few_pages m n h k = let a : m * n ≤ m * 2 ^ 20 = mul-le-mul_left m k in omega 
 pub looked : (fit : Bool) (bs : List ℕ) (n : ℕ) → n ≡ cond fit 0 (length bs) → take n bs ≡ looked_at fit bs
 looked true bs n e = rw e
 looked false bs n e = rw e (take_all (length bs) bs (omega arith))
-
-pub looked_few : (fit : Bool) (m n : ℕ) → m ≡ cond fit 0 n → m ≤ n
-looked_few true m n e = omega arith
-looked_few false m n e = omega arith

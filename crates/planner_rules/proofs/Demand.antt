@@ -7,7 +7,7 @@ use native.Mathlib.Omega.{arith}
 use lib.Dec.{leb}
 use lib.IntN.{ℤ}
 use lib.Signed.{mag}
-use lib.ListN.{length, get_or, take, drop, length-map, length-append, length-take}
+use lib.ListN.{length, get_or, take, drop, length-map, length-append}
 use lib.Seq.{drop_at}
 use borrow.Author.Tests.{le-leb, leb-true}
 use Rattle.units.specs.Grid.{last_row, last_column}

@@ -1,22 +1,22 @@
 -- Laws of searches, of the title's resumption and of the merge step (`specs/Slots.antt`, `specs/Runs.antt`), way by way. Assumes nothing.
 use mathlib.Core.Path.{◌≡◌, ◌∙◌}
 use mathlib.Core.List.{List, [], ◌∷◌}
-use Prim.Native.Nat.{ℕ, zero, suc, ◌+◌, ◌-◌, ◌≤◌, ◌<◌}
+use Prim.Native.Nat.{ℕ, zero, suc, ◌+◌, ◌≤◌, ◌<◌}
 use native.Mathlib.Numerals.{add-one}
 use native.Mathlib.Omega.{arith}
 use lib.ListN.{length, get_or, drop, drop_of_length-le}
-use lib.Seq.{drop-cons, drop-length}
+use lib.Seq.{drop-cons}
 use borrow.Author.Tests.{lt-ltb, le-ltb, le-leb, lt-leb}
 use Rattle.std.specs.Prelude.{Option, Some, None}
 use Rattle.planner_rules.specs.declared.titles.Span.{Span}
 use Rattle.planner_rules.specs.declared.titles.Title.{Title}
 use Rattle.planner_rules.specs.declared.titles.Title.TheVariants.{Pair}
-use Rattle.planner_rules.proofs.Laws.{part, rest, either, either_lt, drop_back}
+use Rattle.planner_rules.proofs.Laws.{part, rest, either, either_lt}
 use lib.Dec.{leb, ltb}
 use Rattle.planner_rules.specs.declared.runs.RunEnd.{RunEnd}
 use Rattle.planner_rules.specs.declared.runs.Frame.{Frame}
 use Rattle.planner_rules.specs.Slots.{below, through}
-use Rattle.planner_rules.specs.Runs.{ends, merge_step, merged, again, resumed, resumption, filled, taken, holding}
+use Rattle.planner_rules.specs.Runs.{merge_step, merged, again, resumed, resumption, filled, taken, holding}
 
 -- ---- slots below a limit
 
@@ -31,21 +31,6 @@ below_no k n l h p = rw (drop-cons l n 0, le-ltb (get_or l n 0) k)
 pub below_end : (k n : ℕ) (l : List ℕ) → length l ≤ n → below k (drop n l) ≡ 0
 unfolding below
 below_end k n l h = rw (drop_of_length-le l h)
-
--- ---- the merge step, way by way
-
-module _ (held : Option Span) (m : Span) (n : ℕ) (is : List ℕ) (h : held ≡ Some m) where
-  pub step_start : (s : ℕ) → s ≡ below m.first is → 0 < s → ends s 0 ≡ merge_step held n is
-  unfolding merge_step
-  step_start s e p = rw (h, ← e, lt-ltb 0 s)
-
-  pub step_far : (s t : ℕ) → s ≡ below m.first is → s ≤ 0 → t ≡ through m.last is → n < t → ends t 1 ≡ merge_step held n is
-  unfolding merge_step
-  step_far s t e p e' q = rw (h, ← e, ← e', le-ltb 0 s, lt-ltb n t)
-
-  pub step_stay : (s t : ℕ) → s ≡ below m.first is → s ≤ 0 → t ≡ through m.last is → t ≤ n → ends n 0 ≡ merge_step held n is
-  unfolding merge_step
-  step_stay s t e p e' q = rw (h, ← e, ← e', le-ltb 0 s, le-ltb n t)
 
 -- ---- the title's resumption
 
@@ -113,19 +98,6 @@ through-le k (i ∷ is) =
     (either (λ (n : ℕ). n ≤ suc (length is)) (leb i k) (omega arith) (omega arith))
 
 -- ---- slots up to the last one at or below a limit, from the end
-
-pub through_none : (k : ℕ) (l : List ℕ) → through k (drop (length l) l) ≡ 0
-unfolding through
-through_none k l = rw drop-length
-
--- none from i on: the one before decides
-pub through_found : (k i : ℕ) (l : List ℕ) → 0 < i → i ≤ length l → through k (drop i l) ≡ 0 → get_or l (i - 1) 0 ≤ k → through k (drop (i - 1) l) ≡ 1
-unfolding through
-through_found k i l h q z p = rw (drop_back l i 0, z, le-leb (get_or l (i - 1) 0) k)
-
-pub through_passed : (k i : ℕ) (l : List ℕ) → 0 < i → i ≤ length l → through k (drop i l) ≡ 0 → k < get_or l (i - 1) 0 → through k (drop (i - 1) l) ≡ 0
-unfolding through
-through_passed k i l h q z p = rw (drop_back l i 0, z, lt-leb (get_or l (i - 1) 0) k)
 
 -- what is found from a place on is found from the front
 pub through_front : (k j n : ℕ) (l : List ℕ) → through k (drop j l) ≡ suc n → through k l ≡ j + suc n

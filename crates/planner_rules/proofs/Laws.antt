@@ -132,10 +132,6 @@ rising-take n xs r j k h q =
 small-drop : (n : ℕ) (l : List ℕ) → Small l → Small (drop n l)
 small-drop n l s = record { few = simp length-drop (omega (arith, s.few)); each = λ k. rw get_or-drop (s.each (n + k)) }
 
-pub slots_part : (n : ℕ) (is ss : List ℕ) → Slots is ss → Slots (part n is) (part n ss)
-slots_part n is ss h =
-    rw (rest n is, rest n ss) (record { even = simp length-drop (omega arith); small = small-drop n ss h.small; rising = rising-drop n is h.rising })
-
 -- a turn of a loop that takes run after run: the run at the head, and the runs of the parts after it
 pub turn : (at : List ℕ → List ℕ → Run) (n : ℕ) (is ss : List ℕ) → Slots is ss → 0 < length ss → n ≡ (at is ss).slots → 1 ≤ n
     → runs_by at zero is ss ≡ at is ss ∷ runs_by at zero (part n is) (part n ss)

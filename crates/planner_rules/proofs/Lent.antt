@@ -89,10 +89,6 @@ stands rs old new w =
     let e = ap (runs_in (length rs)) w ∙ runs_bare rs (drop (length (flat rs)) old) in
     record { firsts_are = ap firsts e ∙ same_firsts rs; lasts_are = ap lasts e ∙ same_lasts rs; sizes_are = ap sizes e ∙ same_sizes rs }
 
--- the list is as long as before
-pub long_written : (vs old new : List ℕ) → length vs ≤ length old → new ≡ written vs old → length new ≡ length old
-long_written vs old new h w = rw w (simp (length-append, length-drop) (omega arith))
-
 pub runs_length : (n : ℕ) (l : List ℕ) → length (runs_in n l) ≡ n
 unfolding runs_in
 runs_length zero l = refl

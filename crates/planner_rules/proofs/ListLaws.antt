@@ -3,13 +3,13 @@ use mathlib.Core.Path.{◌≡◌, refl, sym, ap, ◌∙◌}
 use mathlib.Core.Bool.{Bool, true, false}
 use mathlib.Core.WellFounded.{Acc, WellFounded}
 use mathlib.Core.List.{List, [], ◌∷◌, ◌++◌}
-use Prim.Native.Nat.{ℕ, zero, suc, ◌+◌, ◌-◌, ◌*◌, ◌≤◌, ◌<◌, ◌^◌, min, zero-le}
+use Prim.Native.Nat.{ℕ, zero, suc, ◌+◌, ◌-◌, ◌≤◌, ◌<◌, min, zero-le}
 use native.Mathlib.Nat.{le_refl}
 use native.Mathlib.Numerals.{add-one}
 use native.Mathlib.Omega.{arith}
 use lib.Dec.{leb}
 use lib.ListN.{length, take, drop, set, length-take}
-use lib.Seq.{length-take-le, length_front, take-length}
+use lib.Seq.{take-length}
 use borrow.Author.Tests.{le-leb, lt-leb, leb-true}
 use Rattle.units.specs.Outcome.{Outcome, given, refused}
 use Rattle.planner_rules.specs.declared.pages.AreaPlan.{AreaPlan}
@@ -71,9 +71,6 @@ module _ (p : Plan) (room : ℕ) (rows columns : List ℕ) where
 -- ---- a lent list, written from the front
 
 module _ {A : Type 0} where
-  pub filled_length : (i : ℕ) (xs ys : List A) → i ≤ length xs → i ≤ length ys → length (take i xs ++ drop i ys) ≡ length ys
-  filled_length i xs ys h g = length_front ys (take i xs) i (length-take-le i xs h ∙ sym (length-take-le i ys g))
-
   filled_suc : (i : ℕ) (xs ys : List A) (x : A) → numbered xs (suc i) ≡ given x → i < length ys → set (take i xs ++ drop i ys) i x ≡ take (suc i) xs ++ drop
       (suc i) ys
   unfolding numbered
@@ -86,10 +83,6 @@ module _ {A : Type 0} where
   pub filled_more : (i : ℕ) (xs ys : List A) (x : A) → numbered xs (suc i) ≡ given x → i < length ys → set (take i xs ++ drop i ys) i x ≡ take
       (i + 1) xs ++ drop (i + 1) ys
   filled_more i xs ys x e h = rw add-one (filled_suc i xs ys x e h)
-
--- the offset of an element of 64 bytes fits
-pub offset_fits : (n m : ℕ) → n < m → m * 64 < 2 ^ 63 → n * 64 < 2 ^ 64
-offset_fits n m h k = omega (arith, h, k)
 
 -- an order by a measure ends
 acc_of : {X : Type 0} (μ : X → ℕ) (k : ℕ) (x : X) → μ x < k → Acc (λ a b. μ a < μ b) x

@@ -155,12 +155,6 @@ module _ {A : Type 0} (rows columns : ℕ) (page : ℕ → ℕ → A) where
   page_of order zero low high = absurd (omega arith)
   page_of order (suc n) low high = let e : suc n - 1 ≡ n = omega arith in rw e (page_after order n (omega arith))
 
-  pub page_zero : (order : PageOrder) → numbered (in_order order rows columns page) 0 ≡ refused 14
-  page_zero order = numbered_zero (in_order order rows columns page)
-
-  pub page_beyond : (order : PageOrder) (n : ℕ) → rows * columns < n → numbered (in_order order rows columns page) n ≡ refused 14
-  page_beyond order n h = numbered_past (in_order order rows columns page) n (omega (arith, page_count order))
-
 -- ---- the place of a page, and the page at a place
 
 -- a number below n lines of m is in a line, at a place of it

@@ -29,17 +29,6 @@ use Rattle.planner_rules.proofs.Laws.{split}
 -- ---- the place of a page
 
 module _ (rows columns before : ℕ) where
-  -- there are runs where there is a page
-  pub some_rows : before < rows * columns → 0 < rows
-  some_rows h = split rows 0 (λ z. let e : rows ≡ 0 = omega arith in absurd (omega (arith, rw e at h))) (λ z. z)
-
-  pub some_columns : before < rows * columns → 0 < columns
-  some_columns h = split columns 0 (λ z. let e : columns ≡ 0 = omega arith in absurd (omega (arith, rw e at h))) (λ z. z)
-
-  -- whether there are more pages than so many: where there are no rows, and by division
-  pub no_rows : rows ≡ 0 → false ≡ ltb before (rows * columns)
-  no_rows e = let z : rows * columns ≡ 0 = rw e (omega arith) in rw z (sym (le-ltb before 0 (omega arith)))
-
   pub by_division : 0 < rows → ltb (before / rows) columns ≡ ltb before (rows * columns)
   by_division k =
       split (rows * columns) before

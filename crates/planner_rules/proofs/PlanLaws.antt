@@ -6,7 +6,6 @@ use Prim.Native.Nat.{ℕ, zero, suc, ◌+◌, ◌^◌, ◌≤◌, ◌<◌}
 use native.Mathlib.Omega.{arith}
 use lib.Dec.{leb}
 use lib.ListN.{length, get_or, length-append}
-use lib.Seq.{get_or-take, length-take-le}
 use borrow.Author.Tests.{leb-true, eqb-true, le-leb, lt-leb}
 use Rattle.units.specs.Outcome.{Outcome, given, refused, and_then}
 use Rattle.planner_rules.specs.declared.titles.Axis.TheVariants.{Rows, Columns}
@@ -415,17 +414,6 @@ module _ (x : Shared) (s : Sheet) (areas : List PrintRange) (y : SharedBy x s ar
   after rest =
       ap (rest (sides_in x)) same_sheet
       ∙ sym (questions_first s areas (λ (c : Sides). rest c s) ∙ ap (λ (o : Outcome Sides). and_then o (λ (c : Sides). rest c s)) y.goes_on)
-
-  pub settled_onto : Settled x (onto x s)
-  settled_onto =
-      let t = y.settled in
-      record {
-        row_slots = t.row_slots;
-        column_slots = t.column_slots;
-        rows_ready = t.rows_ready;
-        columns_ready = t.columns_ready;
-        titles_few = t.titles_few;
-      }
 
   pub then_plan : (rows columns : List ℕ)
       → room_for (onto x s) (layout (sides_in x) (onto x s) areas) (room_in rows) (room_in columns) ≡ planned s areas rows columns

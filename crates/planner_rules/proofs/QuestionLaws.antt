@@ -20,7 +20,6 @@ use Rattle.units.specs.Refusals.{number_of}
 use Rattle.units.specs.declared.refusal.Refusal.{Refusal}
 use Rattle.units.specs.declared.refusal.Refusal.TheVariants as no
 use Rattle.planner_rules.specs.Questions.{ask, no_or, all_ordered, all_within, rising, rising_within, all_small}
-use Rattle.planner_rules.proofs.Laws.{drop_back}
 
 -- ---- questions one after another, and the number of the first no
 
@@ -111,16 +110,6 @@ bits_from bits (x ∷ l) = rw (bits_from (bit_or bits x) l, or-small bits x) (an
 pub bits_small : (l : List ℕ) → leb (fold bit_or 0 l) 1073741823 ≡ all_small l
 unfolding all_small
 bits_small l = bits_from 0 l
-
--- one index more, from the last one back
-pub rising_back : (i : ℕ) (l : List ℕ) → 1 < i → i ≤ length l
-    → rising (drop (i - 1 - 1) l) ≡ (ltb (get_or l (i - 1 - 1) 0) (get_or l (i - 1) 0) && rising (drop (i - 1) l))
-unfolding rising
-rising_back i l h k =
-    let p : 0 < i - 1 = omega arith in
-    let q : i - 1 ≤ length l = omega arith in
-    let z : 0 < i = omega arith in
-    rw (drop_back l (i - 1) 0 p q, drop_back l i 0 z k)
 
 pub rising_end : (n : ℕ) (l : List ℕ) → length l ≤ n + 1 → rising (drop n l) ≡ true
 unfolding rising

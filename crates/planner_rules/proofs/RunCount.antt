@@ -3,11 +3,10 @@ use mathlib.Core.Path.{◌≡◌, refl, sym, ◌∙◌}
 use mathlib.Core.Logic.{inl, inr}
 use mathlib.Core.List.{List, [], ◌∷◌, map}
 use Prim.Native.Nat.{ℕ, zero, suc, ◌*◌, ◌≤◌}
-use native.Mathlib.Nat.{mul-le-mul_right}
 use native.Mathlib.Omega.{arith}
 use lib.Dec.{leb}
 use lib.IntN.{ℤ}
-use lib.ListN.{length, length-map, length-append, length-take}
+use lib.ListN.{length, length-map, length-append}
 use borrow.Author.Tests.{le-leb}
 use Rattle.units.specs.Outcome.{given, refused, and_then}
 use Rattle.planner_rules.specs.declared.planning.PrintRange.{PrintRange}

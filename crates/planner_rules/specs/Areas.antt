@@ -1,5 +1,5 @@
 -- Several print areas (document 02, T-02): one to eight ranges in job order, and what each came to. Assumes nothing.
-use Rattle.std.specs.Prelude.{Bool, true, false, ◌&&◌, List, [], ◌∷◌, ℕ, ◌+◌, leb, length, get_or, take}
+use Rattle.std.specs.Prelude.{Bool, true, false, ◌&&◌, List, [], ◌∷◌, ℕ, ◌+◌, leb}
 use Rattle.units.specs.Grid.{last_row, last_column}
 use Rattle.planner_rules.specs.declared.pages.AreaPlan.{AreaPlan}
 use Rattle.planner_rules.specs.declared.planning.PrintRange.{PrintRange}

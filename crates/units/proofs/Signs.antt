@@ -45,10 +45,6 @@ pub of_none : (n : ℕ) → pos 0 -ℤ pos n ≡ neg_ℤ (pos n)
 of_none zero = refl
 of_none (suc n) = simp (lt-ltb 0 (suc n) (omega arith)) (ap negsuc (omega arith))
 
-pub mag_negℤ : (n : ℕ) → n ≤ 2 ^ 63 → mag (neg_ℤ (pos n)) < 2 ^ 63
-mag_negℤ zero h = omega arith
-mag_negℤ (suc k) h = h
-
 pub mag_large : (n : ℕ) → 2 ^ 63 < n → 2 ^ 63 ≤ mag (neg_ℤ (pos n))
 mag_large zero h = omega arith
 mag_large (suc k) h = omega arith
