@@ -6,7 +6,7 @@ use Rattle.job_records.specs.declared.records.Range.{Range}
 use Rattle.job_records.specs.Marks.{place}
 use Rattle.job_records.specs.declared.marks.Mark.TheVariants.{Area}
 use Rattle.job_records.proofs.MarkLaws.{later_place, no_later_place}
-use Rattle.job_walk.proofs.WalkLaws.{ranges_left, walk_used, area_end, area_past, area_here, area_on, collected, collected_eight}
+use Rattle.job_walk.proofs.WalkLaws.{walk_used, area_end, area_past, area_here, area_on, collected, collected_eight}
 use Rattle.job_walk.proofs.areas_of.Goals as goal
 use Rattle.job_walk.proofs.areas_of.Goals.{in-Area, in_default-found}
 

@@ -1,5 +1,5 @@
 -- Each question in turn: those before it passed, and it stopped.
-use Rattle.std.proofs.Common.{◌≡◌, Bool, ◌&&◌, leb, Err, refl, sym, ap, ◌∙◌, arith, rules}
+use Rattle.std.proofs.Common.{◌≡◌, Bool, ◌&&◌, leb, Err, sym, ap, ◌∙◌, arith, rules}
 use Rattle.planner_rules.specs.Partition.{first_no}
 use Rattle.planner_rules.proofs.QuestionLaws.{stopped, passed}
 use Rattle.planner_questions.proofs.partition_refusal.Goals as goal
