@@ -2,7 +2,6 @@
 // for one page, and not in blocks.
 use job::{count_job, write_job_area};
 use job_report::{area_line, head_lines, page_line};
-use planner_areas::plan_at;
 use planner_pages::{area_page, page_spot};
 use planner_rules::{AreaPlan, Page, Plan, RUN_NUMBERS, Spot};
 use std::alloc::{AllocError, Global};
@@ -18,7 +17,7 @@ const NUMBERS: usize = RUN_NUMBERS * RUNS;
 const LINE: usize = 256;
 
 // The first lines of an answer.
-fn print_head<W: Write>(planning: Result<Plan, Refusal>, out: &mut W) -> io::Result<()> {
+fn print_head<W: Write>(planning: &Result<Plan, Refusal>, out: &mut W) -> io::Result<()> {
     let mut line = [0; LINE];
     let end = head_lines(planning, &mut line);
     out.write_all(&line[..end])
@@ -86,10 +85,12 @@ impl RunLists {
     fn print_pages<W: Write>(&mut self, job: &[u8], plan: &Plan, out: &mut W) -> io::Result<()> {
         // By number: the calls for one page take it, and no list has the pages.
         for number in 1..=plan.pages {
-            let Some(spot) = page_spot(*plan, number) else {
+            let Some(spot) = page_spot(plan, number) else {
                 break;
             };
-            let area = plan_at(plan.areas, spot.area);
+            let Some(area) = plan.areas.as_slice().get(spot.area).copied() else {
+                break;
+            };
             if spot.before == 0 {
                 self.begin_area(job, spot, area, out)?;
             }
@@ -103,7 +104,7 @@ impl RunLists {
     // Prints what `plan` prints for a job's bytes, and an empty line.
     pub(crate) fn print_plan<W: Write>(&mut self, job: &[u8], out: &mut W) -> io::Result<()> {
         let planning = count_job(job);
-        print_head(planning, out)?;
+        print_head(&planning, out)?;
         if let Ok(plan) = planning {
             self.print_pages(job, &plan, out)?;
         }

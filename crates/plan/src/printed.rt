@@ -1,10 +1,9 @@
 // The plan of a job's bytes, as it is printed.
-ghost use Rattle.std.specs.Prelude.{◌+◌, ◌≡◌, ◌≤◌, ◌<◌, IfOk};
+ghost use Rattle.std.specs.Prelude.{◌+◌, ◌≡◌, ◌≤◌, ◌<◌, IfOk, length};
 
 use crate::failure::Failure;
 use job::{count_job, write_job_area};
 use job_report::{Block, area_block, area_line, head_lines};
-use planner_areas::plan_at;
 use planner_pages::page_spot;
 use planner_rules::{Plan, RUN_NUMBERS, Spot};
 use std::io::Write;
@@ -24,7 +23,7 @@ fn write<W: Write>(out: &mut W, bytes: &[u8]) -> Result<(), Failure> {
 }
 
 // Writes the first lines, or that of a refusal.
-fn print_head<W: Write>(out: &mut W, planning: Result<Plan, Refusal>) -> Result<(), Failure> {
+fn print_head<W: Write>(out: &mut W, planning: &Result<Plan, Refusal>) -> Result<(), Failure> {
     let mut head = [0; 256];
     let end = head_lines(planning, &mut head);
     write(out, &head[..end])
@@ -51,9 +50,9 @@ struct Counted<'a> {
 
 impl Counted<'_> {
     fn spot(&self, number: u64) -> Result<Spot, Failure>
-        ensures { IfOk result (λ spot. spot.area < 8) }
+        ensures { IfOk result (λ spot. spot.area < length self.now.plan.areas.items) }
     {
-        match page_spot(self.plan, number) {
+        match page_spot(&self.plan, number) {
             Some(spot) => Ok(spot),
             None => Err(Failure::Refused),
         }
@@ -61,10 +60,10 @@ impl Counted<'_> {
 
     // Writes the line of an area, by its number from 0, and its runs to the lists.
     fn begin_area<W: Write>(&mut self, out: &mut W, at: usize) -> Result<(), Failure>
-        requires { at < 8 }
+        requires { at < length self.old.plan.areas.items }
         ensures { self.new.plan ≡ self.old.plan }
     {
-        let permille = plan_at(self.plan.areas, at).permille;
+        let permille = self.plan.areas.as_slice()[at].permille;
         let number = at as u64 + 1;
         print_area(out, number, permille)?;
         match write_job_area(
@@ -87,7 +86,7 @@ impl Counted<'_> {
     {
         let mut lines = [0; 65536];
         let answer = area_block(
-            self.plan,
+            &self.plan,
             from,
             &self.row_runs,
             &self.column_runs,
@@ -121,7 +120,7 @@ impl Counted<'_> {
 // Writes what the job's bytes come to.
 pub(crate) fn print_plan<W: Write>(job: &[u8], out: &mut W) -> Result<(), Failure> {
     let planning = count_job(job);
-    print_head(out, planning)?;
+    print_head(out, &planning)?;
     let Ok(plan) = planning else {
         return Ok(());
     };

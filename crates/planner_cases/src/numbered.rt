@@ -15,18 +15,6 @@ use planner_rules::{AreaPlan, AreaPlans, Notes, Plan};
 use std::alloc::Global;
 use std::io::{self, Write};
 
-// The most areas that are read.
-const AREAS: u8 = 8;
-
-const NO_AREA: AreaPlan = AreaPlan {
-    permille: 1000,
-    unreachable: 0,
-    row_runs: 0,
-    column_runs: 0,
-    rows_empty: false,
-    columns_empty: false,
-};
-
 const NOTHING_NOTED: Notes = Notes {
     unknown_paper: 0,
     invalid_margins: 0,
@@ -47,32 +35,19 @@ fn read_area(fields: &mut Fields) -> Result<AreaPlan, Fault> {
         column_runs: column_runs as usize,
         rows_empty,
         columns_empty,
-        ..NO_AREA
+        ..AreaPlan::default()
     })
 }
 
-fn read_areas(alloc: Global, fields: &mut Fields, count: u8) -> Result<Vec<AreaPlan>, Fault> {
-    let mut areas = Vec::new(alloc);
-    for _ in 0..count.min(AREAS) {
-        areas.push(read_area(fields)?)?;
+// What so many areas came to, of which some are read and the others have no runs; of more than eight, the first eight.
+fn read_areas(fields: &mut Fields, read: u8, count: u64) -> Result<AreaPlans, Fault> {
+    let mut areas = [AreaPlan::default(); 8];
+    for area in areas.iter_mut().take(usize::from(read)) {
+        *area = read_area(fields)?;
     }
+    let mut areas = AreaPlans::from(areas);
+    areas.truncate(count as usize);
     Ok(areas)
-}
-
-// What so many areas came to, by those that were read.
-fn area_plans(count: u64, areas: &[AreaPlan]) -> AreaPlans {
-    let area = |at: usize| areas.get(at).copied().unwrap_or(NO_AREA);
-    AreaPlans {
-        count: count as usize,
-        first: area(0),
-        second: area(1),
-        third: area(2),
-        fourth: area(3),
-        fifth: area(4),
-        sixth: area(5),
-        seventh: area(6),
-        eighth: area(7),
-    }
 }
 
 #[derive(Drop)]
@@ -91,10 +66,10 @@ impl PageCase {
         let areas_read = fields.next()?;
         let (first_row, first_column) = (fields.next()?, fields.next()?);
         let (count, pages, number) = (fields.next()?, fields.next()?, fields.next()?);
-        let areas = read_areas(alloc, fields, areas_read)?;
+        let areas = read_areas(fields, areas_read, count)?;
         Ok(Self {
             plan: Plan {
-                areas: area_plans(count, &areas),
+                areas,
                 pages,
                 order,
                 notes: NOTHING_NOTED,

@@ -18,7 +18,7 @@ use crate::text::{Answer, Numbers, PlanText, numbered_page};
 use geometry::Margins;
 use job_records::float;
 use planner::plan_pages;
-use planner_rules::{Areas, PageOrder, Plan, PrintRange, Request, Settings, SheetLists, Title};
+use planner_rules::{PageOrder, Plan, PrintRange, Request, Settings, SheetLists, Title};
 use std::alloc::{AllocError, Global};
 use std::io::{self, Write};
 use units::Refusal;
@@ -253,7 +253,7 @@ impl PlanCase {
     fn plan(&mut self) -> Result<Plan, Refusal> {
         let request = Request {
             settings: self.settings,
-            areas: areas_of(&self.ranges),
+            areas: &self.ranges,
             row_title: self.row_title,
             column_title: self.column_title,
         };
@@ -266,39 +266,17 @@ impl PlanCase {
 
     // Plans, and answers what the lent lists hold then, and pages.
     pub(crate) fn answer<W: Write>(&mut self, alloc: Global, out: &mut W) -> io::Result<()> {
-        let planned = self.plan();
+        let planned = Answer(self.plan().map(PlanText));
         let rows = Numbers(&self.row_runs);
         let columns = Numbers(&self.column_runs);
-        write!(out, "{}{rows}{columns}", Answer(planned.map(PlanText)))?;
-        if let Ok(plan) = planned {
+        write!(out, "{planned}{rows}{columns}")?;
+        if let Ok(PlanText(plan)) = &planned.0 {
             for number in page_numbers(alloc, plan.pages)? {
-                let page = numbered_page(&plan, number, &self.row_runs, &self.column_runs);
+                let page = numbered_page(plan, number, &self.row_runs, &self.column_runs);
                 write!(out, "; {number} {page}")?;
             }
         }
         writeln!(out)
-    }
-}
-
-// The areas of ranges; where there are fewer than eight, the places of the others hold none.
-fn areas_of(ranges: &[PrintRange]) -> Areas {
-    let no_range = PrintRange {
-        first_row: 0,
-        first_column: 0,
-        last_row: 0,
-        last_column: 0,
-    };
-    let range = |at: usize| ranges.get(at).copied().unwrap_or(no_range);
-    Areas {
-        count: ranges.len(),
-        first: range(0),
-        second: range(1),
-        third: range(2),
-        fourth: range(3),
-        fifth: range(4),
-        sixth: range(5),
-        seventh: range(6),
-        eighth: range(7),
     }
 }
 

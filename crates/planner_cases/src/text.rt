@@ -1,7 +1,6 @@
 // Answers as text. A plan is `plan`, the count of areas, the pages, the order and the nine notes; then of each area the permille, whether it is
 // unreachable, the runs of rows and of columns, and whether the rows and the columns are empty. A page is `page`, the vertical and the
 // horizontal number, and both runs, with first, last, size, empty mark and manual mark.
-use planner_areas::{at_most_eight, plan_at};
 use planner_pages::page_numbered;
 use planner_rules::{AreaPlan, Notes, Page, PageOrder, PageRun, Plan, Tally, Title, Widened};
 use std::fmt;
@@ -73,7 +72,7 @@ impl fmt::Display for PlanText {
             pages,
             order,
             notes,
-        } = self.0;
+        } = &self.0;
         let order = match order {
             PageOrder::DownThenOver => 0,
             PageOrder::OverThenDown => 1,
@@ -81,11 +80,11 @@ impl fmt::Display for PlanText {
         write!(
             f,
             "plan {} {pages} {order}{}",
-            areas.count,
-            NotesText(notes)
+            areas.len(),
+            NotesText(*notes)
         )?;
-        for at in 0..at_most_eight(areas.count) {
-            write!(f, "{}", AreaText(plan_at(areas, at)))?;
+        for area in areas {
+            write!(f, "{}", AreaText(*area))?;
         }
         Ok(())
     }
@@ -150,6 +149,6 @@ pub(crate) fn numbered_page(
     row_runs: &[u64],
     column_runs: &[u64],
 ) -> Answer<PageText> {
-    let page = page_numbered(*plan, number, row_runs, column_runs);
+    let page = page_numbered(plan, number, row_runs, column_runs);
     Answer(page.map(PageText))
 }

@@ -2,8 +2,8 @@
 use crate::listed::Planned;
 use planner::plan_pages;
 use planner_rules::{
-    Areas, AxisLists, MergeList, PageOrder, Plan, PrintRange, RUN_NUMBERS, Request, Settings,
-    SheetLists, SlotList, Title,
+    AxisLists, MergeList, PageOrder, Plan, PrintRange, RUN_NUMBERS, Request, Settings, SheetLists,
+    SlotList, Title,
 };
 use std::alloc::Global;
 use std::io::{self, Write};
@@ -135,22 +135,6 @@ fn settings(percent: Option<u16>, order: PageOrder) -> Settings {
     }
 }
 
-// The areas of ranges; where there are fewer than eight, the whole sheet stands in the places of the others.
-fn areas_of(ranges: &[PrintRange]) -> Areas {
-    let range = |at: usize| ranges.get(at).copied().unwrap_or(WHOLE);
-    Areas {
-        count: ranges.len(),
-        first: range(0),
-        second: range(1),
-        third: range(2),
-        fourth: range(3),
-        fifth: range(4),
-        sixth: range(5),
-        seventh: range(6),
-        eighth: range(7),
-    }
-}
-
 // The slots of an axis that has no merges, and its breaks.
 fn axis<'a>(indexes: &'a [u32], sizes: &'a [u64], breaks: &'a [u32]) -> AxisLists<'a> {
     AxisLists {
@@ -175,7 +159,7 @@ impl Case<'_> {
         let column_sizes = vec![in alloc; SIZE; self.columns.len()]?;
         let request = Request {
             settings: settings(self.percent, self.order),
-            areas: areas_of(self.ranges),
+            areas: self.ranges,
             row_title: Title::Absent,
             column_title: Title::Absent,
         };

@@ -23,7 +23,7 @@ const BLANK_RUN: PageRun = PageRun {
 };
 
 // A plan and its runs.
-#[derive(Clone, Copy)]
+#[derive(Drop)]
 pub(crate) struct Planned<'a> {
     pub(crate) plan: Plan,
     pub(crate) row_runs: &'a [u64],
@@ -33,13 +33,13 @@ pub(crate) struct Planned<'a> {
 impl Planned<'_> {
     // The list, and how many pages were written to it, or the refusal.
     fn listed(&self) -> ([Page; 4], Result<u64, Refusal>) {
-        let four = list_four([BLANK; 4], self.plan, self.row_runs, self.column_runs);
+        let four = list_four([BLANK; 4], &self.plan, self.row_runs, self.column_runs);
         let pages = four.pages;
         (pages, four.answer)
     }
 
     fn page(&self, number: u64) -> Option<Page> {
-        page_numbered(self.plan, number, self.row_runs, self.column_runs).ok()
+        page_numbered(&self.plan, number, self.row_runs, self.column_runs).ok()
     }
 
     // Says a place, from 1, in whose list so many pages were written.
