@@ -7,9 +7,9 @@ use Prim.Native.Nat.{ℕ, zero, suc, ◌+◌, ◌-◌, ◌≤◌, ◌<◌}
 use native.Mathlib.Nat.{mul-le-mul}
 use native.Mathlib.Omega.{arith}
 use lib.Dec.{leb}
-use lib.ListN.{length, get_or, take, drop, length-take, length-map}
+use lib.ListN.{length, get_or, take, drop, length-map}
 use lib.IntN.{ℤ}
-use lib.Seq.{take_at, drop-append-add, ext_get_or}
+use lib.Seq.{take_at, drop-append-add}
 use Rattle.units.specs.Outcome.{Outcome, given, refused, and_then}
 use Rattle.std.specs.Prelude.{Option}
 use Rattle.planner_rules.specs.declared.pages.AreaPlan.{AreaPlan}

@@ -4,6 +4,7 @@ ghost use Rattle.planner_rules.specs.Scale.{scale_of};
 ghost use Rattle.planner_rules.specs.Asked.{sheet_by};
 ghost use Rattle.planner_rules.specs.Plan as call;
 ghost use Rattle.planner_rules.specs.Steps as step;
+ghost use Rattle.planner.specs.Bodies.{IsBody, BodyOf};
 
 use crate::cut::{count_cut, write_cut};
 use crate::fitted::FittedAxis;
@@ -61,10 +62,7 @@ fn ready_axis(axis: AxisRange, side: Fixed, title: ReadyTitle, indexes: &[u32]) 
 #[inline(always)]
 fn fitted<'a>(ready: Ready, axis: AxisLists<'a>) -> FittedAxis<'a>
     requires { call.Cuttable ready axis.slots.indexes.now axis.slots.sizes.now }
-    ensures fit_is { result.fit ≡ ready.fit }
-    ensures merges_are { (result.merges.firsts.now ≡ axis.entry.merges.firsts.now) × (result.merges.lasts.now ≡ axis.entry.merges.lasts.now) }
-    ensures slots_are { let slots = axis.entry.slots in
-        (result.slots.indexes.now ≡ call.within ready slots.indexes.now) × (result.slots.sizes.now ≡ call.within ready slots.sizes.now) }
+    ensures { IsBody ready axis.entry result }
 {
     FittedAxis {
         fit: ready.fit,
@@ -134,30 +132,15 @@ impl<'a> SettledSheet<'a> {
 }
 
 impl<'a> SheetArea<'a> {
-    // The rows of its body.
+    // An axis of its body.
     #[inline(always)]
-    fn rows(&self) -> FittedAxis<'a>
-        ensures fit_is { result.fit ≡ self.now.ready.rows.fit }
-        ensures merges_are { let merges = self.now.sheet.lists.now.rows.merges in
-            (result.merges.firsts.now ≡ merges.firsts.now) × (result.merges.lasts.now ≡ merges.lasts.now) }
-        ensures slots_are { let slots = self.now.sheet.lists.now.rows.slots in
-            let ready = self.now.ready.rows in
-            (result.slots.indexes.now ≡ call.within ready slots.indexes.now) × (result.slots.sizes.now ≡ call.within ready slots.sizes.now) }
+    fn body(&self, axis: Axis) -> FittedAxis<'a>
+        ensures { BodyOf axis self.now result }
     {
-        fitted(self.ready.rows, self.sheet.lists.rows)
-    }
-
-    // The columns of its body.
-    #[inline(always)]
-    fn columns(&self) -> FittedAxis<'a>
-        ensures fit_is { result.fit ≡ self.now.ready.columns.fit }
-        ensures merges_are { let merges = self.now.sheet.lists.now.columns.merges in
-            (result.merges.firsts.now ≡ merges.firsts.now) × (result.merges.lasts.now ≡ merges.lasts.now) }
-        ensures slots_are { let slots = self.now.sheet.lists.now.columns.slots in
-            let ready = self.now.ready.columns in
-            (result.slots.indexes.now ≡ call.within ready slots.indexes.now) × (result.slots.sizes.now ≡ call.within ready slots.sizes.now) }
-    {
-        fitted(self.ready.columns, self.sheet.lists.columns)
+        match axis {
+            Axis::Rows => fitted(self.ready.rows, self.sheet.lists.rows),
+            Axis::Columns => fitted(self.ready.columns, self.sheet.lists.columns),
+        }
     }
 
     // What the runs of both axes go by at a permille.
@@ -166,8 +149,8 @@ impl<'a> SheetArea<'a> {
         ensures { result ≡ step.frames_of self.now.ready permille }
     {
         Frames {
-            rows: self.rows().frame_at(permille),
-            columns: self.columns().frame_at(permille),
+            rows: self.body(Axis::Rows).frame_at(permille),
+            columns: self.body(Axis::Columns).frame_at(permille),
         }
     }
 
@@ -181,7 +164,7 @@ impl<'a> SheetArea<'a> {
     {
         let settings = self.sheet.shared.settings;
         if settings.fit {
-            return fit_scale(self.rows(), self.columns());
+            return fit_scale(self.body(Axis::Rows), self.body(Axis::Columns));
         }
         fixed_scale(settings.percent)
     }
@@ -204,13 +187,13 @@ impl<'a> SheetArea<'a> {
         let column_kept = looked_at(fit, column_breaks.len());
         let frames = self.frames_at(scale.permille);
         let row_cut = count_cut(
-            self.rows(),
+            self.body(Axis::Rows),
             frames.rows,
             scale.permille,
             &row_breaks[..row_kept],
         );
         let column_cut = count_cut(
-            self.columns(),
+            self.body(Axis::Columns),
             frames.columns,
             scale.permille,
             &column_breaks[..column_kept],
@@ -259,7 +242,7 @@ impl<'a> SheetArea<'a> {
         let row_kept = looked_at(fit, rows.breaks.len());
         let column_kept = looked_at(fit, columns.breaks.len());
         write_cut(
-            self.rows(),
+            self.body(Axis::Rows),
             frames.rows,
             area.rows_empty,
             self.ready.range.first_row,
@@ -267,7 +250,7 @@ impl<'a> SheetArea<'a> {
             &mut row_runs[row_at..],
         );
         write_cut(
-            self.columns(),
+            self.body(Axis::Columns),
             frames.columns,
             area.columns_empty,
             self.ready.range.first_column,

@@ -64,9 +64,10 @@ module _ (x : Shared) (s : Sheet) {left gs : List PrintRange} {g : PrintRange} {
     column_room : Writing all old at (column_runs_of (layouts_of (sides_in x) s left)) new
         → (RoomAt laid.columns at new) × (at + a.column_runs * 4 ≤ length new)
     column_room w =
-        let v = rw eg at w in
-        (has_room (λ l. l.columns) laid others a.column_runs lengths.1 all old at new room v,
-        fits (λ l. l.columns) laid others a.column_runs lengths.1 all old at new room v)
+        let v = rw eg at w in (
+          has_room (λ l. l.columns) laid others a.column_runs lengths.1 all old at new room v,
+          fits (λ l. l.columns) laid others a.column_runs lengths.1 all old at new room v,
+        )
 
     rows_next : Writing all old at (row_runs_of (layouts_of (sides_in x) s left)) new → (new' : List ℕ) → new' ≡ put_at (rows_at x s g a.permille) at new
         → Writing all old (at + a.row_runs * 4) (row_runs_of others) new'

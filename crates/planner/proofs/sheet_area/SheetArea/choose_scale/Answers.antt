@@ -8,10 +8,10 @@ use Rattle.planner.proofs.sheet_area.SheetArea.choose_scale.Goals as goal
 pub returns-then-settings : goal.returns-then-settings
 returns-then-settings c =
     let a = c.args.self.now in
-    let rows = c.rows.ensures in
-    let columns = c.columns.ensures in
-    let r = c.rows.result in
-    let k = c.columns.result in
+    let rows = c.body.ensures in
+    let columns = c.body-then-settings.ensures in
+    let r = c.body.result in
+    let k = c.body-then-settings.result in
     let found : scale_of c.fit_scale.result ≡ fit_scale (λ (p : ℕ).
     fit_passes r.fit r.merges.firsts.now r.merges.lasts.now r.slots.indexes.now r.slots.sizes.now p
     && fit_passes k.fit k.merges.firsts.now k.merges.lasts.now k.slots.indexes.now k.slots.sizes.now p) = c.fit_scale.ensures in

@@ -18,7 +18,7 @@ write_cut-requires c =
     let ready = rows_are x sheet s.sheet.settled s.ready.range _ s.is_ready in
     let frame = ap (λ (k : Frames). k.rows) c.requires.frames_are in
     let breaks = looked x.settings.fit s.sheet.lists.now.rows.breaks.now _ c.looked_at-row_kept.ensures in
-    let e = c.rows.ensures in
+    let e = c.body.ensures in
     record {
       room = rw (e.merges_are.0, e.merges_are.1, e.slots_are.0, e.slots_are.1) (
         empty_is _ (sides_in x).height (rows_in sheet s.ready.range) ready a.area.permille _ breaks _ frame _ w.rows_empty,
@@ -36,7 +36,7 @@ write_cut-requires-2 c =
     let ready = columns_are x sheet s.sheet.settled s.ready.range _ s.is_ready in
     let frame = ap (λ (k : Frames). k.columns) c.requires.frames_are in
     let breaks = looked x.settings.fit s.sheet.lists.now.columns.breaks.now _ c.looked_at-column_kept.ensures in
-    let e = c.columns.ensures in
+    let e = c.body-2.ensures in
     record {
       room = rw (e.merges_are.0, e.merges_are.1, e.slots_are.0, e.slots_are.1) (
         empty_is _ (sides_in x).width (columns_in sheet s.ready.range) ready a.area.permille _ breaks _ frame _ w.columns_empty,
@@ -56,8 +56,8 @@ returns c =
     let column_frame = ap (λ (k : Frames). k.columns) c.requires.frames_are in
     let row_breaks = looked x.settings.fit s.sheet.lists.now.rows.breaks.now _ c.looked_at-row_kept.ensures in
     let column_breaks = looked x.settings.fit s.sheet.lists.now.columns.breaks.now _ c.looked_at-column_kept.ensures in
-    let r = c.rows.ensures in
-    let k = c.columns.ensures in
+    let r = c.body.ensures in
+    let k = c.body-2.ensures in
     let row_list = rw (r.merges_are.0, r.merges_are.1, r.slots_are.0, r.slots_are.1) at c.write_cut.ensures in
     let column_list = rw (k.merges_are.0, k.merges_are.1, k.slots_are.0, k.slots_are.1) at c.write_cut-2.ensures in (
       part_written _ (sides_in x).height (rows_in sheet s.ready.range) rows a.area.permille _ row_breaks _ row_frame a.row_at a.row_runs.now _ row_list,
