@@ -1,10 +1,9 @@
-// Blocks of page lines (document 01, section "Jobs"), for a program that writes many at a time. A block has pages of one area. The lists of runs
-// are two slices, as `planner_pages` takes them and the C interface hands them over; a struct would be made for one call and taken apart for the next.
+// Blocks of page lines (document 01, section "Jobs"), for a program that writes many at a time. A block has pages of one area.
 ghost use Rattle.job_report.specs.Blocks as section;
 
 use crate::lines::page_at;
 use planner_pages::{area_page, page_spot};
-use planner_rules::{Plan, Spot};
+use planner_rules::{Plan, RunLists, Spot};
 use units::Refusal;
 
 // The last place at which 256 bytes of a block are left.
@@ -23,12 +22,11 @@ fn lines_held(
     plan: &Plan,
     from: u64,
     spot: Spot,
-    row_runs: &[u64],
-    column_runs: &[u64],
+    runs: RunLists<'_>,
     out: &mut [u8; 65536],
 ) -> Block
-    requires { section.There plan.now from spot row_runs.now column_runs.now }
-    ensures { section.LinesHeld from (section.pages_on plan.now row_runs.now column_runs.now from spot) result
+    requires { section.There plan.now from spot runs.rows.now runs.columns.now }
+    ensures { section.LinesHeld from (section.pages_on plan.now runs.entry.rows.now runs.entry.columns.now from spot) result
         out.old out.new }
 {
     let order = plan.order;
@@ -39,7 +37,7 @@ fn lines_held(
     // No `for`: whether there is room for a line is known once the one before is put.
     while (bytes <= LAST) & (pages <= most) {
         let own = spot.before as u64 + pages + 1;
-        let answer = area_page(order, area, own, row_runs, column_runs);
+        let answer = area_page(order, area, own, runs);
         let Ok(page) = answer else {
             return Block { pages, bytes };
         };
@@ -54,17 +52,16 @@ fn lines_held(
 pub fn area_block(
     plan: &Plan,
     from: u64,
-    row_runs: &[u64],
-    column_runs: &[u64],
+    runs: RunLists<'_>,
     out: &mut [u8; 65536],
 ) -> Result<Block, Refusal>
-    ensures { section.BlockPut (section.block_pages plan.now row_runs.now column_runs.now from) from result
+    ensures { section.BlockPut (section.block_pages plan.now runs.entry.rows.now runs.entry.columns.now from) from result
         out.old out.new }
 {
     let Some(spot) = page_spot(plan, from) else {
         return Err(Refusal::NoSuchNumber);
     };
     let area = plan.areas.as_slice()[spot.area];
-    let _first = area_page(plan.order, area, 1, row_runs, column_runs)?;
-    Ok(lines_held(plan, from, spot, row_runs, column_runs, out))
+    let _first = area_page(plan.order, area, 1, runs)?;
+    Ok(lines_held(plan, from, spot, runs, out))
 }

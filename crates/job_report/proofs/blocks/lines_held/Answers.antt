@@ -50,5 +50,5 @@ returns c =
     (shut_told _ _ _ _ c.loop-bytes-test.false
     (λ full. holding_full _ _ _ _ _ _ c.loop-bytes.invariant full)
     (λ last.
-    part_last a.plan.now.order _ a.row_runs.now a.column_runs.now a.spot.before (a.plan.now.pages - a.from) _ _ _ _ _
+    part_last a.plan.now.order _ a.runs.rows.now a.runs.columns.now a.spot.before (a.plan.now.pages - a.from) _ _ _ _ _
     c.loop-bytes.invariant last))

@@ -5,7 +5,7 @@ use Rattle.job_report.proofs.BlockLaws.{Holding, part}
 use Rattle.job_report.proofs.blocks.lines_held.Given as goal
 
 abbrev pub invariant-loop-bytes : goal.invariant-loop-bytes
-invariant-loop-bytes l = Holding l.from (part l.order l.area l.row_runs l.column_runs l.spot.before l.most) l.initial.out l.out l.pages l.bytes
+invariant-loop-bytes l = Holding l.from (part l.order l.area l.runs.rows.now l.runs.columns.now l.spot.before l.most) l.initial.out l.out l.pages l.bytes
 
 abbrev pub decreases-loop-bytes : goal.decreases-loop-bytes
 decreases-loop-bytes l = l.most + 1 - l.pages
