@@ -215,11 +215,7 @@ fn count_in(answer: Result<u64, Refusal>) -> usize
 
 // Writes the pages of a plan, in order, to the front of a lent list, over the lists of runs that were lent to the plan. It answers how many,
 // or refuses and writes nothing.
-pub fn list_pages(
-    pages: &mut [Page],
-    plan: &Plan,
-    runs: RunLists<'_>,
-) -> Result<u64, Refusal>
+pub fn list_pages(pages: &mut [Page], plan: &Plan, runs: RunLists<'_>) -> Result<u64, Refusal>
     ensures { let rows = runs.entry.rows.now in
         let columns = runs.entry.columns.now in
         let old = pages.old in

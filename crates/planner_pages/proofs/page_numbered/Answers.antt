@@ -12,28 +12,33 @@ returns-then-not-holds_runs c =
 pub spot_page-requires-clause-rows_fit : goal.spot_page-requires-clause-rows_fit
 spot_page-requires-clause-rows_fit c =
     let a = c.args in
-    (rooms_of a.plan.now a.runs.rows.now a.runs.columns.now (sym c.holds_runs.ensures ∙ c.if-not-holds_runs.false)).0
+    let held = sym c.holds_runs.ensures ∙ c.if-not-holds_runs.false in
+    (rooms_of a.plan.now a.runs.rows.now a.runs.columns.now held).0
 
 pub spot_page-requires-clause-columns_fit : goal.spot_page-requires-clause-columns_fit
 spot_page-requires-clause-columns_fit c =
     let a = c.args in
-    (rooms_of a.plan.now a.runs.rows.now a.runs.columns.now (sym c.holds_runs.ensures ∙ c.if-not-holds_runs.false)).1
+    let held = sym c.holds_runs.ensures ∙ c.if-not-holds_runs.false in
+    (rooms_of a.plan.now a.runs.rows.now a.runs.columns.now held).1
 
 pub spot_page-requires-clause-stands : goal.spot_page-requires-clause-stands
 spot_page-requires-clause-stands c =
     let a = c.args in
-    page_stands a.plan.now a.runs.rows.now a.runs.columns.now a.number (sym c.holds_runs.ensures ∙ c.if-not-holds_runs.false) c.page_spot.result c.page_spot.ensures
-    c.in-Some.spot c.in-Some.is
+    let held = sym c.holds_runs.ensures ∙ c.if-not-holds_runs.false in
+    page_stands a.plan.now a.runs.rows.now a.runs.columns.now a.number held
+    c.page_spot.result c.page_spot.ensures c.in-Some.spot c.in-Some.is
 
 pub returns : goal.returns
 returns c =
     let a = c.args in
+    let held = sym c.holds_runs.ensures ∙ c.if-not-holds_runs.false in
     ap given c.spot_page.ensures
-    ∙ page_found a.plan.now a.runs.rows.now a.runs.columns.now a.number (sym c.holds_runs.ensures ∙ c.if-not-holds_runs.false) c.page_spot.result
-    c.page_spot.ensures c.in-Some.spot c.in-Some.is
+    ∙ page_found a.plan.now a.runs.rows.now a.runs.columns.now a.number held
+    c.page_spot.result c.page_spot.ensures c.in-Some.spot c.in-Some.is
 
 pub returns-in_default : goal.returns-in_default
 returns-in_default c =
     let a = c.args in
-    page_missing a.plan.now a.runs.rows.now a.runs.columns.now a.number (sym c.holds_runs.ensures ∙ c.if-not-holds_runs.false) c.page_spot.result c.page_spot.ensures
-    c.in_default.is
+    let held = sym c.holds_runs.ensures ∙ c.if-not-holds_runs.false in
+    page_missing a.plan.now a.runs.rows.now a.runs.columns.now a.number held
+    c.page_spot.result c.page_spot.ensures c.in_default.is
