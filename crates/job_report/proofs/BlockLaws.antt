@@ -5,7 +5,7 @@ use mathlib.Core.List.{List, [], ◌∷◌, ◌++◌, append_assoc, append-nil}
 use Prim.Native.Nat.{ℕ, zero, suc, ◌+◌, ◌-◌, ◌≤◌, ◌<◌}
 use native.Mathlib.Omega.{arith}
 use lib.Dec.{leb}
-use lib.ListN.{length, get_or, take, drop, length-take, length-drop, drop_of_length-le}
+use lib.ListN.{length, take, drop, length-take, length-drop, drop_of_length-le}
 use lib.Seq.{length-take-le, take-add}
 use borrow.Author.Tests.{le-leb, lt-leb, leb-true}
 use Rattle.units.specs.Outcome.{given, refused}
@@ -19,7 +19,6 @@ use Rattle.units.specs.Refusals.{number_of, outcome}
 use Rattle.units.specs.declared.refusal.Refusal.{Refusal}
 use Rattle.units.specs.declared.refusal.Refusal.TheVariants as no
 use Rattle.planner_rules.specs.Questions.{ask}
-use Rattle.planner_rules.specs.Areas.{no_plan}
 use Rattle.planner_rules.specs.Pages.{area_pages, page_at, pages_in, holds_area, numbered, area_numbered, spot_of}
 use Rattle.planner_rules.proofs.Laws.{split}
 use Rattle.planner_rules.proofs.NoTen.{not_given}

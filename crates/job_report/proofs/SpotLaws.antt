@@ -5,8 +5,7 @@ use mathlib.Core.List.{List, [], ◌∷◌}
 use Prim.Native.Nat.{ℕ, suc, ◌+◌, ◌-◌, ◌≤◌, ◌<◌}
 use native.Mathlib.Omega.{arith}
 use lib.Dec.{leb}
-use lib.ListN.{length, get_or, length-take}
-use lib.Seq.{get_or-take}
+use lib.ListN.{length, get_or}
 use borrow.Author.Tests.{leb-true, lt-ltb, le-ltb}
 use Rattle.planner_rules.specs.declared.pages.AreaPlan.{AreaPlan}
 use Rattle.planner_rules.specs.declared.pages.Plan.{Plan}

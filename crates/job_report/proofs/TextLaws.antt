@@ -4,12 +4,13 @@ use mathlib.Core.List.{List, [], ◌∷◌, ◌++◌, append_assoc, append-nil}
 use Prim.Native.Nat.{ℕ, suc, ◌+◌, ◌*◌, ◌≤◌, ◌<◌}
 use native.Mathlib.Numerals.{add-one}
 use native.Mathlib.Omega.{arith}
-use lib.ListN.{length, get_or, take, drop, set, length-append, take-append-drop}
+use lib.ListN.{length, get_or, take, drop, set, length-append, length-set, take-append-drop}
 use lib.Seq.{take-suc, length-take-le, set_split, take_at, drop_at, drop-drop}
 use Rattle.io.specs.Counts.{IsPrefixLen}
 use Rattle.io.specs.Digits.{last_digits, IsDigitCount}
 use Rattle.planner_rules.specs.Slots.{written}
-use Rattle.job_report.specs.Lines.{decimal, numbers, line, put, PutAt, LinesPut}
+use Rattle.job_report.specs.Lines.{decimal, numbers, line, put, PutAt, LinesPut, TextPut}
+use Rattle.job_report.specs.declared.text.Text.{Text}
 use Rattle.job_report.proofs.DecimalLaws.{fewest_decimal}
 
 -- ---- one text after another
@@ -47,12 +48,21 @@ put_byte old at b h =
     let rest : drop 1 (drop at old) ≡ drop (suc at) old = rw (← (add-one at)) (drop-drop 1 at old) in
     record { after = refl; array_is = rw rest (set_split old at b h) }
 
+-- ---- in a lent array
+
+pub text_byte : (t : Text) (b : ℕ) → t.at < length t.out.now → (new : Text) → new.at ≡ t.at + 1 → new.out.now ≡ set t.out.now t.at b
+    → new.out.ghost_name ≡ t.out.ghost_name → TextPut (b ∷ []) t new
+text_byte t b h new e f g = record { put = rw (e, f) (put_byte t.out.now t.at b h); long = rw f (length-set t.out.now t.at b); lent = g }
+
+pub texts_join : {a b : List ℕ} {t u v : Text} → u.at ≤ length t.out.now → TextPut a t u → TextPut b u v → TextPut (a ++ b) t v
+texts_join h p q = record { put = and_then_lem h p.put q.put; long = q.long ∙ p.long; lent = q.lent ∙ p.lent }
+
 -- ---- a number
 
 -- a space, then the fewest digits
-pub number_put : {old one two : List ℕ} {at a b : ℕ} (n k : ℕ) (spelt : List ℕ) → a ≤ length old → IsDigitCount 10 1 n k × (take k spelt ≡ last_digits 10 k n)
-    → PutAt (32 ∷ []) at a old one → PutAt (take k spelt) a b one two → PutAt (32 ∷ decimal n) at b old two
-number_put n k spelt h d p q = rw (d.1 ∙ fewest_decimal n k d.0) at (and_then_lem h p q)
+pub number_put : {t u v : Text} (n k : ℕ) (spelt : List ℕ) → u.at ≤ length t.out.now → IsDigitCount 10 1 n k × (take k spelt ≡ last_digits 10 k n)
+    → TextPut (32 ∷ []) t u → TextPut (take k spelt) u v → TextPut (32 ∷ decimal n) t v
+number_put n k spelt h d p q = rw (d.1 ∙ fewest_decimal n k d.0) at (texts_join h p q)
 
 -- ---- a loop over numbers
 
@@ -65,38 +75,34 @@ one_number : (n : ℕ) → numbers (n ∷ []) ≡ 32 ∷ decimal n
 unfolding numbers
 one_number n = ap (λ (l : List ℕ). 32 ∷ l) (append-nil (decimal n))
 
--- i numbers stand from the place `at` on, up to the place `next`
-pub record Told (old : List ℕ) (at : ℕ) (list new : List ℕ) (next i : ℕ) : Type 0 where
-  pub so_far : PutAt (numbers (take i list)) at next old new
+-- i numbers stand in the array, up to its place
+pub record Told (old : Text) (list : List ℕ) (new : Text) (i : ℕ) : Type 0 where
+  pub so_far : TextPut (numbers (take i list)) old new
   pub within : i ≤ length list
-  pub short : next ≤ at + 21 * i
-  pub same : length new ≡ length old
+  pub short : new.at ≤ old.at + 21 * i
 
-pub told_none : (old : List ℕ) (at : ℕ) (list : List ℕ) → Told old at list old at 0
+pub told_none : (old : Text) (list : List ℕ) → Told old list old 0
 unfolding numbers
-told_none old at list = record { so_far = put_none at old; within = omega arith; short = omega arith; same = refl }
+told_none old list = record { so_far = record { put = put_none old.at old.out.now; long = refl; lent = refl }; within = omega arith; short = omega arith }
 
-pub told_more : {old : List ℕ} {at : ℕ} {list new newer : List ℕ} {next later i : ℕ} → i < length list → next ≤ length old → Told old at list new next i
-    → PutAt (32 ∷ decimal (get_or list i 0)) next later new newer → later ≤ next + 21 → length newer ≡ length new → Told old at list newer later (i + 1)
-told_more {list = list} {i = i} h room w e l s =
+pub told_more : {old new newer : Text} {list : List ℕ} {i : ℕ} → i < length list → new.at ≤ length old.out.now → Told old list new i
+    → TextPut (32 ∷ decimal (get_or list i 0)) new newer → newer.at ≤ new.at + 21 → Told old list newer (i + 1)
+told_more {list = list} {i = i} h room w e l =
     let b = w.short in
     let more : numbers (take (i + 1) list) ≡ numbers (take i list) ++ (32 ∷ decimal (get_or list i 0)) =
     ap numbers (rw add-one (take-suc list i 0 h))
     ∙ numbers-append (take i list) (get_or list i 0 ∷ [])
     ∙ ap (λ (t : List ℕ). numbers (take i list) ++ t) (one_number (get_or list i 0)) in
-    record { so_far = rw more (and_then_lem room w.so_far e); within = omega arith; short = omega arith; same = s ∙ w.same }
+    record { so_far = rw more (texts_join room w.so_far e); within = omega arith; short = omega arith }
 
 -- ---- a line
 
-pub line_put : {old one two three : List ℕ} {at a b c : ℕ} {word : List ℕ} (list : List ℕ) → b ≤ length old → a ≤ b → PutAt word at a old one
-    → PutAt (numbers list) a b one two → PutAt (10 ∷ []) b c two three → PutAt (line word list) at c old three
+pub line_put : {t u v w : Text} {word : List ℕ} (list : List ℕ) → v.at ≤ length t.out.now → u.at ≤ v.at → TextPut word t u
+    → TextPut (numbers list) u v → TextPut (10 ∷ []) v w → TextPut (line word list) t w
 unfolding line
-line_put list h l p q r = and_then_lem h (and_then_lem (omega arith) p q) r
+line_put list h l p q r = texts_join h (texts_join (omega arith) p q) r
 
 -- ---- lines at the start of an array
-
-pub at_start : {lines : List ℕ} {r : ℕ} {old new : List ℕ} → PutAt lines 0 r old new → LinesPut lines r old new
-at_start w = record { count = omega (arith, w.after); array_is = w.array_is }
 
 -- they are no more bytes than the array has
 pub lines_within : (lines : List ℕ) (r : ℕ) (old new : List ℕ) → LinesPut lines r old new → IsPrefixLen r new

@@ -6,6 +6,7 @@ use Rattle.planner_rules.specs.declared.pages.Page.{Page}
 use Rattle.planner_rules.specs.declared.pages.Plan.{Plan}
 use Rattle.planner_rules.specs.Slots.{written}
 use Rattle.planner_rules.specs.Areas.{no_plan}
+use Rattle.job_report.specs.declared.text.Text.{Text}
 
 -- ---- a line
 
@@ -89,3 +90,9 @@ put at text old = take at old ++ written text (drop at old)
 pub record PutAt (text : List ℕ) (at r : ℕ) (old new : List ℕ) : Type 0 where
   pub after : r ≡ at + length text
   pub array_is : new ≡ put at text old
+
+-- the same of a lent array and the place in it that the next text goes to; the array stays the one that was lent, and as long
+pub record TextPut (text : List ℕ) (old new : Text) : Type 0 where
+  pub put : PutAt text old.at new.at old.out.now new.out.now
+  pub long : length new.out.now ≡ length old.out.now
+  pub lent : new.out.ghost_name ≡ old.out.ghost_name

@@ -1,10 +1,10 @@
-// Blocks of page lines (document 01, section "Jobs"), for a program that writes many at a time. A block has pages of one area. The lists of runs
-// are two slices, as `planner_pages` takes them and the C interface hands them over; a struct would be made for one call and taken apart for the next.
+// Blocks of page lines (document 01, section "Jobs"), for a program that writes many at a time. A block has pages of one area.
+ghost use Rattle.std.specs.Prelude.{◌≡◌, ◌<◌, length};
 ghost use Rattle.job_report.specs.Blocks as section;
 
-use crate::lines::page_at;
+use crate::text::Text;
 use planner_pages::{area_page, page_spot};
-use planner_rules::{Plan, Spot};
+use planner_rules::{AreaPlan, Plan, RunLists, Spot};
 use units::Refusal;
 
 // The last place at which 256 bytes of a block are left.
@@ -18,35 +18,48 @@ pub struct Block {
     pub bytes: usize,
 }
 
+// The area that a page belongs to.
+fn area_at(plan: &Plan, spot: Spot) -> AreaPlan
+    requires { spot.area < length plan.now.areas.items }
+    ensures { result ≡ section.area_of plan.now spot }
+{
+    plan.areas.as_slice()[spot.area]
+}
+
 // Puts the lines of an area's pages from one that is there on. No number goes past the plan's count.
 fn lines_held(
     plan: &Plan,
     from: u64,
     spot: Spot,
-    row_runs: &[u64],
-    column_runs: &[u64],
+    runs: RunLists<'_>,
     out: &mut [u8; 65536],
 ) -> Block
-    requires { section.There plan.now from spot row_runs.now column_runs.now }
-    ensures { section.LinesHeld from (section.pages_on plan.now row_runs.now column_runs.now from spot) result
+    requires { section.There plan.now from spot runs.rows.now runs.columns.now }
+    ensures { section.LinesHeld from (section.pages_on plan.now runs.entry.rows.now runs.entry.columns.now from spot) result
         out.old out.new }
 {
     let order = plan.order;
-    let area = plan.areas.as_slice()[spot.area];
+    let area = area_at(plan, spot);
     let most = plan.pages - from;
     let mut pages = 0;
-    let mut bytes = 0;
+    let mut text = Text { out, at: 0 };
     // No `for`: whether there is room for a line is known once the one before is put.
-    while (bytes <= LAST) & (pages <= most) {
+    while (text.at <= LAST) & (pages <= most) {
         let own = spot.before as u64 + pages + 1;
-        let answer = area_page(order, area, own, row_runs, column_runs);
+        let answer = area_page(order, area, own, runs);
         let Ok(page) = answer else {
-            return Block { pages, bytes };
+            return Block {
+                pages,
+                bytes: text.at,
+            };
         };
-        bytes = page_at(out, bytes, from + pages, page);
+        text.page(from + pages, page);
         pages += 1;
     }
-    Block { pages, bytes }
+    Block {
+        pages,
+        bytes: text.at,
+    }
 }
 
 // Puts the lines of the pages from a number on, of the area that this page belongs to, at the start of `out`, as long as there is such a page
@@ -54,17 +67,16 @@ fn lines_held(
 pub fn area_block(
     plan: &Plan,
     from: u64,
-    row_runs: &[u64],
-    column_runs: &[u64],
+    runs: RunLists<'_>,
     out: &mut [u8; 65536],
 ) -> Result<Block, Refusal>
-    ensures { section.BlockPut (section.block_pages plan.now row_runs.now column_runs.now from) from result
+    ensures { section.BlockPut (section.block_pages plan.now runs.entry.rows.now runs.entry.columns.now from) from result
         out.old out.new }
 {
     let Some(spot) = page_spot(plan, from) else {
         return Err(Refusal::NoSuchNumber);
     };
-    let area = plan.areas.as_slice()[spot.area];
-    let _first = area_page(plan.order, area, 1, row_runs, column_runs)?;
-    Ok(lines_held(plan, from, spot, row_runs, column_runs, out))
+    let area = area_at(plan, spot);
+    let _first = area_page(plan.order, area, 1, runs)?;
+    Ok(lines_held(plan, from, spot, runs, out))
 }

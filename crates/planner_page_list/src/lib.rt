@@ -6,7 +6,7 @@ ghost use Rattle.std.specs.Prelude.{◌≡◌};
 ghost use Rattle.units.specs.Refusals.{outcome};
 ghost use Rattle.planner_rules.specs.Pages as section;
 
-use planner_rules::{Page, Plan};
+use planner_rules::{Page, Plan, RunLists};
 use units::Refusal;
 
 // The list as the call left it, and what was answered.
@@ -24,12 +24,12 @@ fn both(pages: [Page; 4], answer: Result<u64, Refusal>) -> Four
 
 // Writes the pages of a plan, in order, to the front of a list of four, over the lists of runs that were lent to the plan. It answers how
 // many, or refuses and writes nothing.
-pub fn list_four(mut list: [Page; 4], plan: &Plan, row_runs: &[u64], column_runs: &[u64]) -> Four
-    ensures { let rows = row_runs.now in
-        let columns = column_runs.now in
+pub fn list_four(mut list: [Page; 4], plan: &Plan, runs: RunLists<'_>) -> Four
+    ensures { let rows = runs.entry.rows.now in
+        let columns = runs.entry.columns.now in
         let listed = section.list_pages plan.now rows columns 4 in
         (outcome result.answer ≡ listed) × (result.pages ≡ section.pages_lent listed (section.pages_of plan.now rows columns) list) }
 {
-    let answer = planner_pages::list_pages(&mut list, plan, row_runs, column_runs);
+    let answer = planner_pages::list_pages(&mut list, plan, runs);
     both(list, answer)
 }

@@ -13,7 +13,7 @@ use crate::areas::{has_more, runs_fit, runs_of, walk};
 use planner_compare::index_of;
 use planner_questions::room_in;
 use planner_rules::{
-    AreaPlan, Page, PageOrder, PageRun, Place, Plan, RUN_NUMBERS, RunCounts, Spot,
+    AreaPlan, Page, PageOrder, PageRun, Place, Plan, RUN_NUMBERS, RunCounts, RunLists, Spot,
 };
 use units::Refusal;
 
@@ -54,24 +54,23 @@ fn run_at(list: &[u64], empty_body: bool, number: usize) -> PageRun
 fn page_at(
     order: PageOrder,
     area: AreaPlan,
-    runs: RunCounts,
+    passed: RunCounts,
     before: usize,
-    row_runs: &[u64],
-    column_runs: &[u64],
+    runs: RunLists<'_>,
 ) -> Page
-    requires row_runs_bound { runs.rows + area.row_runs ≤ room_in row_runs.now }
-    requires column_runs_bound { runs.columns + area.column_runs ≤ room_in column_runs.now }
+    requires row_runs_bound { passed.rows + area.row_runs ≤ room_in runs.rows.now }
+    requires column_runs_bound { passed.columns + area.column_runs ≤ room_in runs.columns.now }
     requires before_bound { before < section.pages_in area }
-    ensures { result ≡ section.area_page_after order area (section.after_runs runs.rows row_runs.now)
-        (section.after_runs runs.columns column_runs.now) before }
+    ensures { result ≡ section.area_page_after order area (section.after_runs passed.rows runs.entry.rows.now)
+        (section.after_runs passed.columns runs.entry.columns.now) before }
 {
     let place = place_of(order, area.row_runs, area.column_runs, before);
     let vertical = place.vertical;
     let horizontal = place.horizontal;
-    let row_run = runs.rows + vertical;
-    let column_run = runs.columns + horizontal;
-    let rows = run_at(row_runs, area.rows_empty, row_run);
-    let columns = run_at(column_runs, area.columns_empty, column_run);
+    let row_run = passed.rows + vertical;
+    let column_run = passed.columns + horizontal;
+    let rows = run_at(runs.rows, area.rows_empty, row_run);
+    let columns = run_at(runs.columns, area.columns_empty, column_run);
     Page {
         vertical,
         horizontal,
@@ -81,27 +80,27 @@ fn page_at(
 }
 
 // 11: the two lists hold the runs of all areas of a plan.
-fn holds_runs(plan: &Plan, row_runs: &[u64], column_runs: &[u64]) -> bool
-    ensures { result ≡ section.holds_runs plan.now row_runs.now column_runs.now }
+fn holds_runs(plan: &Plan, runs: RunLists<'_>) -> bool
+    ensures { result ≡ section.holds_runs plan.now runs.entry.rows.now runs.entry.columns.now }
 {
     runs_fit(
         plan.areas.as_slice(),
-        room_in(row_runs.len()),
-        room_in(column_runs.len()),
+        room_in(runs.rows.len()),
+        room_in(runs.columns.len()),
     )
 }
 
 // The page at a spot, over the lists of runs that were lent to the plan.
-fn spot_page(plan: &Plan, spot: Spot, row_runs: &[u64], column_runs: &[u64]) -> Page
-    requires rows_fit { section.row_runs plan.now.areas.items ≤ room_in row_runs.now }
-    requires columns_fit { section.column_runs plan.now.areas.items ≤ room_in column_runs.now }
+fn spot_page(plan: &Plan, spot: Spot, runs: RunLists<'_>) -> Page
+    requires rows_fit { section.row_runs plan.now.areas.items ≤ room_in runs.rows.now }
+    requires columns_fit { section.column_runs plan.now.areas.items ≤ room_in runs.columns.now }
     requires stands { section.Stands plan.now.areas.items spot }
-    ensures { result ≡ section.spot_page plan.now.order plan.now.areas.items row_runs.now column_runs.now spot }
+    ensures { result ≡ section.spot_page plan.now.order plan.now.areas.items runs.entry.rows.now runs.entry.columns.now spot }
 {
     let areas = plan.areas.as_slice();
     let area = areas[spot.area];
-    let runs = runs_of(&areas[..spot.area]);
-    page_at(plan.order, area, runs, spot.before, row_runs, column_runs)
+    let passed = runs_of(&areas[..spot.area]);
+    page_at(plan.order, area, passed, spot.before, runs)
 }
 
 // Where the page with a number stands.
@@ -129,15 +128,14 @@ pub fn area_page(
     order: PageOrder,
     area: AreaPlan,
     number: u64,
-    row_runs: &[u64],
-    column_runs: &[u64],
+    runs: RunLists<'_>,
 ) -> Result<Page, Refusal>
-    ensures { outcome result ≡ section.area_numbered order area row_runs.now column_runs.now number }
+    ensures { outcome result ≡ section.area_numbered order area runs.entry.rows.now runs.entry.columns.now number }
 {
-    if area.row_runs > room_in(row_runs.len()) {
+    if area.row_runs > room_in(runs.rows.len()) {
         return Err(Refusal::ListTooShort);
     }
-    if area.column_runs > room_in(column_runs.len()) {
+    if area.column_runs > room_in(runs.columns.len()) {
         return Err(Refusal::ListTooShort);
     }
     if number == 0 {
@@ -151,37 +149,32 @@ pub fn area_page(
         rows: 0,
         columns: 0,
     };
-    Ok(page_at(order, area, none, before, row_runs, column_runs))
+    Ok(page_at(order, area, none, before, runs))
 }
 
 // The page of a plan with a number from 1 to its count, over the lists of runs that were lent to the plan.
-pub fn page_numbered(
-    plan: &Plan,
-    number: u64,
-    row_runs: &[u64],
-    column_runs: &[u64],
-) -> Result<Page, Refusal>
-    ensures { outcome result ≡ section.page_numbered plan.now row_runs.now column_runs.now number }
+pub fn page_numbered(plan: &Plan, number: u64, runs: RunLists<'_>) -> Result<Page, Refusal>
+    ensures { outcome result ≡ section.page_numbered plan.now runs.entry.rows.now runs.entry.columns.now number }
 {
-    if !holds_runs(plan, row_runs, column_runs) {
+    if !holds_runs(plan, runs) {
         return Err(Refusal::ListTooShort);
     }
     let Some(spot) = page_spot(plan, number) else {
         return Err(Refusal::NoSuchNumber);
     };
-    Ok(spot_page(plan, spot, row_runs, column_runs))
+    Ok(spot_page(plan, spot, runs))
 }
 
 // The page of a plan that has so many pages before it.
-fn page_after(before: usize, plan: &Plan, row_runs: &[u64], column_runs: &[u64]) -> Page
-    requires rows_fit { section.row_runs plan.now.areas.items ≤ room_in row_runs.now }
-    requires columns_fit { section.column_runs plan.now.areas.items ≤ room_in column_runs.now }
+fn page_after(before: usize, plan: &Plan, runs: RunLists<'_>) -> Page
+    requires rows_fit { section.row_runs plan.now.areas.items ≤ room_in runs.rows.now }
+    requires columns_fit { section.column_runs plan.now.areas.items ≤ room_in runs.columns.now }
     requires before_bound { before < over_areas section.pages_in plan.now.areas.items }
-    ensures { result ≡ section.page_after plan.now row_runs.now column_runs.now before }
+    ensures { result ≡ section.page_after plan.now runs.entry.rows.now runs.entry.columns.now before }
 {
     let areas = plan.areas.as_slice();
     let spot = walk(areas, before);
-    spot_page(plan, spot, row_runs, column_runs)
+    spot_page(plan, spot, runs)
 }
 
 // How many pages a plan has: a walk that takes off as many as it says tells whether its areas have so many.
@@ -197,10 +190,10 @@ fn page_count(plan: &Plan) -> u64
 }
 
 // What `list_pages` answers where so many pages have room.
-fn listing(room: usize, plan: &Plan, row_runs: &[u64], column_runs: &[u64]) -> Result<u64, Refusal>
-    ensures { outcome result ≡ section.list_pages plan.now row_runs.now column_runs.now room }
+fn listing(room: usize, plan: &Plan, runs: RunLists<'_>) -> Result<u64, Refusal>
+    ensures { outcome result ≡ section.list_pages plan.now runs.entry.rows.now runs.entry.columns.now room }
 {
-    if !holds_runs(plan, row_runs, column_runs) {
+    if !holds_runs(plan, runs) {
         return Err(Refusal::ListTooShort);
     }
     let count = page_count(plan);
@@ -222,22 +215,17 @@ fn count_in(answer: Result<u64, Refusal>) -> usize
 
 // Writes the pages of a plan, in order, to the front of a lent list, over the lists of runs that were lent to the plan. It answers how many,
 // or refuses and writes nothing.
-pub fn list_pages(
-    pages: &mut [Page],
-    plan: &Plan,
-    row_runs: &[u64],
-    column_runs: &[u64],
-) -> Result<u64, Refusal>
-    ensures { let rows = row_runs.now in
-        let columns = column_runs.now in
+pub fn list_pages(pages: &mut [Page], plan: &Plan, runs: RunLists<'_>) -> Result<u64, Refusal>
+    ensures { let rows = runs.entry.rows.now in
+        let columns = runs.entry.columns.now in
         let old = pages.old in
         let listed = section.list_pages plan.now rows columns (length old) in
         (outcome result ≡ listed) × (pages.new ≡ section.pages_lent listed (section.pages_of plan.now rows columns) old) }
 {
-    let answer = listing(pages.len(), plan, row_runs, column_runs);
+    let answer = listing(pages.len(), plan, runs);
     let count = count_in(answer);
     for i in 0..count {
-        pages[i] = page_after(i, plan, row_runs, column_runs);
+        pages[i] = page_after(i, plan, runs);
     }
     answer
 }

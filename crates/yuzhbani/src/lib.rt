@@ -24,7 +24,7 @@ use job::{count_job, plan_job, write_job_area};
 use job_report::{Block, area_block, area_line, head_lines, refusal_line};
 use planner::plan_pages;
 use planner_pages::page_numbered;
-use planner_rules::{AxisLists, MergeList, Plan, RunCounts, SheetLists, SlotList};
+use planner_rules::{AxisLists, MergeList, Plan, RunCounts, RunLists, SheetLists, SlotList};
 use units::Refusal;
 use yuzhbani_answers::{PlanNumbers, put_page, put_planning, told};
 use yuzhbani_request::RequestNumbers;
@@ -196,7 +196,11 @@ pub extern "C" fn yuzhbani_page(
         result page.old page.new }
 {
     let plan = Plan::from(PlanNumbers(numbers));
-    let answer = page_numbered(&plan, number, row_runs, column_runs);
+    let runs = RunLists {
+        rows: row_runs,
+        columns: column_runs,
+    };
+    let answer = page_numbered(&plan, number, runs);
     put_page(answer, page)
 }
 
@@ -252,6 +256,10 @@ pub extern "C" fn yuzhbani_block(
         result block.old out.old block.new out.new }
 {
     let plan = Plan::from(PlanNumbers(numbers));
-    let answer = area_block(&plan, from, row_runs, column_runs, out);
+    let runs = RunLists {
+        rows: row_runs,
+        columns: column_runs,
+    };
+    let answer = area_block(&plan, from, runs, out);
     put_block(answer, block)
 }

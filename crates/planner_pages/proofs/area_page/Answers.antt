@@ -7,27 +7,27 @@ use Rattle.planner_pages.proofs.area_page.Goals as goal
 pub returns-then-area-room_in : goal.returns-then-area-room_in
 returns-then-area-room_in c =
     let a = c.args in
-    area_few_rows a.order a.area a.row_runs.now a.column_runs.now a.number (omega arith)
+    area_few_rows a.order a.area a.runs.rows.now a.runs.columns.now a.number (omega arith)
 
 pub returns-then-area-room_in-2 : goal.returns-then-area-room_in-2
 returns-then-area-room_in-2 c =
     let a = c.args in
-    area_few_columns a.order a.area a.row_runs.now a.column_runs.now a.number (omega arith)
+    area_few_columns a.order a.area a.runs.rows.now a.runs.columns.now a.number (omega arith)
 
 pub returns-then-number-eq0 : goal.returns-then-number-eq0
 returns-then-number-eq0 c =
     let a = c.args in
-    area_zero a.order a.area a.row_runs.now a.column_runs.now a.number (omega arith) (omega arith) (omega arith)
+    area_zero a.order a.area a.runs.rows.now a.runs.columns.now a.number (omega arith) (omega arith) (omega arith)
 
 pub returns-then-not-has_more : goal.returns-then-not-has_more
 returns-then-not-has_more c =
     let a = c.args in
-    area_past a.order a.area a.row_runs.now a.column_runs.now a.number (omega arith) (omega arith) (omega arith)
+    area_past a.order a.area a.runs.rows.now a.runs.columns.now a.number (omega arith) (omega arith) (omega arith)
     (ltb-false _ _ (sym c.has_more.ensures ∙ c.if-not-has_more.true))
 
 pub returns : goal.returns
 returns c =
     let a = c.args in
     ap given c.page_at.ensures
-    ∙ area_found a.order a.area a.row_runs.now a.column_runs.now a.number (omega arith) (omega arith) (omega arith)
+    ∙ area_found a.order a.area a.runs.rows.now a.runs.columns.now a.number (omega arith) (omega arith) (omega arith)
     (ltb-true _ _ (sym c.has_more.ensures ∙ c.if-not-has_more.false))

@@ -8,31 +8,31 @@ pub page_after-requires-clause-rows_fit : goal.page_after-requires-clause-rows_f
 page_after-requires-clause-rows_fit c =
     let a = c.args in
     let told = c.count_in-count.ensures ∙ ap count_in c.listing-answer.ensures in
-    (page_asked a.plan.now a.row_runs.now a.column_runs.now (length a.pages.now) c.loop-i.i (omega (arith, told))).0
+    (page_asked a.plan.now a.runs.rows.now a.runs.columns.now (length a.pages.now) c.loop-i.i (omega (arith, told))).0
 
 pub page_after-requires-clause-columns_fit : goal.page_after-requires-clause-columns_fit
 page_after-requires-clause-columns_fit c =
     let a = c.args in
     let told = c.count_in-count.ensures ∙ ap count_in c.listing-answer.ensures in
-    (page_asked a.plan.now a.row_runs.now a.column_runs.now (length a.pages.now) c.loop-i.i (omega (arith, told))).1.0
+    (page_asked a.plan.now a.runs.rows.now a.runs.columns.now (length a.pages.now) c.loop-i.i (omega (arith, told))).1.0
 
 pub page_after-requires-clause-before_bound : goal.page_after-requires-clause-before_bound
 page_after-requires-clause-before_bound c =
     let a = c.args in
     let told = c.count_in-count.ensures ∙ ap count_in c.listing-answer.ensures in
-    (page_asked a.plan.now a.row_runs.now a.column_runs.now (length a.pages.now) c.loop-i.i (omega (arith, told))).1.1
+    (page_asked a.plan.now a.runs.rows.now a.runs.columns.now (length a.pages.now) c.loop-i.i (omega (arith, told))).1.1
 
 pub offset_bounds-pages-i : goal.offset_bounds-pages-i
 offset_bounds-pages-i c =
     let a = c.args in
     let told = c.count_in-count.ensures ∙ ap count_in c.listing-answer.ensures in
-    omega (arith, told, count_room a.plan.now a.row_runs.now a.column_runs.now (length a.pages.now))
+    omega (arith, told, count_room a.plan.now a.runs.rows.now a.runs.columns.now (length a.pages.now))
 
 pub bounds-pages-i : goal.bounds-pages-i
 bounds-pages-i c =
     let a = c.args in
     let told = c.count_in-count.ensures ∙ ap count_in c.listing-answer.ensures in
-    omega (arith, told, count_room a.plan.now a.row_runs.now a.column_runs.now (length a.pages.now))
+    omega (arith, told, count_room a.plan.now a.runs.rows.now a.runs.columns.now (length a.pages.now))
 
 pub loop-i-preserved : goal.loop-i-preserved
 loop-i-preserved c =
@@ -40,17 +40,17 @@ loop-i-preserved c =
     let i = c.loop-i.i in
     let ys = a.pages.now in
     let told = c.count_in-count.ensures ∙ ap count_in c.listing-answer.ensures in
-    let room = count_room a.plan.now a.row_runs.now a.column_runs.now (length ys) in
-    let next = page_next a.plan.now a.row_runs.now a.column_runs.now (length ys) i (omega (arith, told)) in
+    let room = count_room a.plan.now a.runs.rows.now a.runs.columns.now (length ys) in
+    let next = page_next a.plan.now a.runs.rows.now a.runs.columns.now (length ys) i (omega (arith, told)) in
     record {
       within = omega arith;
       filled = rw (c.loop-i.invariant.filled, c.page_after.ensures)
-          (filled_more i (pages_of a.plan.now a.row_runs.now a.column_runs.now) ys _ next (omega (arith, told, room)));
+          (filled_more i (pages_of a.plan.now a.runs.rows.now a.runs.columns.now) ys _ next (omega (arith, told, room)));
     }
 
 pub returns : goal.returns
 returns c =
     let a = c.args in
     let told = c.count_in-count.ensures ∙ ap count_in c.listing-answer.ensures in
-    let e : c.loop-i.i ≡ count_in (list_pages a.plan.now a.row_runs.now a.column_runs.now (length a.pages.now)) = omega (arith, told) in
-    (c.listing-answer.ensures, rw e at c.loop-i.invariant.filled ∙ pages_lent_lem a.plan.now a.row_runs.now a.column_runs.now a.pages.now)
+    let e : c.loop-i.i ≡ count_in (list_pages a.plan.now a.runs.rows.now a.runs.columns.now (length a.pages.now)) = omega (arith, told) in
+    (c.listing-answer.ensures, rw e at c.loop-i.invariant.filled ∙ pages_lent_lem a.plan.now a.runs.rows.now a.runs.columns.now a.pages.now)

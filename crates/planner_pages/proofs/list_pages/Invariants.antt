@@ -6,5 +6,5 @@ use Rattle.planner_pages.proofs.list_pages.Given as goal
 abbrev pub invariant-loop-i : goal.invariant-loop-i
 invariant-loop-i l = record {
   within : l.i ≤ l.count;
-  filled : l.pages ≡ take l.i (section.pages_of l.plan l.row_runs l.column_runs) ++ drop l.i l.initial.pages;
+  filled : l.pages ≡ take l.i (section.pages_of l.plan l.runs.rows.now l.runs.columns.now) ++ drop l.i l.initial.pages;
 }

@@ -7,7 +7,8 @@ use Rattle.planner_pages.proofs.page_after.Goals as goal
 pub spot_page-requires-clause-stands : goal.spot_page-requires-clause-stands
 spot_page-requires-clause-stands c =
     let areas = c.args.plan.now.areas.items in
-    subst (Stands areas) (sym (rw c.as_slice-areas.ensures.value at c.walk-spot.ensures)) ((walk_ends c.args.before areas).in_area (walk_in c.args.before areas c.requires.before_bound))
+    let inside = (walk_ends c.args.before areas).in_area (walk_in c.args.before areas c.requires.before_bound) in
+    subst (Stands areas) (sym (rw c.as_slice-areas.ensures.value at c.walk-spot.ensures)) inside
 
 pub returns : goal.returns
 unfolding page_after

@@ -1,7 +1,6 @@
 -- Where the walk ends tells whether there are so many pages.
-use Rattle.std.proofs.Common.{◌≡◌, length, ap, arith}
+use Rattle.std.proofs.Common.{length, ap, arith}
 use Rattle.planner_rules.specs.declared.pages.Spot.{Spot}
-use Rattle.planner_rules.specs.Pages.{walk_from}
 use Rattle.planner_rules.proofs.ListLaws.{count_within, count_left}
 use Rattle.planner_pages.proofs.page_count.Goals as goal
 

@@ -1,40 +1,44 @@
 -- Its first no refuses, and else the spot has the page or there is none.
-use Rattle.std.proofs.Common.{◌≡◌, sym, ap, ◌∙◌}
+use Rattle.std.proofs.Common.{sym, ap, ◌∙◌}
 use Rattle.units.specs.Outcome.{given}
-use Rattle.planner_rules.specs.Pages.{holds_runs}
 use Rattle.planner_rules.proofs.PagesCode.{rooms_of, page_few, page_missing, page_stands, page_found}
 use Rattle.planner_pages.proofs.page_numbered.Goals as goal
 
 pub returns-then-not-holds_runs : goal.returns-then-not-holds_runs
 returns-then-not-holds_runs c =
     let a = c.args in
-    page_few a.plan.now a.row_runs.now a.column_runs.now a.number (sym c.holds_runs.ensures ∙ c.if-not-holds_runs.true)
+    page_few a.plan.now a.runs.rows.now a.runs.columns.now a.number (sym c.holds_runs.ensures ∙ c.if-not-holds_runs.true)
 
 pub spot_page-requires-clause-rows_fit : goal.spot_page-requires-clause-rows_fit
 spot_page-requires-clause-rows_fit c =
     let a = c.args in
-    (rooms_of a.plan.now a.row_runs.now a.column_runs.now (sym c.holds_runs.ensures ∙ c.if-not-holds_runs.false)).0
+    let held = sym c.holds_runs.ensures ∙ c.if-not-holds_runs.false in
+    (rooms_of a.plan.now a.runs.rows.now a.runs.columns.now held).0
 
 pub spot_page-requires-clause-columns_fit : goal.spot_page-requires-clause-columns_fit
 spot_page-requires-clause-columns_fit c =
     let a = c.args in
-    (rooms_of a.plan.now a.row_runs.now a.column_runs.now (sym c.holds_runs.ensures ∙ c.if-not-holds_runs.false)).1
+    let held = sym c.holds_runs.ensures ∙ c.if-not-holds_runs.false in
+    (rooms_of a.plan.now a.runs.rows.now a.runs.columns.now held).1
 
 pub spot_page-requires-clause-stands : goal.spot_page-requires-clause-stands
 spot_page-requires-clause-stands c =
     let a = c.args in
-    page_stands a.plan.now a.row_runs.now a.column_runs.now a.number (sym c.holds_runs.ensures ∙ c.if-not-holds_runs.false) c.page_spot.result c.page_spot.ensures
-    c.in-Some.spot c.in-Some.is
+    let held = sym c.holds_runs.ensures ∙ c.if-not-holds_runs.false in
+    page_stands a.plan.now a.runs.rows.now a.runs.columns.now a.number held
+    c.page_spot.result c.page_spot.ensures c.in-Some.spot c.in-Some.is
 
 pub returns : goal.returns
 returns c =
     let a = c.args in
+    let held = sym c.holds_runs.ensures ∙ c.if-not-holds_runs.false in
     ap given c.spot_page.ensures
-    ∙ page_found a.plan.now a.row_runs.now a.column_runs.now a.number (sym c.holds_runs.ensures ∙ c.if-not-holds_runs.false) c.page_spot.result
-    c.page_spot.ensures c.in-Some.spot c.in-Some.is
+    ∙ page_found a.plan.now a.runs.rows.now a.runs.columns.now a.number held
+    c.page_spot.result c.page_spot.ensures c.in-Some.spot c.in-Some.is
 
 pub returns-in_default : goal.returns-in_default
 returns-in_default c =
     let a = c.args in
-    page_missing a.plan.now a.row_runs.now a.column_runs.now a.number (sym c.holds_runs.ensures ∙ c.if-not-holds_runs.false) c.page_spot.result c.page_spot.ensures
-    c.in_default.is
+    let held = sym c.holds_runs.ensures ∙ c.if-not-holds_runs.false in
+    page_missing a.plan.now a.runs.rows.now a.runs.columns.now a.number held
+    c.page_spot.result c.page_spot.ensures c.in_default.is

@@ -1,28 +1,27 @@
 -- The runs of the spot's area, and of those before it, are among those of all areas.
-use Rattle.std.proofs.Common.{ℕ, ◌+◌, ◌≤◌, get_or, take, arith}
+use Rattle.std.proofs.Common.{arith}
 use Rattle.planner_rules.specs.declared.pages.AreaPlan.{AreaPlan}
-use Rattle.planner_rules.specs.Areas.{no_plan, over_areas}
 use Rattle.planner_rules.proofs.AreaPages.{over_within}
 use Rattle.planner_pages.proofs.spot_page.Goals as goal
 
-pub runs_of-runs-requires-clause-rows_fit : goal.runs_of-runs-requires-clause-rows_fit
-runs_of-runs-requires-clause-rows_fit c =
+pub runs_of-passed-requires-clause-rows_fit : goal.runs_of-passed-requires-clause-rows_fit
+runs_of-passed-requires-clause-rows_fit c =
     let all = c.args.plan.now.areas.items in
     rw c.as_slice-areas.ensures.value (omega (arith, over_within (λ (a : AreaPlan). a.row_runs) all c.args.spot.area c.requires.stands.0))
 
-pub runs_of-runs-requires-clause-columns_fit : goal.runs_of-runs-requires-clause-columns_fit
-runs_of-runs-requires-clause-columns_fit c =
+pub runs_of-passed-requires-clause-columns_fit : goal.runs_of-passed-requires-clause-columns_fit
+runs_of-passed-requires-clause-columns_fit c =
     let all = c.args.plan.now.areas.items in
     rw c.as_slice-areas.ensures.value (omega (arith, over_within (λ (a : AreaPlan). a.column_runs) all c.args.spot.area c.requires.stands.0))
 
 pub page_at-requires-clause-row_runs_bound : goal.page_at-requires-clause-row_runs_bound
 page_at-requires-clause-row_runs_bound c =
     let all = c.args.plan.now.areas.items in
-    let runs = rw c.as_slice-areas.ensures.value at c.runs_of-runs.ensures.0 in
+    let runs = rw c.as_slice-areas.ensures.value at c.runs_of-passed.ensures.0 in
     rw c.as_slice-areas.ensures.value (omega (arith, runs, over_within (λ (a : AreaPlan). a.row_runs) all c.args.spot.area c.requires.stands.0))
 
 pub page_at-requires-clause-column_runs_bound : goal.page_at-requires-clause-column_runs_bound
 page_at-requires-clause-column_runs_bound c =
     let all = c.args.plan.now.areas.items in
-    let runs = rw c.as_slice-areas.ensures.value at c.runs_of-runs.ensures.1 in
+    let runs = rw c.as_slice-areas.ensures.value at c.runs_of-passed.ensures.1 in
     rw c.as_slice-areas.ensures.value (omega (arith, runs, over_within (λ (a : AreaPlan). a.column_runs) all c.args.spot.area c.requires.stands.0))

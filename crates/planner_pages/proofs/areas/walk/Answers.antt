@@ -1,6 +1,5 @@
 -- From each area on the walk ends where it ends from the first on.
 use Rattle.std.proofs.Common.{◌≡◌, length, refl, sym, ◌∙◌, arith, ltb-true, ltb-false}
-use Rattle.planner_rules.specs.Pages.{pages_in}
 use Rattle.planner_rules.proofs.AreaPages.{walk_end, walk_here, walk_on}
 use Rattle.planner_pages.proofs.areas.walk.Goals as goal
 
