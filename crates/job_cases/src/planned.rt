@@ -3,7 +3,7 @@
 use job::{count_job, write_job_area};
 use job_report::{area_line, head_lines, page_line};
 use planner_pages::{area_page, page_spot};
-use planner_rules::{AreaPlan, Page, Plan, RUN_NUMBERS, Spot};
+use planner_rules::{AreaPlan, Page, Plan, RUN_NUMBERS, RunLists, Spot};
 use std::alloc::{AllocError, Global};
 use std::io::{self, Write};
 use units::Refusal;
@@ -41,12 +41,12 @@ fn print_page<W: Write>(number: u64, page: Page, out: &mut W) -> io::Result<()> 
 
 // The lists that the runs of each area are written to in turn.
 #[derive(Drop)]
-pub(crate) struct RunLists {
+pub(crate) struct RunVecs {
     rows: Vec<u64>,
     columns: Vec<u64>,
 }
 
-impl RunLists {
+impl RunVecs {
     pub(crate) fn new(alloc: Global) -> Result<Self, AllocError> {
         Ok(Self {
             rows: vec![in alloc; 0; NUMBERS]?,
@@ -78,7 +78,11 @@ impl RunLists {
     // The page at a spot, by the runs of its area.
     fn page_at(&self, plan: &Plan, spot: Spot, area: AreaPlan) -> Option<Page> {
         let number = (spot.before as u64).wrapping_add(1);
-        area_page(plan.order, area, number, &self.rows, &self.columns).ok()
+        let runs = RunLists {
+            rows: &self.rows,
+            columns: &self.columns,
+        };
+        area_page(plan.order, area, number, runs).ok()
     }
 
     // Prints the lines of all areas and pages.

@@ -1,5 +1,5 @@
 // Answers lines of input. A line is the number of a job's bytes as eight hexadecimal digits, the bytes as two digits each, and a line end.
-use crate::planned::RunLists;
+use crate::planned::RunVecs;
 use hexadecimal::bits;
 use std::alloc::{AllocError, Global};
 use std::io::{self, BufRead, Write};
@@ -32,7 +32,7 @@ pub(crate) fn answer_all<R: BufRead, W: Write>(
     lines: &mut R,
     out: &mut W,
 ) -> io::Result<()> {
-    let mut lists = RunLists::new(alloc)?;
+    let mut lists = RunVecs::new(alloc)?;
     let mut line = Vec::new(alloc);
     // Nothing says that the input ends, so the loop counts its turns, up to a number that no run reaches.
     for _ in 0..u64::MAX {

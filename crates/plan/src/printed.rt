@@ -5,7 +5,7 @@ use crate::failure::Failure;
 use job::{count_job, write_job_area};
 use job_report::{Block, area_block, area_line, head_lines};
 use planner_pages::page_spot;
-use planner_rules::{Plan, RUN_NUMBERS, Spot};
+use planner_rules::{Plan, RUN_NUMBERS, RunLists, Spot};
 use std::io::Write;
 use units::Refusal;
 
@@ -85,13 +85,11 @@ impl Counted<'_> {
         ensures to_count { IfOk result (λ pages. from + pages ≤ self.now.plan.pages + 1) }
     {
         let mut lines = [0; 65536];
-        let answer = area_block(
-            &self.plan,
-            from,
-            &self.row_runs,
-            &self.column_runs,
-            &mut lines,
-        );
+        let runs = RunLists {
+            rows: &self.row_runs,
+            columns: &self.column_runs,
+        };
+        let answer = area_block(&self.plan, from, runs, &mut lines);
         match answer {
             Ok(Block { pages, bytes }) => {
                 write(out, &lines[..bytes])?;

@@ -11,7 +11,7 @@ use crate::fields::{Fault, Fields};
 use crate::lent;
 use crate::plans::page_order;
 use crate::text::numbered_page;
-use planner_rules::{AreaPlan, AreaPlans, Notes, Plan};
+use planner_rules::{AreaPlan, AreaPlans, Notes, Plan, RunLists};
 use std::alloc::Global;
 use std::io::{self, Write};
 
@@ -81,7 +81,11 @@ impl PageCase {
     }
 
     pub(crate) fn answer<W: Write>(&self, out: &mut W) -> io::Result<()> {
-        let page = numbered_page(&self.plan, self.number, &self.row_runs, &self.column_runs);
+        let runs = RunLists {
+            rows: &self.row_runs,
+            columns: &self.column_runs,
+        };
+        let page = numbered_page(&self.plan, self.number, runs);
         writeln!(out, "{page}")
     }
 }

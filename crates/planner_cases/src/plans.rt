@@ -18,7 +18,7 @@ use crate::text::{Answer, Numbers, PlanText, numbered_page};
 use geometry::Margins;
 use job_records::float;
 use planner::plan_pages;
-use planner_rules::{PageOrder, Plan, PrintRange, Request, Settings, SheetLists, Title};
+use planner_rules::{PageOrder, Plan, PrintRange, Request, RunLists, Settings, SheetLists, Title};
 use std::alloc::{AllocError, Global};
 use std::io::{self, Write};
 use units::Refusal;
@@ -272,7 +272,11 @@ impl PlanCase {
         write!(out, "{planned}{rows}{columns}")?;
         if let Ok(PlanText(plan)) = &planned.0 {
             for number in page_numbers(alloc, plan.pages)? {
-                let page = numbered_page(plan, number, &self.row_runs, &self.column_runs);
+                let runs = RunLists {
+                    rows: &self.row_runs,
+                    columns: &self.column_runs,
+                };
+                let page = numbered_page(plan, number, runs);
                 write!(out, "; {number} {page}")?;
             }
         }

@@ -2,7 +2,9 @@
 // unreachable, the runs of rows and of columns, and whether the rows and the columns are empty. A page is `page`, the vertical and the
 // horizontal number, and both runs, with first, last, size, empty mark and manual mark.
 use planner_pages::page_numbered;
-use planner_rules::{AreaPlan, Notes, Page, PageOrder, PageRun, Plan, Tally, Title, Widened};
+use planner_rules::{
+    AreaPlan, Notes, Page, PageOrder, PageRun, Plan, RunLists, Tally, Title, Widened,
+};
 use std::fmt;
 use units::Refusal;
 
@@ -143,12 +145,7 @@ impl fmt::Display for RunText {
 }
 
 // The page with a number.
-pub(crate) fn numbered_page(
-    plan: &Plan,
-    number: u64,
-    row_runs: &[u64],
-    column_runs: &[u64],
-) -> Answer<PageText> {
-    let page = page_numbered(plan, number, row_runs, column_runs);
+pub(crate) fn numbered_page(plan: &Plan, number: u64, runs: RunLists<'_>) -> Answer<PageText> {
+    let page = page_numbered(plan, number, runs);
     Answer(page.map(PageText))
 }

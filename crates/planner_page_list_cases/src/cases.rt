@@ -2,8 +2,8 @@
 use crate::listed::Planned;
 use planner::plan_pages;
 use planner_rules::{
-    AxisLists, MergeList, PageOrder, Plan, PrintRange, RUN_NUMBERS, Request, Settings, SheetLists,
-    SlotList, Title,
+    AxisLists, MergeList, PageOrder, Plan, PrintRange, RUN_NUMBERS, Request, RunLists, Settings,
+    SheetLists, SlotList, Title,
 };
 use std::alloc::Global;
 use std::io::{self, Write};
@@ -179,8 +179,10 @@ impl Case<'_> {
             Some(plan) => {
                 let planned = Planned {
                     plan,
-                    row_runs: &row_runs,
-                    column_runs: &column_runs,
+                    runs: RunLists {
+                        rows: &row_runs,
+                        columns: &column_runs,
+                    },
                 };
                 planned.say(out)
             }

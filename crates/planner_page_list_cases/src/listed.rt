@@ -2,7 +2,7 @@
 use crate::text::{PageLine, Verdict};
 use planner_page_list::list_four;
 use planner_pages::page_numbered;
-use planner_rules::{Page, PageRun, Plan};
+use planner_rules::{Page, PageRun, Plan, RunLists};
 use std::io::{self, Write};
 use units::Refusal;
 
@@ -26,20 +26,19 @@ const BLANK_RUN: PageRun = PageRun {
 #[derive(Drop)]
 pub(crate) struct Planned<'a> {
     pub(crate) plan: Plan,
-    pub(crate) row_runs: &'a [u64],
-    pub(crate) column_runs: &'a [u64],
+    pub(crate) runs: RunLists<'a>,
 }
 
 impl Planned<'_> {
     // The list, and how many pages were written to it, or the refusal.
     fn listed(&self) -> ([Page; 4], Result<u64, Refusal>) {
-        let four = list_four([BLANK; 4], &self.plan, self.row_runs, self.column_runs);
+        let four = list_four([BLANK; 4], &self.plan, self.runs);
         let pages = four.pages;
         (pages, four.answer)
     }
 
     fn page(&self, number: u64) -> Option<Page> {
-        page_numbered(&self.plan, number, self.row_runs, self.column_runs).ok()
+        page_numbered(&self.plan, number, self.runs).ok()
     }
 
     // Says a place, from 1, in whose list so many pages were written.
