@@ -254,7 +254,8 @@ module _ (job : SortedJob) (few : length (marked AR (records job.bytes.now)) ≤
 
   first_eight : take 8 (areas_from (in_place AR (records job.bytes.now))).items ≡ (areas_from all).items
   first_eight =
-      ap (λ (xs : List Record). take 8 (map range_from xs)) (marked_in_place AR job) ∙ take_all 8 (map range_from all) (omega (arith, length-map all range_from))
+      ap (λ (xs : List Record). take 8 (map range_from xs)) (marked_in_place AR job)
+      ∙ take_all 8 (map range_from all) (omega (arith, length-map all range_from))
 
   pub all_areas : (a : ArrayVec Range) → a.items ≡ take 8 (areas_from (in_place AR (records job.bytes.now))).items → a ≡ areas_from all
   all_areas a e = λ i. record { items = (e ∙ first_eight) i }

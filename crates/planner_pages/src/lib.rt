@@ -224,6 +224,7 @@ pub fn list_pages(pages: &mut [Page], plan: &Plan, runs: RunLists<'_>) -> Result
 {
     let answer = listing(pages.len(), plan, runs);
     let count = count_in(answer);
+    // By number: the invariant of a loop over `iter_mut` does not see what was written, which was tried.
     for i in 0..count {
         pages[i] = page_after(i, plan, runs);
     }

@@ -72,7 +72,8 @@ pub record Questioned {A : Type 0} (s : Sheet) (areas : List PrintRange) (rest :
   pub sides_are : content_sides s.settings ≡ given sides
   pub then_given : rest sides ≡ given y
 
-pub all_yes : {A : Type 0} (s : Sheet) (areas : List PrintRange) (rest : Sides → Outcome A) (y : A) → questioned s areas rest ≡ given y → Questioned s areas rest y
+pub all_yes : {A : Type 0} (s : Sheet) (areas : List PrintRange) (rest : Sides → Outcome A) (y : A) → questioned s areas rest ≡ given y
+    → Questioned s areas rest y
 unfolding questioned
 all_yes s areas rest y e =
     let gs = areas in

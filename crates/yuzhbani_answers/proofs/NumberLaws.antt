@@ -15,7 +15,8 @@ use Rattle.planner_rules.specs.declared.pages.PageOrder.{PageOrder}
 use Rattle.planner_rules.specs.declared.pages.PageOrder.TheVariants.{DownThenOver, OverThenDown}
 use Rattle.planner_rules.specs.declared.pages.AreaPlan.{AreaPlan}
 use Rattle.planner_rules.specs.declared.pages.Plan.{Plan}
-use Rattle.yuzhbani_answers.specs.Numbers.{bit, area_at, eight_areas, order_number, is_set, order_from, plan_numbers, page_numbers, area_from, areas_from, plan_from, area_put, areas_put, head_put, AreaBack, AllBack}
+use Rattle.yuzhbani_answers.specs.Numbers.{bit, area_at, eight_areas, order_number, is_set, order_from, plan_numbers, page_numbers, area_from}
+use Rattle.yuzhbani_answers.specs.Numbers.{areas_from, plan_from, area_put, areas_put, head_put, AreaBack, AllBack}
 use Rattle.yuzhbani_answers.specs.Answers.{PageHanded}
 
 bit_back : (b : Bool) → is_set (bit b) ≡ b

@@ -66,6 +66,7 @@ fn put_areas(numbers: &mut [u64; 60], areas: &[AreaPlan])
     ensures numbers_after { numbers.new ≡ section.areas_put areas.now 8 numbers.old }
     ensures all_back { section.AllBack areas.now 8 }
 {
+    // By number: eight places have numbers, whether or not an area is there.
     for k in 0..8 {
         put_area(
             numbers,

@@ -23,7 +23,8 @@ returns-in-Some c =
 none : (limit : ℕ) (is : List ℕ) → None ≡ slice_get is (length is - 1) → true ≡ rising_within limit is
 unfolding rising_within rising all_within
 none limit [] e = refl
-none limit (i ∷ is) e = let there = slice_get-get_or (i ∷ is) (length (i ∷ is) - 1) 0 (omega arith) in let n : ◌≡◌ {A = Option ℕ} None (Some _) = e ∙ there in absurd cc
+none limit (i ∷ is) e = let there = slice_get-get_or (i ∷ is) (length (i ∷ is) - 1) 0 (omega arith) in let n : ◌≡◌ {A = Option ℕ} None (Some _) = e
+    ∙ there in absurd cc
 
 pub returns-in-None : goal.returns-in-None
 returns-in-None c = none c.args.limit c.args.indexes.now c.in-None.ensures.value

@@ -27,8 +27,11 @@ none_left b (i ∷ (j ∷ is)) h = absurd (omega arith)
 pub loop-pair-preserved : goal.loop-pair-preserved
 loop-pair-preserved c =
     let i = c.loop-pair.invariant in
-    let s = c.in-Some.ensures.steps in
-    (s.0 ∙ i.0, one_pair c.loop-pair.rises _ c.in-Some.pair.now _ (omega (arith, s.1.0, i.0)) (s.1.1 ∙ ap (λ (n : ℕ). take n (windows_rest c.loop-pair.pair-iterator)) i.0) s.1.2 ∙ i.1)
+    let s = c.in-Some.ensures.steps in (
+      s.0 ∙ i.0,
+      one_pair c.loop-pair.rises _ c.in-Some.pair.now _ (omega (arith, s.1.0, i.0))
+          (s.1.1 ∙ ap (λ (n : ℕ). take n (windows_rest c.loop-pair.pair-iterator)) i.0) s.1.2 ∙ i.1,
+    )
 
 pub returns : goal.returns
 returns c =

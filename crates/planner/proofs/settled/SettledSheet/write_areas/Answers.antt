@@ -58,8 +58,11 @@ module _ (x : Shared) (s : Sheet) {left gs : List PrintRange} {g : PrintRange} {
   module _ (all : List Run) (old : List ℕ) (at : ℕ) (new : List ℕ) (room : Room all old) where
     row_room : Writing all old at (row_runs_of (layouts_of (sides_in x) s left)) new → (RoomAt laid.rows at new) × (at + a.row_runs * 4 ≤ length new)
     row_room w =
-        let v = rw eg at w in
-        (has_room (λ l. l.rows) laid others a.row_runs lengths.0 all old at new room v, fits (λ l. l.rows) laid others a.row_runs lengths.0 all old at new room v)
+        let v = rw eg at w in (
+          has_room (λ l. l.rows) laid others a.row_runs lengths.0 all old at new room v,
+          fits (λ l. l.rows) laid others a.row_runs lengths.0 all old at
+              new room v,
+        )
 
     column_room : Writing all old at (column_runs_of (layouts_of (sides_in x) s left)) new
         → (RoomAt laid.columns at new) × (at + a.column_runs * 4 ≤ length new)
@@ -135,7 +138,8 @@ overflow_mul-row_at c =
     let x = c.args.self.now.shared.now in
     let by = c.in-Some.ensures.steps in
     let l = c.loop-range in
-    let rows = row_room x (sheet_by x c.args.self.now.lists.now) by.0 by.1 l.invariant.plans_are _ _ l.row_at _ c.requires.counted.1.row_room l.invariant.rows in
+    let rows = row_room x (sheet_by x c.args.self.now.lists.now) by.0 by.1 l.invariant.plans_are _ _ l.row_at _ c.requires.counted.1.row_room
+    l.invariant.rows in
     omega (arith, rows.1)
 
 pub overflow_add-row_at : goal.overflow_add-row_at
@@ -143,7 +147,8 @@ overflow_add-row_at c =
     let x = c.args.self.now.shared.now in
     let by = c.in-Some.ensures.steps in
     let l = c.loop-range in
-    let rows = row_room x (sheet_by x c.args.self.now.lists.now) by.0 by.1 l.invariant.plans_are _ _ l.row_at _ c.requires.counted.1.row_room l.invariant.rows in
+    let rows = row_room x (sheet_by x c.args.self.now.lists.now) by.0 by.1 l.invariant.plans_are _ _ l.row_at _ c.requires.counted.1.row_room
+    l.invariant.rows in
     omega (arith, rows.1)
 
 pub overflow_mul-column_at : goal.overflow_mul-column_at
@@ -151,7 +156,8 @@ overflow_mul-column_at c =
     let x = c.args.self.now.shared.now in
     let by = c.in-Some.ensures.steps in
     let l = c.loop-range in
-    let columns = column_room x (sheet_by x c.args.self.now.lists.now) by.0 by.1 l.invariant.plans_are _ _ l.column_at _ c.requires.counted.1.column_room l.invariant.columns in
+    let columns = column_room x (sheet_by x c.args.self.now.lists.now) by.0 by.1 l.invariant.plans_are _ _ l.column_at _
+    c.requires.counted.1.column_room l.invariant.columns in
     omega (arith, columns.1)
 
 pub overflow_add-column_at : goal.overflow_add-column_at
@@ -159,7 +165,8 @@ overflow_add-column_at c =
     let x = c.args.self.now.shared.now in
     let by = c.in-Some.ensures.steps in
     let l = c.loop-range in
-    let columns = column_room x (sheet_by x c.args.self.now.lists.now) by.0 by.1 l.invariant.plans_are _ _ l.column_at _ c.requires.counted.1.column_room l.invariant.columns in
+    let columns = column_room x (sheet_by x c.args.self.now.lists.now) by.0 by.1 l.invariant.plans_are _ _ l.column_at _
+    c.requires.counted.1.column_room l.invariant.columns in
     omega (arith, columns.1)
 
 pub loop-range-preserved : goal.loop-range-preserved

@@ -14,14 +14,16 @@ pub returns-then-number-eq0 : goal.returns-then-number-eq0
 returns-then-number-eq0 c =
     let a = c.args in
     refuses_area _ 14 a.row_runs.now a.column_runs.now
-    (number_zero (sides_in a.self.now.shared.now) _ a.self.now.areas.now a.number a.permille a.row_runs.now a.column_runs.now (omega (arith, c.if-permille-eq0.false))
+    (number_zero (sides_in a.self.now.shared.now) _ a.self.now.areas.now a.number a.permille a.row_runs.now a.column_runs.now
+    (omega (arith, c.if-permille-eq0.false))
     c.if-number-eq0.true)
 
 pub returns-then-number-self : goal.returns-then-number-self
 returns-then-number-self c =
     let a = c.args in
     refuses_area _ 14 a.row_runs.now a.column_runs.now
-    (number_past (sides_in a.self.now.shared.now) _ a.self.now.areas.now a.number a.permille a.row_runs.now a.column_runs.now (omega (arith, c.if-permille-eq0.false))
+    (number_past (sides_in a.self.now.shared.now) _ a.self.now.areas.now a.number a.permille a.row_runs.now a.column_runs.now
+    (omega (arith, c.if-permille-eq0.false))
     c.if-number-self.true)
 
 pub ready-requires : goal.ready-requires
