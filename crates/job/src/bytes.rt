@@ -140,7 +140,7 @@ fn answer_job<W: Wanted>(
 
 // Plans the pages of a job, area by area: each one's scale and its runs of rows and columns, which go to the fronts of two lent lists, area
 // after area, and the notes.
-// Two slices: as a struct of both, which was tried, six contracts got a clause more, as in `planner`, and no proof got shorter.
+// Two slices: as a struct of both, which was tried, six contracts need a clause more, as in `planner`, and no proof gets shorter.
 #[tactic(auto, unfolding(crate::specs::PlanJob::plan_job))]
 pub fn plan_job(
     bytes: &[u8],

@@ -239,7 +239,7 @@ impl SettledSheet<'_> {
 
 // Plans the pages of one to eight areas: their scales, their runs of rows and columns, which go to the fronts of two lent lists area after area,
 // and the notes.
-// Two slices: as a struct of both, which was tried, ten contracts got a clause more, that it still holds the slices lent, and no proof got shorter.
+// Two slices: as a struct of both, which was tried, ten contracts need a clause more, that it still holds the slices lent, and no proof gets shorter.
 pub fn plan_pages(
     request: &Request,
     lists: &SheetLists,

@@ -8,7 +8,7 @@ pub enum PageOrder {
 }
 
 // How often each of the nine things happened that a reader of the plan is told.
-#[derive(Clone, Copy)]
+#[derive(Clone, Copy, Default)]
 pub struct Notes {
     pub unknown_paper: u64,
     pub invalid_margins: u64,

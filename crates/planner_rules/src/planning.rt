@@ -23,6 +23,7 @@ pub struct Settings {
     pub cell_limit: Option<u64>,
 }
 
+// An area of the sheet. Not one type with the `Range` of a record, whose columns are u16: each clause on a range would have to name its number.
 #[derive(Clone, Copy, Default)]
 pub struct PrintRange {
     pub first_row: u32,
@@ -41,7 +42,7 @@ pub struct Request<'a> {
 }
 
 // How many runs of rows and of columns.
-#[derive(Clone, Copy)]
+#[derive(Clone, Copy, Default)]
 pub struct RunCounts {
     pub rows: usize,
     pub columns: usize,
@@ -58,7 +59,8 @@ pub struct AxisRange {
     pub target: u16,
 }
 
-// A title of the job: as it was asked for, as merges widened it, its total, and its two counts of notes.
+// A title of the job: as it was asked for, as merges widened it, its total, and its two counts of notes. No `Widened` in it: `widen_title` answers
+// that to a caller, and each clause on a title would name one field more.
 #[derive(Clone, Copy)]
 pub struct ReadyTitle {
     pub asked: Title,
@@ -102,7 +104,7 @@ pub struct FinalCut {
 }
 
 // The notes that add up over the areas.
-#[derive(Clone, Copy)]
+#[derive(Clone, Copy, Default)]
 pub struct AreaNotes {
     pub clamped: u64,
     pub unreachable: u64,

@@ -4,7 +4,8 @@ use crate::titles::Title;
 // How many numbers a run has in a list of runs: first, last, size, and 1 where a manual break stands before it.
 pub const RUN_NUMBERS: usize = 4;
 
-// What the runs of an axis go by: two capacities, the title, and the stretch that merges are clipped to.
+// What the runs of an axis go by: two capacities, the title, and the stretch that merges are clipped to. No `Stretch` in it: each definition of
+// runs would name one field more.
 #[derive(Clone, Copy)]
 pub struct Frame {
     pub untitled: u64,
@@ -29,7 +30,7 @@ pub struct Cut {
 }
 
 // What an axis comes to: how many runs, expansions and shifts.
-#[derive(Clone, Copy)]
+#[derive(Clone, Copy, Default)]
 pub struct Tally {
     pub runs: usize,
     pub expansions: u64,

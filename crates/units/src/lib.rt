@@ -12,7 +12,7 @@ pub use grid::{LARGEST_SIZE, MAX_WORKSHEET_COLUMN, MAX_WORKSHEET_ROW};
 pub use refusal::Refusal;
 
 // A length in units.
-#[derive(Clone, Copy, Debug, PartialEq, Eq, PartialOrd, Ord)]
+#[derive(Clone, Copy, Debug, PartialEq, Eq, PartialOrd, Ord, Default)]
 pub struct Fixed(i64);
 
 // A rectangle in units.
@@ -60,14 +60,6 @@ impl Fixed {
         ensures { length_outcome result ≡ less_of (less_of (given self.0) (given first.0)) (given second.0) }
     {
         self.less(first)?.less(second)
-    }
-}
-
-impl Default for Fixed {
-    fn default() -> Self
-        ensures { result.0 ≡ pos 0 }
-    {
-        Self::ZERO
     }
 }
 

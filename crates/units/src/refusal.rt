@@ -23,7 +23,7 @@ pub enum Refusal {
 }
 
 impl Refusal {
-    // Its number.
+    // Its number: the cast, by a name that clauses have too. No `From`, which would say the same at more length.
     pub fn number(self) -> u8
         ensures { result ≡ number_of self }
     {
