@@ -234,3 +234,25 @@ part n l = take_all (length l - n) (drop n l) (simp length-drop (omega arith))
 
 pub length_part : {A : Type 0} (n : ℕ) (l : List A) → length (take (length l - n) (drop n l)) ≡ length l - n
 length_part n l = ap length (part n l) ∙ length-drop n l
+
+-- ---- the longest record of a table
+
+-- how many bytes a record has, by the number that its mark spells; 0 where the table has none
+abbrev pub size_in : List Format → ℕ → ℕ
+size_in [] m = 0
+size_in (f ∷ fs) m = cond (eqb m f.mark) f.bytes (size_in fs m)
+
+-- records that all have n bytes at most
+abbrev pub within : ℕ → List Format → Bool
+within n [] = true
+within n (f ∷ fs) = cond (leb f.bytes n) (within n fs) false
+
+pub size_within : (n : ℕ) (fs : List Format) (x : ℕ) → T (within n fs) → size_in fs x ≤ n
+size_within n [] x t = omega arith
+size_within n (f ∷ fs) x t =
+    let w = split (leb f.bytes n) (within n fs) t in
+    go (eqb x f.mark) (leb→le f.bytes n w.0) (size_within n fs x w.1)
+  where
+    go : (b : Bool) → f.bytes ≤ n → size_in fs x ≤ n → cond b f.bytes (size_in fs x) ≤ n
+    go true h k = h
+    go false h k = k
