@@ -23,15 +23,7 @@ pub struct Paper {
 }
 
 // Six margins in inches.
-#[derive(Clone, Copy, Debug, PartialEq)]
-pub struct Margins {
-    pub left: f64,
-    pub right: f64,
-    pub top: f64,
-    pub bottom: f64,
-    pub header: f64,
-    pub footer: f64,
-}
+pub type Margins = units::Margins<f64>;
 
 // Where the content, the header and the footer stand, and how many margins did not hold (0 or 1).
 #[derive(Clone, Copy, Debug, PartialEq, Eq)]
@@ -172,15 +164,7 @@ fn margins_hold(width: Fixed, height: Fixed, m: Margins) -> bool
 }
 
 // Six margins in units.
-#[derive(Clone, Copy)]
-struct MarginLengths {
-    left: Fixed,
-    right: Fixed,
-    top: Fixed,
-    bottom: Fixed,
-    header: Fixed,
-    footer: Fixed,
-}
+type MarginLengths = units::Margins<Fixed>;
 
 // The default left and right margins in units: 0.7 inches.
 const DEFAULT_SIDE: i64 = 68813;
