@@ -12,8 +12,8 @@ pub returns : goal.returns
 unfolding content_between
 returns c =
     let m = c.args.m in
-    let w = c.args.width.0 in
-    let h = c.args.height.0 in
+    let w = c.args.paper.width.0 in
+    let h = c.args.paper.height.0 in
     let n = c.args.invalid_margins in
     c.content_from.ensures
     ∙ ap (λ (o : Outcome (Margins ℤ)). and_then o (left_by w h n)) c.in_ok-in_units.ensures
@@ -24,8 +24,8 @@ pub returns-in_err-in_units : goal.returns-in_err-in_units
 unfolding content_between
 returns-in_err-in_units c =
     let m = c.args.m in
-    let w = c.args.width.0 in
-    let h = c.args.height.0 in
+    let w = c.args.paper.width.0 in
+    let h = c.args.paper.height.0 in
     let n = c.args.invalid_margins in
     let e : content_outcome c.from_residual.result ≡ refused (number_of c.in_err-in_units.field-0.0) = search rules in
     e
