@@ -6,7 +6,7 @@ use lib.IntN.{sub_ℕ}
 use lib.Signed.{mag}
 use lib.Ieee.{Float, nan, inf, fin, up, down, add, mul, div, round, of_int, binary64}
 use lib.Ieee.Fits.{and_l, and_r}
-use Rattle.geometry.specs.declared.paper.Margins.{Margins}
+use Rattle.units.specs.declared.margins.Margins.{Margins}
 use Rattle.std.specs.Prelude.{Option, Some, None}
 use Rattle.units.specs.Outcome.{Outcome, given, refused, and_then}
 use Rattle.units.specs.Units.{less_of, inches_to_fixed}
@@ -156,7 +156,7 @@ footer_given z footer s a = rw a.1 (less_moderate z a.0 16384 a.2 (side_low z s)
 -- ---- content
 
 -- six margins, each small
-pub record SmallMargins (m : Margins) : Type 0 where
+pub record SmallMargins (m : Margins Float) : Type 0 where
   pub left : SmallUnits m.left
   pub right : SmallUnits m.right
   pub top : SmallUnits m.top
@@ -176,7 +176,7 @@ placed_is : (x y width height header footer : Outcome ℤ) (a b c d e f : ℤ) (
     → placed x y width height header footer invalid ≡ given (record { x = a; y = b; width = c; height = d; header = e; footer = f; invalid = invalid })
 placed_is x y width height header footer a b c d e f invalid i j k l m n = rw (i, j, k, l, m, n) refl
 
-between_margins : (w h : ℤ) (m : Margins) (invalid : ℕ) → PaperSide w → PaperSide h → SmallMargins m → ContentGiven (content_between w h m invalid)
+between_margins : (w h : ℤ) (m : Margins Float) (invalid : ℕ) → PaperSide w → PaperSide h → SmallMargins m → ContentGiven (content_between w h m invalid)
 unfolding content_between
 between_margins w h m invalid W H s =
     let width = between_given w m.left m.right W s.left s.right in
@@ -218,7 +218,7 @@ far_small z x y s u v t =
 one_small : (z : ℤ) (x : Float) → PaperSide z → T (usable x) → T (shorter x z) → SmallUnits x
 one_small z x s u t = units_given x u (not_reaching x (side_in_pixels z) s.pixels t)
 
-held_small : (w h : ℤ) (m : Margins) → PaperSide w → PaperSide h → T (margins_hold w h m) → SmallMargins m
+held_small : (w h : ℤ) (m : Margins Float) → PaperSide w → PaperSide h → T (margins_hold w h m) → SmallMargins m
 unfolding margins_hold
 held_small w h m W H t =
     let across = shorter (add binary64 m.left m.right) w in
@@ -254,7 +254,7 @@ held_small w h m W H t =
       footer = one_small h m.footer H (and_r (l && r && o && b && e) f all) (and_r (all_usable m && across && along && head) foot t);
     }
 
-pub content_given : (w h : ℤ) (m : Option Margins) → PaperSide w → PaperSide h → ContentGiven (content_geometry w h m)
+pub content_given : (w h : ℤ) (m : Option (Margins Float)) → PaperSide w → PaperSide h → ContentGiven (content_geometry w h m)
 unfolding content_geometry
 content_given w h None W H = between_margins w h default_margins 0 W H defaults_small
 content_given w h (Some m) W H = by (margins_hold w h m) (held_small w h m W H)

@@ -3,10 +3,11 @@
 use Rattle.std.proofs.Common.{◌≡◌, ℕ, Bool, true, false, cond, ℤ, pos, ◌-ℤ◌, sym, refl, ap, ◌∙◌}
 use Rattle.std.specs.Prelude.{⊤}
 use lib.Ieee.{Float, nan, inf, fin, binary64, mul, of_int}
+use Rattle.units.specs.declared.margins.Margins.{Margins}
 use Rattle.units.specs.Outcome.{Outcome, given, refused, and_then}
 use Rattle.units.specs.Units.{in_i64, less_of, in_pixels, nearest_units, inches_to_fixed}
 use Rattle.geometry.specs.Paper.{Placed, placed}
-use Rattle.geometry.specs.Lengths.{InUnits, together}
+use Rattle.geometry.specs.Lengths.{together}
 
 -- ---- 10 is the only number
 abbrev pub Ten : {A : Type 0} → Outcome A → Type 0
@@ -48,7 +49,7 @@ gone k (given a) f t e = refl
 gone k (refused j) f t e = ap refused (e ∙ sym t)
 
 -- ---- what six lengths leave of a paper
-abbrev pub left_by : ℤ → ℤ → ℕ → InUnits → Outcome Placed
+abbrev pub left_by : ℤ → ℤ → ℕ → Margins ℤ → Outcome Placed
 left_by width height invalid m =
     placed (given m.left) (given m.top) (less_of (less_of (given width) (given m.left)) (given m.right))
     (less_of (less_of (given height) (given m.top)) (given m.bottom)) (given m.header)

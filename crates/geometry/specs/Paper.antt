@@ -3,8 +3,8 @@ use Rattle.std.specs.Prelude.{ℕ, Bool, true, false, cond, ◌&&◌, List, [], 
 use Rattle.std.specs.Float.{nan, inf, fin, binary64}
 use Rattle.std.specs.Float.Ieee.{add, div, lt, le, of_int, round}
 use Rattle.geometry.specs.declared.paper.Paper.{Paper}
-use Rattle.geometry.specs.declared.paper.Margins.{Margins}
 use Rattle.geometry.specs.declared.paper.ContentGeometry.{ContentGeometry}
+use Rattle.units.specs.declared.margins.Margins.{Margins}
 use Rattle.units.specs.declared.refusal.Refusal.{Refusal}
 use Rattle.units.specs.Outcome.{Outcome, given, refused, and_then}
 use Rattle.units.specs.Refusals.{number_of}
@@ -135,18 +135,18 @@ abbrev pub shorter : Float → ℤ → Bool
 shorter x side = lt (in_pixels x) (side_in_pixels side)
 
 -- all six are finite and not negative
-abbrev pub all_usable : Margins → Bool
+abbrev pub all_usable : Margins Float → Bool
 all_usable m = usable m.left && usable m.right && usable m.top && usable m.bottom && usable m.header && usable m.footer
 
 -- "They hold when all are finite and at least 0, left plus right, times 96, is less than the paper width in pixels, top plus bottom likewise
 -- against the height, and header and footer each times 96 less than the height."
-unfoldable pub margins_hold : ℤ → ℤ → Margins → Bool
+unfoldable pub margins_hold : ℤ → ℤ → Margins Float → Bool
 margins_hold width height m =
     all_usable m && shorter (add binary64 m.left m.right) width && shorter (add binary64 m.top m.bottom) height
     && shorter m.header height && shorter m.footer height
 
 -- "the defaults 0.7, 0.7, 0.75, 0.75, 0.3, 0.3"
-unfoldable pub default_margins : Margins
+unfoldable pub default_margins : Margins Float
 default_margins =
     record { left = decimal 7 10; right = decimal 7 10; top = decimal 75 100; bottom = decimal 75 100; header = decimal 3 10; footer = decimal 3 10 }
 
@@ -178,13 +178,13 @@ abbrev pub footer_at : ℤ → Float → Outcome ℤ
 footer_at height footer = less_of (less_of (given height) (inches_to_fixed footer)) (given (pos 16384))
 
 -- what six margins leave of a paper
-unfoldable pub content_between : ℤ → ℤ → Margins → ℕ → Outcome Placed
+unfoldable pub content_between : ℤ → ℤ → Margins Float → ℕ → Outcome Placed
 content_between width height m invalid =
     placed (inches_to_fixed m.left) (inches_to_fixed m.top) (between width m.left m.right) (between height m.top m.bottom)
     (inches_to_fixed m.header) (footer_at height m.footer) invalid
 
 -- "Otherwise the defaults .. and a note."
-unfoldable pub content_geometry : ℤ → ℤ → Option Margins → Outcome Placed
+unfoldable pub content_geometry : ℤ → ℤ → Option (Margins Float) → Outcome Placed
 unfolding margins_hold default_margins content_between
 content_geometry width height None = content_between width height default_margins 0
 content_geometry width height (Some m) =

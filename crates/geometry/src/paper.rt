@@ -23,15 +23,7 @@ pub struct Paper {
 }
 
 // Six margins in inches.
-#[derive(Clone, Copy, Debug, PartialEq)]
-pub struct Margins {
-    pub left: f64,
-    pub right: f64,
-    pub top: f64,
-    pub bottom: f64,
-    pub header: f64,
-    pub footer: f64,
-}
+pub type Margins = units::Margins<f64>;
 
 // Where the content, the header and the footer stand, and how many margins did not hold (0 or 1).
 #[derive(Clone, Copy, Debug, PartialEq, Eq)]
@@ -161,26 +153,18 @@ fn shorter(inches: f64, side: Fixed) -> bool
 }
 
 #[tactic(auto, unfolding(crate::specs::Paper::margins_hold))]
-fn margins_hold(width: Fixed, height: Fixed, m: Margins) -> bool
-    ensures { result ≡ Section.margins_hold width.0 height.0 m }
+fn margins_hold(paper: PaperGeometry, m: Margins) -> bool
+    ensures { result ≡ Section.margins_hold paper.width.0 paper.height.0 m }
 {
     all_usable(m)
-        && shorter(m.left + m.right, width)
-        && shorter(m.top + m.bottom, height)
-        && shorter(m.header, height)
-        && shorter(m.footer, height)
+        && shorter(m.left + m.right, paper.width)
+        && shorter(m.top + m.bottom, paper.height)
+        && shorter(m.header, paper.height)
+        && shorter(m.footer, paper.height)
 }
 
 // Six margins in units.
-#[derive(Clone, Copy)]
-struct MarginLengths {
-    left: Fixed,
-    right: Fixed,
-    top: Fixed,
-    bottom: Fixed,
-    header: Fixed,
-    footer: Fixed,
-}
+type MarginLengths = units::Margins<Fixed>;
 
 // The default left and right margins in units: 0.7 inches.
 const DEFAULT_SIDE: i64 = 68813;
@@ -211,50 +195,46 @@ fn in_units(m: Margins) -> Result<MarginLengths, Refusal>
 // The content between six margins in units.
 #[inline(always)]
 fn content_from(
-    width: Fixed,
-    height: Fixed,
+    paper: PaperGeometry,
     m: MarginLengths,
     invalid_margins: u64,
 ) -> Result<ContentGeometry, Refusal>
     ensures { Section.content_outcome result ≡ Section.placed (given m.left.0) (given m.top.0)
-        (less_of (less_of (given width.0) (given m.left.0)) (given m.right.0))
-        (less_of (less_of (given height.0) (given m.top.0)) (given m.bottom.0))
-        (given m.header.0) (less_of (less_of (given height.0) (given m.footer.0)) (given (pos 16384))) invalid_margins }
+        (less_of (less_of (given paper.width.0) (given m.left.0)) (given m.right.0))
+        (less_of (less_of (given paper.height.0) (given m.top.0)) (given m.bottom.0))
+        (given m.header.0) (less_of (less_of (given paper.height.0) (given m.footer.0)) (given (pos 16384))) invalid_margins }
 {
     let content = Rect {
         x: m.left,
         y: m.top,
-        width: width.less_both(m.left, m.right)?,
-        height: height.less_both(m.top, m.bottom)?,
+        width: paper.width.less_both(m.left, m.right)?,
+        height: paper.height.less_both(m.top, m.bottom)?,
     };
     Ok(ContentGeometry {
         content,
         header_y: m.header,
-        footer_y: height.less_both(m.footer, Fixed::from_raw(FOOTER_LINE))?,
+        footer_y: paper
+            .height
+            .less_both(m.footer, Fixed::from_raw(FOOTER_LINE))?,
         invalid_margins,
     })
 }
 
 // The content between six margins.
 fn content_between(
-    width: Fixed,
-    height: Fixed,
+    paper: PaperGeometry,
     m: Margins,
     invalid_margins: u64,
 ) -> Result<ContentGeometry, Refusal>
-    ensures { Section.content_outcome result ≡ Section.content_between width.0 height.0 m invalid_margins }
+    ensures { Section.content_outcome result ≡ Section.content_between paper.width.0 paper.height.0 m invalid_margins }
 {
-    content_from(width, height, in_units(m)?, invalid_margins)
+    content_from(paper, in_units(m)?, invalid_margins)
 }
 
 // The content between the default margins.
 #[inline(always)]
-fn default_content(
-    width: Fixed,
-    height: Fixed,
-    invalid_margins: u64,
-) -> Result<ContentGeometry, Refusal>
-    ensures { Section.content_outcome result ≡ Section.content_between width.0 height.0 Section.default_margins invalid_margins }
+fn default_content(paper: PaperGeometry, invalid_margins: u64) -> Result<ContentGeometry, Refusal>
+    ensures { Section.content_outcome result ≡ Section.content_between paper.width.0 paper.height.0 Section.default_margins invalid_margins }
 {
     let side = Fixed::from_raw(DEFAULT_SIDE);
     let end = Fixed::from_raw(DEFAULT_END);
@@ -267,7 +247,7 @@ fn default_content(
         header: line,
         footer: line,
     };
-    content_from(width, height, lengths, invalid_margins)
+    content_from(paper, lengths, invalid_margins)
 }
 
 // What the margins leave of a paper; margins that do not hold are replaced, all six.
@@ -278,11 +258,11 @@ pub fn content_geometry(
     ensures { Section.content_outcome result ≡ Section.content_geometry paper.width.0 paper.height.0 margins }
 {
     let Some(m) = margins else {
-        return default_content(paper.width, paper.height, 0);
+        return default_content(paper, 0);
     };
-    if margins_hold(paper.width, paper.height, m) {
-        content_between(paper.width, paper.height, m, 0)
+    if margins_hold(paper, m) {
+        content_between(paper, m, 0)
     } else {
-        default_content(paper.width, paper.height, 1)
+        default_content(paper, 1)
     }
 }

@@ -4,7 +4,7 @@ use Rattle.planner_rules.specs.declared.titles.Title.{Title}
 use Rattle.planner_rules.specs.declared.titles.Title.TheVariants as title
 use Rattle.job_records.specs.Records.{PC, LA, MG, SC, FW, FH, FT, OD, HD, LP, UC, AR, TR, TC, field, marked}
 use Rattle.job_records.specs.declared.records.Record.{Record}
-use Rattle.job_records.specs.declared.records.MarginBits.{MarginBits}
+use Rattle.units.specs.declared.margins.Margins.{Margins}
 use Rattle.job_settings.specs.declared.JobSettings.{JobSettings}
 use Rattle.job_walk.specs.Areas.{cell_limit_from, areas_from}
 
@@ -21,7 +21,7 @@ is_there [] = false
 is_there (r ∷ rs) = true
 
 -- "MG six f64": "left, right, top, bottom, header, footer"
-abbrev pub margins_from : List Record → Option MarginBits
+abbrev pub margins_from : List Record → Option (Margins ℕ)
 margins_from [] = None
 margins_from (r ∷ rs) =
     Some (record { left = field 0 r; right = field 1 r; top = field 2 r; bottom = field 3 r; header = field 4 r; footer = field 5 r })

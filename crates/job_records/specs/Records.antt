@@ -5,7 +5,7 @@ use Rattle.units.specs.Outcome.{Outcome, given, refused}
 use Rattle.job_records.specs.LittleEndian.{u16_at, u32_at, u64_at, i64_of}
 use Rattle.job_records.specs.declared.records.Range.{Range}
 use Rattle.job_records.specs.declared.records.Slot.{Slot}
-use Rattle.job_records.specs.declared.records.MarginBits.{MarginBits}
+use Rattle.units.specs.declared.margins.Margins.{Margins}
 use Rattle.job_records.specs.declared.records.Record.{Record}
 use Rattle.job_records.specs.declared.records.Record.TheVariants.{Paper, Landscape, Margin, Scale, Wide, High, Fit, Order, Headings, Limit, Cells, Area}
 use Rattle.job_records.specs.declared.records.Record.TheVariants.{TitleRows, TitleColumns, Row, Column, Merged, RowBreak, ColumnBreak, End}
@@ -17,7 +17,7 @@ use Rattle.job_records.specs.declared.marks.Mark.TheVariants as mark
 -- ---- what stands after a mark, which has two bytes
 
 -- "MG six f64", each by the 64 bits that stand for it: "left, right, top, bottom, header, footer"
-abbrev pub margins_at : List ℕ → MarginBits
+abbrev pub margins_at : List ℕ → Margins ℕ
 margins_at s = record {
   left = u64_at s 2;
   right = u64_at s 10;

@@ -33,15 +33,7 @@ pub struct Merge {
 }
 
 // Six margins in inches, each by the 64 bits of its f64.
-#[derive(Clone, Copy)]
-pub struct MarginBits {
-    pub left: u64,
-    pub right: u64,
-    pub top: u64,
-    pub bottom: u64,
-    pub header: u64,
-    pub footer: u64,
-}
+pub type MarginBits = units::Margins<u64>;
 
 // A record, one kind for each mark.
 #[derive(Clone, Copy)]

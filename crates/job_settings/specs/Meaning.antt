@@ -1,13 +1,12 @@
 -- Document 01, section "Jobs": what is meant by a setting of a job, also where its record is not there. Assumes nothing.
-use Rattle.std.specs.Prelude.{List, map, ℕ, Bool, false, cond, ◌||◌, eqb, Option, Some, None, is_some, unwrap_or, option_map}
-use Rattle.geometry.specs.declared.paper.Margins.{Margins}
+use Rattle.std.specs.Prelude.{List, map, ℕ, Float, Bool, false, cond, ◌||◌, eqb, Option, Some, None, is_some, unwrap_or, option_map}
+use Rattle.units.specs.declared.margins.Margins.{Margins}
 use Rattle.planner_rules.specs.declared.pages.PageOrder.{PageOrder}
 use Rattle.planner_rules.specs.declared.pages.PageOrder.TheVariants.{DownThenOver, OverThenDown}
 use Rattle.planner_rules.specs.declared.planning.Settings.{Settings}
 use Rattle.planner_rules.specs.declared.planning.PrintRange.{PrintRange}
 use Rattle.job_records.specs.LittleEndian.{f64_of}
 use Rattle.job_records.specs.declared.records.Range.{Range}
-use Rattle.job_records.specs.declared.records.MarginBits.{MarginBits}
 use Rattle.job_settings.specs.declared.JobSettings.{JobSettings}
 
 -- a record of the setting is there
@@ -29,7 +28,7 @@ abbrev pub limit_of : Option ℕ → ℕ
 limit_of limit = unwrap_or limit 10000
 
 -- "Six margins travel together: left, right, top, bottom, header, footer, in inches."
-abbrev pub inches_of : MarginBits → Margins
+abbrev pub inches_of : Margins ℕ → Margins Float
 inches_of m = record {
   left = f64_of m.left;
   right = f64_of m.right;
@@ -40,7 +39,7 @@ inches_of m = record {
 }
 
 -- six bit patterns as margins in inches
-abbrev pub margin_setting : Option MarginBits → Option Margins
+abbrev pub margin_setting : Option (Margins ℕ) → Option (Margins Float)
 margin_setting read = option_map inches_of read
 
 -- ---- what was read, as the planner takes it

@@ -2,6 +2,7 @@
 #![tactic(auto)]
 
 mod grid;
+mod margins;
 mod refusal;
 
 ghost use Rattle.std.specs.Prelude.{◌≡◌, ◌+◌, ◌*◌, ◌/◌, ◌^◌, ◌<◌, min, pos, unsigned_abs, MatchOption};
@@ -9,6 +10,7 @@ ghost use Rattle.units.specs.Outcome.{given, refused};
 ghost use Rattle.units.specs.Units.{length_outcome, in_i64, signed_ratio, less_of, at_least_one, scale_fixed, unscaled_capacity, inches_to_fixed};
 
 pub use grid::{LARGEST_SIZE, MAX_WORKSHEET_COLUMN, MAX_WORKSHEET_ROW};
+pub use margins::Margins;
 pub use refusal::Refusal;
 
 // A length in units.

@@ -1,6 +1,6 @@
 -- What 61 numbers ask of a plan, whoever wrote them: settings, areas and titles. Assumes nothing.
-use Rattle.std.specs.Prelude.{Bool, cond, ◌&&◌, List, [], ◌∷◌, ℕ, ◌+◌, min, leb, get_or, take, Option, Some, None}
-use Rattle.geometry.specs.declared.paper.Margins.{Margins}
+use Rattle.std.specs.Prelude.{Bool, cond, ◌&&◌, List, [], ◌∷◌, ℕ, Float, ◌+◌, min, leb, get_or, take, Option, Some, None}
+use Rattle.units.specs.declared.margins.Margins.{Margins}
 use Rattle.planner_rules.specs.declared.titles.Title.{Title}
 use Rattle.planner_rules.specs.declared.titles.Title.TheVariants as title
 use Rattle.planner_rules.specs.declared.planning.Settings.{Settings}
@@ -8,7 +8,6 @@ use Rattle.planner_rules.specs.declared.planning.PrintRange.{PrintRange}
 use Rattle.planner_rules.specs.Areas.{one_to_eight}
 use Rattle.planner_rules.specs.Pages.{index_of}
 use Rattle.planner_rules.specs.Plan.{Sheet, sheet_of}
-use Rattle.job_records.specs.declared.records.MarginBits.{MarginBits}
 use Rattle.job_settings.specs.Meaning.{inches_of}
 use Rattle.yuzhbani_answers.specs.Numbers.{is_set, order_from}
 
@@ -21,9 +20,9 @@ abbrev pub title_from : List ℕ → ℕ → Title
 title_from ns at = cond (is_set (get_or ns at 0)) (title.Pair (index_of (get_or ns (at + 1) 0)) (index_of (get_or ns (at + 2) 0))) title.Absent
 
 -- 3 is the mark, 4 to 9 are the bits of left, right, top, bottom, header and footer, in inches
-unfoldable pub margins_from : List ℕ → Option Margins
+unfoldable pub margins_from : List ℕ → Option (Margins Float)
 margins_from ns =
-    let bits : MarginBits = record {
+    let bits : Margins ℕ = record {
       left = get_or ns 4 0;
       right = get_or ns 5 0;
       top = get_or ns 6 0;
