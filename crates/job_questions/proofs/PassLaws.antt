@@ -29,7 +29,8 @@ use Rattle.job_questions.specs.Verdict.{asked, every, repeats, follows, ordered,
 use Rattle.job_questions.specs.Verdict.{question1, question2, question3, question4, question5, question6, question7, question8, question9}
 use Rattle.job_questions.specs.Verdict.{question15, in_order, questions, items_of, verdict_lent}
 use Rattle.job_questions.specs.Pass.{beyond, placed, rows_after, columns_after, one_more, counted}
-use Rattle.job_questions.specs.Pass.{start, advanced, after, surveyed, first_no, answer, rank_in, no_of}
+use Rattle.job_questions.specs.Pass.{start, advanced, after, surveyed, first_no, answer, rank_in}
+use Rattle.planner_rules.specs.Partition.{no_of}
 use Rattle.planner_rules.proofs.QuestionLaws.{both}
 use Rattle.job_records.proofs.RecordLaws.{records_more, rest_more, records_stop, rest_stop, step_is, step_used, part}
 
@@ -220,7 +221,7 @@ room_more c k n u x w h l = record {
   column_breaks = omega (arith, w.column_breaks, bit (eqb x BC));
 }
 
--- ---- what the loop of `survey` knows: s is what is left of b, and t what was carried so far
+-- ---- what the loop of `survey_job` knows: s is what is left of b, and t what was carried so far
 
 pub record Seen (b s : List ℕ) (t : State) : Type 0 where
   pub same_rest : rest s ≡ rest b

@@ -12,7 +12,6 @@ use Rattle.job_questions.specs.declared.Items.{Items}
 use Rattle.job_questions.specs.declared.State.{State}
 use Rattle.units.specs.declared.refusal.Refusal.{Refusal}
 use Rattle.units.specs.declared.refusal.Refusal.TheVariants.{TooManyBytes, BrokenRecord, EndNotLast}
-use Rattle.units.specs.Refusals.{number_of}
 use Rattle.job_records.specs.Marks.{place}
 use Rattle.job_records.specs.declared.marks.Mark.{Mark}
 
@@ -108,11 +107,6 @@ after t (r ∷ rs) = after (advanced t r) rs
 unfoldable pub surveyed : List ℕ → Result State Refusal
 surveyed s =
     cond (question1 s) (cond (question2 s) (cond (question3 s) (Ok (after start (records s))) (Err EndNotLast)) (Err BrokenRecord)) (Err TooManyBytes)
-
--- the number of a refusal, or 0
-abbrev pub no_of : Result (Unit {0}) Refusal → ℕ
-no_of (Ok u) = 0
-no_of (Err r) = number_of r
 
 -- the number of the first no, or 0
 unfoldable pub first_no : List (ℕ × Bool) → ℕ

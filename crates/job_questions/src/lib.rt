@@ -6,7 +6,8 @@ ghost use Rattle.job_records.specs.Records.{rank, AR, records, marked};
 ghost use Rattle.job_questions.specs.Verdict.{asked, follows, firsts_ok, grid_ok, size_ok, question15, repeats, verdict_lent, verdict};
 ghost use Rattle.job_records.specs.Marks.{place};
 ghost use Rattle.units.specs.Refusals.{outcome};
-ghost use Rattle.job_questions.specs.Pass.{fine, both_fine, placed, rows_after, columns_after, counted, Few, rank_in, no_of};
+ghost use Rattle.job_questions.specs.Pass.{fine, both_fine, placed, rows_after, columns_after, counted, Few, rank_in};
+ghost use Rattle.planner_rules.specs.Partition.{no_of};
 ghost use Rattle.job_questions.specs.Pass.{start, advanced, after, surveyed, answer};
 
 use job_records::{Mark, Range, Record, Slot, read_record};
@@ -97,7 +98,7 @@ fn follows_on(last: Option<Mark>, next: Mark) -> bool
     }
 }
 
-// `is_upright` of `planner_questions` asks it of a `PrintRange`: for ranges of both types one body would go by a trait of their four numbers.
+// `all_upright` of `planner_questions` asks it of a `PrintRange`: for ranges of both types one body would go by a trait of their four numbers.
 fn firsts_ok(a: Range) -> bool
     ensures { result ≡ firsts_ok a }
 {

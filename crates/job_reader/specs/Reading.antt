@@ -109,6 +109,19 @@ pub record JobRead (s : List ℕ) (r : Result Job Refusal) (before after : Lists
   pub row_breaks_are : after.row_breaks ≡ lent (read_job s before) (values BR 0 (records s)) before.row_breaks
   pub column_breaks_are : after.column_breaks ≡ lent (read_job s before) (values BC 0 (records s)) before.column_breaks
 
+-- after a call the ten lent lists are the ones that were lent, each in its place
+pub record StillLent (old new : JobLists) : Type 0 where
+  pub row_indexes : new.row_indexes.ghost_name ≡ old.row_indexes.ghost_name
+  pub row_sizes : new.row_sizes.ghost_name ≡ old.row_sizes.ghost_name
+  pub column_indexes : new.column_indexes.ghost_name ≡ old.column_indexes.ghost_name
+  pub column_sizes : new.column_sizes.ghost_name ≡ old.column_sizes.ghost_name
+  pub merge_first_rows : new.merge_first_rows.ghost_name ≡ old.merge_first_rows.ghost_name
+  pub merge_first_columns : new.merge_first_columns.ghost_name ≡ old.merge_first_columns.ghost_name
+  pub merge_last_rows : new.merge_last_rows.ghost_name ≡ old.merge_last_rows.ghost_name
+  pub merge_last_columns : new.merge_last_columns.ghost_name ≡ old.merge_last_columns.ghost_name
+  pub row_breaks : new.row_breaks.ghost_name ≡ old.row_breaks.ghost_name
+  pub column_breaks : new.column_breaks.ghost_name ≡ old.column_breaks.ghost_name
+
 -- ---- for the private functions
 
 -- the lent lists hold the items

@@ -7,7 +7,7 @@ ghost use Rattle.job_records.specs.Marks.{place};
 ghost use Rattle.job_walk.specs.Walk.{before};
 ghost use Rattle.job_reader.specs.Walk.{of_kind, Past, is_slot, is_break, measured};
 ghost use Rattle.job_reader.specs.Walk as walk;
-ghost use Rattle.job_reader.specs.Reading.{lists_in, even_lists, fit_in, admitted, admitted_to, Room, AllWritten, JobRead};
+ghost use Rattle.job_reader.specs.Reading.{lists_in, even_lists, fit_in, admitted, admitted_to, Room, AllWritten, JobRead, StillLent};
 
 use crate::settings::settings_of;
 use job_questions::{Items, MOST_AREAS, check_job_lent};
@@ -182,7 +182,8 @@ fn write_breaks(job: SortedJob<'_>, breaks: &mut [u32]) -> usize
 // Writes all items to the front of lists that hold them.
 fn write_items(job: SortedJob<'_>, lent: &mut JobLists<'_>)
     requires { Room job.bytes.now (lists_in lent.old) }
-    ensures { AllWritten job.entry.bytes.now (lists_in lent.old) (lists_in lent.new) }
+    ensures all_written { AllWritten job.entry.bytes.now (lists_in lent.old) (lists_in lent.new) }
+    ensures lent_still { StillLent lent.old lent.new }
 {
     let rows = SortedJob {
         bytes: &job.bytes[settings_end(job)..],
@@ -267,7 +268,8 @@ fn admit_to(bytes: &[u8], lent: &JobLists<'_>) -> Result<Items, Refusal>
 
 // Reads a job: its settings, and its items to the front of the lent lists.
 pub fn read_job(bytes: &[u8], lent: &mut JobLists<'_>) -> Result<Job, Refusal>
-    ensures { JobRead bytes.now result (lists_in lent.old) (lists_in lent.new) }
+    ensures job_read { JobRead bytes.now result (lists_in lent.old) (lists_in lent.new) }
+    ensures lent_still { StillLent lent.old lent.new }
 {
     let items = admit_to(bytes, lent)?;
     let job = SortedJob {

@@ -15,8 +15,9 @@ pub settings_of-settings-requires : goal.settings_of-settings-requires
 settings_of-settings-requires c =
     given_areas {l = lists_in c.args.lent.now} (admitted_is c.admit_to.ensures c.in_ok-items.was)
 
-pub returns-in_err-items : goal.returns-in_err-items
-returns-in_err-items c = job_refused c.admit_to.ensures c.in_err-items.was (handed_on _ _ c.from_residual.ensures.1)
+pub returns-in_err-items-clause-job_read : goal.returns-in_err-items-clause-job_read
+returns-in_err-items-clause-job_read c = job_refused c.admit_to.ensures c.in_err-items.was (handed_on _ _ c.from_residual.ensures.1)
 
-pub returns : goal.returns
-returns c = job_given (admitted_is c.admit_to.ensures c.in_ok-items.was) c.settings_of-settings.ensures c.write_items.ensures
+pub returns-clause-job_read : goal.returns-clause-job_read
+returns-clause-job_read c =
+    job_given (admitted_is c.admit_to.ensures c.in_ok-items.was) c.settings_of-settings.ensures c.write_items.ensures.all_written

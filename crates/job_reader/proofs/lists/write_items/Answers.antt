@@ -3,8 +3,8 @@ use Rattle.std.proofs.Common.{arith}
 use Rattle.job_reader.proofs.ReadingLaws.{part_from, from_on, values_from}
 use Rattle.job_reader.proofs.lists.write_items.Goals as goal
 
-pub returns : goal.returns
-returns c =
+pub returns-clause-all_written : goal.returns-clause-all_written
+returns-clause-all_written c =
     let rows = part_from c.settings_end.ensures in
     let columns = from_on rows c.write_slots-at_columns.ensures.past (omega arith) in
     let merges = from_on columns c.write_slots-at_merges.ensures.past (omega arith) in
