@@ -20,11 +20,11 @@ pub fn order_from(n: u64) -> PageOrder
     }
 }
 
-// No `From`: a number that does not fit stands for the largest that does.
+// The largest that fits stands for any number above it.
 pub fn u16_from(n: u64) -> u16
     ensures { result ≡ min n 65535 }
 {
-    n.min(u16::MAX as u64) as u16
+    u16::try_from(n).unwrap_or(u16::MAX)
 }
 
 // The count of areas, the pages, the order and the notes, at the front.
