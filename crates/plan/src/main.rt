@@ -26,9 +26,7 @@ fn read_full<R: Read>(input: &mut R, bytes: &mut [u8; MOST]) -> Result<usize, Fa
     let mut done = 0;
     // No `for`: a read takes as many bytes as there are. And no `Vec`, for memory can run out.
     while done < MOST {
-        let Ok(n) = input.read(&mut bytes[done..]) else {
-            return Err(Failure::Input);
-        };
+        let n = input.read(&mut bytes[done..]).map_err(|_| Failure::Input)?;
         if n == 0 {
             break;
         }

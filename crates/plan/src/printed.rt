@@ -16,10 +16,7 @@ const NUMBERS: usize = RUN_NUMBERS * RUNS;
 
 // Writes to standard output.
 fn write<W: Write>(out: &mut W, bytes: &[u8]) -> Result<(), Failure> {
-    match out.write_all(bytes) {
-        Ok(()) => Ok(()),
-        Err(_) => Err(Failure::Output),
-    }
+    out.write_all(bytes).map_err(|_| Failure::Output)
 }
 
 // Writes the first lines, or that of a refusal.
@@ -52,10 +49,7 @@ impl Counted<'_> {
     fn spot(&self, number: u64) -> Result<Spot, Failure>
         ensures { IfOk result (λ spot. spot.area < length self.now.plan.areas.items) }
     {
-        match page_spot(&self.plan, number) {
-            Some(spot) => Ok(spot),
-            None => Err(Failure::Refused),
-        }
+        page_spot(&self.plan, number).ok_or(Failure::Refused)
     }
 
     // Writes the line of an area, by its number from 0, and its runs to the lists.
@@ -66,16 +60,15 @@ impl Counted<'_> {
         let permille = self.plan.areas.as_slice()[at].permille;
         let number = at as u64 + 1;
         print_area(out, number, permille)?;
-        match write_job_area(
+        write_job_area(
             self.job,
             number,
             permille,
             &mut self.row_runs,
             &mut self.column_runs,
-        ) {
-            Ok(_) => Ok(()),
-            Err(_) => Err(Failure::Refused),
-        }
+        )
+        .map_err(|_| Failure::Refused)?;
+        Ok(())
     }
 
     // Writes a block of page lines from a number on, and answers how many.
@@ -90,13 +83,9 @@ impl Counted<'_> {
             columns: &self.column_runs,
         };
         let answer = area_block(&self.plan, from, runs, &mut lines);
-        match answer {
-            Ok(Block { pages, bytes }) => {
-                write(out, &lines[..bytes])?;
-                Ok(pages)
-            }
-            Err(_) => Err(Failure::Refused),
-        }
+        let Block { pages, bytes } = answer.map_err(|_| Failure::Refused)?;
+        write(out, &lines[..bytes])?;
+        Ok(pages)
     }
 
     // Writes the lines of all areas and pages, a block at a time; where a block is an area's first, its line before it.

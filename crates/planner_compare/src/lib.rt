@@ -3,9 +3,9 @@
 
 ghost use Rattle.std.specs.Prelude.{◌≡◌, min};
 
-// No `From`: the largest index that a u32 holds stands for any number above it.
+// The largest index that a u32 holds stands for any number above it.
 pub fn index_of(n: u64) -> u32
     ensures { result ≡ min n 4294967295 }
 {
-    n.min(u32::MAX as u64) as u32
+    u32::try_from(n).unwrap_or(u32::MAX)
 }

@@ -7,6 +7,7 @@ ghost use Rattle.yuzhbani_answers.specs.Numbers as section;
 ghost use Rattle.yuzhbani_answers.specs.Answers.{answer_to, numbers_of, HadBack, PageHanded, by_number};
 
 use planner_rules::{AreaPlan, AreaPlans, Notes, Page, PageOrder, Plan};
+use std::array;
 use units::Refusal;
 
 // No `From`: what a number above 0 stands for is a rule of these numbers, and neither type is of this crate.
@@ -20,11 +21,11 @@ pub fn order_from(n: u64) -> PageOrder
     }
 }
 
-// No `From`: a number that does not fit stands for the largest that does.
+// The largest that fits stands for any number above it.
 pub fn u16_from(n: u64) -> u16
     ensures { result ≡ min n 65535 }
 {
-    n.min(u16::MAX as u64) as u16
+    u16::try_from(n).unwrap_or(u16::MAX)
 }
 
 // The count of areas, the pages, the order and the notes, at the front.
@@ -120,16 +121,7 @@ fn area_from(numbers: &[u64; 60], at: usize) -> AreaPlan
 fn areas_from(numbers: &[u64; 60]) -> AreaPlans
     ensures { result ≡ section.areas_from numbers.now }
 {
-    let mut areas = AreaPlans::from([
-        area_from(numbers, 12),
-        area_from(numbers, 18),
-        area_from(numbers, 24),
-        area_from(numbers, 30),
-        area_from(numbers, 36),
-        area_from(numbers, 42),
-        area_from(numbers, 48),
-        area_from(numbers, 54),
-    ]);
+    let mut areas = AreaPlans::from(array::from_fn(|k| area_from(numbers, 12 + 6 * k)));
     areas.truncate(numbers[0] as usize);
     areas
 }

@@ -10,6 +10,7 @@ use job_records::MarginBits;
 use job_settings::margin_setting;
 use planner_compare::index_of;
 use planner_rules::{PrintRange, Request, Settings, Title};
+use std::array;
 use yuzhbani_answers::{order_from, u16_from};
 
 // What a caller asks, as 61 numbers.
@@ -94,16 +95,7 @@ impl RequestNumbers<'_> {
     pub fn areas(self) -> ArrayVec<PrintRange, 8>
         ensures { result.items ≡ section.areas_from self.entry.0.now }
     {
-        let mut areas = ArrayVec::from([
-            self.range(23),
-            self.range(27),
-            self.range(31),
-            self.range(35),
-            self.range(39),
-            self.range(43),
-            self.range(47),
-            self.range(51),
-        ]);
+        let mut areas = ArrayVec::from(array::from_fn(|k| self.range(23 + 4 * k)));
         areas.truncate(self.0[22] as usize);
         areas
     }
