@@ -79,7 +79,7 @@ fn cells_of(found: Record) -> Range
     merge.cells
 }
 
-// The next record, where it has this mark.
+// The next record, where it has this mark. By `filter`, a proof would first have to open what its closure answered: the arms are plainer.
 fn next_of(s: &[u8], wanted: Mark) -> Option<Head>
     ensures { result ≡ of_kind (place wanted) (before (step s.now)) }
 {
