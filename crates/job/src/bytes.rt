@@ -10,8 +10,8 @@ ghost use Rattle.job.specs.PlanJob as section;
 use crate::wanted::{AreaRuns, PageCount, Wanted, WholePlan};
 use job_questions::Items;
 use job_reader::{JobLists, read_job};
-use job_settings::{areas_for, settings_for};
-use planner_rules::{AxisLists, MergeList, Plan, Request, RunCounts, SheetLists, SlotList};
+use job_settings::areas_for;
+use planner_rules::{AxisLists, MergeList, Plan, Request, RunCounts, Settings, SheetLists, SlotList};
 use units::Refusal;
 
 // The fronts of lent lists, as long as so many items say.
@@ -61,7 +61,7 @@ fn answer_in<W: Wanted>(
     let lists = fronts(job.items, lent);
     let areas = areas_for(&job.settings.areas);
     let request = Request {
-        settings: settings_for(&job.settings),
+        settings: Settings::from(&job.settings),
         areas: areas.as_slice(),
         row_title: job.settings.row_title,
         column_title: job.settings.column_title,

@@ -79,7 +79,7 @@ fn cells_of(found: Record) -> Range
     merge.cells
 }
 
-// The next record, where it has this mark.
+// The next record, where it has this mark. By `filter`, a proof would first have to open what its closure answered: the arms are plainer.
 fn next_of(s: &[u8], wanted: Mark) -> Option<Head>
     ensures { result ≡ of_kind (place wanted) (before (step s.now)) }
 {
@@ -114,7 +114,7 @@ fn write_slots(job: SortedJob<'_>, indexes: &mut [u32], sizes: &mut [u64]) -> us
     ensures indexes_after { indexes.new ≡ written (values (place job.entry.first) 0 (records job.entry.bytes.now)) indexes.old }
     ensures sizes_after { sizes.new ≡ written (values (place job.entry.first) 1 (records job.entry.bytes.now)) sizes.old }
 {
-    // The place goes by hand: it is one in each list, beside a walk that ends with the mark and not with a list.
+    // The place goes by hand: one in both lists, beside a walk that ends with the mark; what goes through `iter_mut`, no invariant of the loop sees.
     let mut s = job.bytes;
     let mut k: usize = 0;
     while let Some(head) = next_of(s, job.first) {
@@ -128,6 +128,7 @@ fn write_slots(job: SortedJob<'_>, indexes: &mut [u32], sizes: &mut [u64]) -> us
 }
 
 // Writes the merges, which stand at the head, and answers how many bytes they have.
+// Four of the ten lists go by themselves: a struct of them would be a second of what `JobLists` has, and each clause here is of one list alone.
 fn write_merges(
     job: SortedJob<'_>,
     first_rows: &mut [u32],
@@ -146,7 +147,7 @@ fn write_merges(
     ensures last_rows_after { last_rows.new ≡ written (values (place job.entry.first) 2 (records job.entry.bytes.now)) last_rows.old }
     ensures last_columns_after { last_columns.new ≡ written (values (place job.entry.first) 3 (records job.entry.bytes.now)) last_columns.old }
 {
-    // The place goes by hand, as for slots.
+    // The place goes by hand, as for slots, in four lists.
     let mut s = job.bytes;
     let mut k: usize = 0;
     while let Some(head) = next_of(s, job.first) {
@@ -168,7 +169,7 @@ fn write_breaks(job: SortedJob<'_>, breaks: &mut [u32]) -> usize
     ensures past { Past (place job.entry.first + 1) job.entry.bytes.now result }
     ensures breaks_after { breaks.new ≡ written (values (place job.entry.first) 0 (records job.entry.bytes.now)) breaks.old }
 {
-    // The place goes by hand, as for slots.
+    // The place goes by hand, beside a walk that ends with the mark: what goes through `iter_mut`, no invariant of the loop sees.
     let mut s = job.bytes;
     let mut k: usize = 0;
     while let Some(head) = next_of(s, job.first) {

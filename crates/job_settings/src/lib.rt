@@ -86,22 +86,24 @@ fn order_for(order: Option<u8>) -> PageOrder
     }
 }
 
-// The settings as the planner takes them. No `From`: what is absent gets the format's default here, which is more than a change of type.
-pub fn settings_for(read: &JobSettings) -> Settings
-    ensures { result ≡ section.settings_for read.now }
-{
-    Settings {
-        paper: read.paper,
-        landscape: read.landscape,
-        margins: margin_setting(read.margins),
-        percent: read.percent,
-        fit: fit_on(read.fit, read.fit_width, read.fit_height),
-        fit_width: read.fit_width,
-        fit_height: read.fit_height,
-        order: order_for(read.order),
-        headings: read.headings,
-        page_limit: page_limit(read.page_limit),
-        cell_limit: read.cell_limit,
+// The settings as the planner takes them.
+impl From<&JobSettings> for Settings {
+    ghost from_gives = { λ read settings. settings ≡ section.settings_for read.now };
+
+    fn from(read: &JobSettings) -> Settings {
+        Settings {
+            paper: read.paper,
+            landscape: read.landscape,
+            margins: margin_setting(read.margins),
+            percent: read.percent,
+            fit: fit_on(read.fit, read.fit_width, read.fit_height),
+            fit_width: read.fit_width,
+            fit_height: read.fit_height,
+            order: order_for(read.order),
+            headings: read.headings,
+            page_limit: page_limit(read.page_limit),
+            cell_limit: read.cell_limit,
+        }
     }
 }
 

@@ -12,7 +12,7 @@ mod sorted;
 use job_records::{Head, JobAreas, Mark, Record, read_record};
 pub use sorted::SortedJob;
 
-// The next record before the EN, or none.
+// The next record before the EN, or none. By `filter`, a proof would first have to open what its closure answered: the arms are plainer.
 pub fn next_record(s: &[u8]) -> Option<Head>
     ensures { result ≡ walk.before (step s.now) }
 {

@@ -16,4 +16,4 @@ returns-in_err-job g c =
 pub returns : goal.returns
 returns g c =
     reading_told c.requires c.read_job.ensures.job_read (g.W.Wanted.told c.args.wanted) _ _ _ _ c.in_ok-job.was
-    c.fronts-lists.result c.settings_for.ensures (c.as_slice.ensures.value ∙ c.areas_for-areas.ensures) c.fronts-lists.ensures c.answer.ensures
+    c.fronts-lists.result c.from.ensures (c.as_slice.ensures.value ∙ c.areas_for-areas.ensures) c.fronts-lists.ensures c.answer.ensures
