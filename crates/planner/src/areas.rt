@@ -1,5 +1,5 @@
 // All areas, one after another: counted, then written. Document 02, T-02.
-ghost use Rattle.std.specs.Prelude.{◌≡◌, [], map, ◌+◌, ◌<◌};
+ghost use Rattle.std.specs.Prelude.{◌≡◌, [], map, ◌<◌};
 ghost use Rattle.planner_rules.specs.Slots.{written};
 ghost use Rattle.planner_rules.specs.Lent.{flat};
 ghost use Rattle.planner_rules.specs.Asked.{sheet_by};
@@ -8,18 +8,6 @@ ghost use Rattle.planner_rules.specs.Steps as step;
 
 use crate::settled::SettledSheet;
 use planner_rules::{AreaNotes, AreaPlan, AreaPlans, CountedArea, CountedAreas, RUN_NUMBERS};
-
-const MOST: u64 = 18_446_744_073_709_551_615;
-
-// A sum that no u64 holds counts as the largest that one holds.
-fn counted_sum(a: u64, b: u64) -> u64
-    ensures { result ≡ call.as_count (a + b) }
-{
-    if b > MOST - a {
-        return MOST;
-    }
-    a + b
-}
 
 // No area, yet.
 #[inline(always)]
@@ -31,13 +19,7 @@ pub(crate) fn no_areas() -> CountedAreas
         rows: 0,
         columns: 0,
         pages: 0,
-        notes: AreaNotes {
-            clamped: 0,
-            unreachable: 0,
-            expansions: 0,
-            shifts: 0,
-            overflows: 0,
-        },
+        notes: AreaNotes::default(),
     }
 }
 
@@ -60,7 +42,7 @@ pub(crate) fn add_area(all: &mut CountedAreas, counted: CountedArea)
         clamped: so_far.clamped + notes.clamped,
         unreachable: so_far.unreachable + notes.unreachable,
         expansions: so_far.expansions + notes.expansions,
-        shifts: counted_sum(so_far.shifts, notes.shifts),
+        shifts: so_far.shifts.saturating_add(notes.shifts),
         overflows: so_far.overflows + notes.overflows,
     };
 }
@@ -80,7 +62,7 @@ impl SettledSheet<'_> {
         all
     }
 
-    // Writes the runs of all areas in job order, each at the permille that it was counted at.
+    // Writes the runs of all areas in job order, each at the permille that it was counted at. Two slices: as at `plan_pages`.
     pub(crate) fn write_areas(
         &self,
         plans: &[AreaPlan],

@@ -49,7 +49,7 @@ pub(crate) fn count_cut(axis: FittedAxis, frame: Frame, permille: u16, breaks: &
     final_cut(tally, cut_overflows(page, tally.runs, counted.overflows))
 }
 
-// Writes the final cut of an axis, whose body is empty or not: the runs that its pages are made of.
+// Writes the final cut of an axis, whose body is empty or not: the runs that its pages are made of. Its room: as at `write_empty`.
 pub(crate) fn write_cut(
     axis: FittedAxis,
     frame: Frame,

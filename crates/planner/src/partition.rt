@@ -66,11 +66,7 @@ fn partition_body(
     let from = place_of(slots.indexes, start);
     let to = place_of(slots.indexes, u64::from(last) + 1);
     if to <= from {
-        return Ok(Tally {
-            runs: 0,
-            expansions: 0,
-            shifts: 0,
-        });
+        return Ok(Tally::default());
     }
     let frame = Frame {
         untitled: setup.untitled,

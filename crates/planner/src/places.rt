@@ -6,7 +6,8 @@ ghost use Rattle.planner_rules.specs.Runs.{moved};
 use crate::slots::Measured;
 use planner_rules::{Cut, Span};
 
-// How many slots have an index below the limit.
+// How many slots have an index below the limit. Two such places bound the slots from one index to another: a title, a body and an area that is made
+// ready each make of none between them what the others do not, so that a function of both places would be no shorter.
 pub(crate) fn place_of(indexes: &[u32], limit: u64) -> usize
     requires { Rising indexes.now }
     ensures value { result ≡ below limit indexes.now }

@@ -11,14 +11,12 @@ ghost use Rattle.planner_rules.specs.Steps as step;
 
 use crate::area::FramedCount;
 use crate::areas::{add_area, no_areas};
-use crate::memory::in_memory;
 use crate::settled::SettledSheet;
 use crate::sheet_area::SheetArea;
 use crate::title::ready_title;
-use planner_questions::{plan_refusal, room_in, room_refusal};
+use planner_questions::{plan_refusal, room_refusal, rooms_in, runs_held};
 use planner_rules::{
-    Axis, AxisLists, ChosenScale, CountedAreas, MergeList, Notes, Plan, Request, RunCounts, Shared,
-    SheetLists,
+    Axis, ChosenScale, CountedAreas, Notes, Plan, Request, RunCounts, Shared, SheetLists,
 };
 use planner_setup::content_sides;
 use units::Refusal;
@@ -30,30 +28,8 @@ fn prepare(request: &Request, lists: &SheetLists) -> Result<Shared, Refusal>
     plan_refusal(request, lists)?;
     let sides = content_sides(request.settings)?;
     let SheetLists { rows, columns } = *lists;
-    let row_merges = MergeList {
-        firsts: in_memory(rows.merges.firsts),
-        ..rows.merges
-    };
-    let column_merges = MergeList {
-        firsts: in_memory(columns.merges.firsts),
-        ..columns.merges
-    };
-    let row_title = ready_title(
-        Axis::Rows.limit(),
-        request.row_title,
-        AxisLists {
-            merges: row_merges,
-            ..rows
-        },
-    );
-    let column_title = ready_title(
-        Axis::Columns.limit(),
-        request.column_title,
-        AxisLists {
-            merges: column_merges,
-            ..columns
-        },
-    );
+    let row_title = ready_title(Axis::Rows, request.row_title, rows);
+    let column_title = ready_title(Axis::Columns, request.column_title, columns);
     Ok(Shared {
         settings: request.settings,
         sides,
@@ -131,16 +107,15 @@ impl SheetArea<'_> {
         };
         let FramedCount { counted, frames } = self.count_at(scale);
         let area = counted.area;
-        let rows = area.row_runs;
-        let columns = area.column_runs;
-        if rows > room_in(row_runs.len()) {
-            return Err(Refusal::ListTooShort);
-        }
-        if columns > room_in(column_runs.len()) {
+        let runs = RunCounts {
+            rows: area.row_runs,
+            columns: area.column_runs,
+        };
+        if !runs_held(runs, rooms_in(row_runs.len(), column_runs.len())) {
             return Err(Refusal::ListTooShort);
         }
         self.write_by(frames, area, 0, 0, row_runs, column_runs);
-        Ok(RunCounts { rows, columns })
+        Ok(runs)
     }
 }
 
@@ -157,14 +132,12 @@ impl SettledSheet<'_> {
             let limit = self.now.shared.now.settings.page_limit in
             no_of result ≡ call.room_no all.rows all.columns all.pages (room_in row_runs.now) (room_in column_runs.now) limit }
     {
-        room_refusal(
-            counted.rows,
-            counted.columns,
-            counted.pages,
-            room_in(row_runs.len()),
-            room_in(column_runs.len()),
-            self.shared.settings.page_limit,
-        )
+        let runs = RunCounts {
+            rows: counted.rows,
+            columns: counted.columns,
+        };
+        let room = rooms_in(row_runs.len(), column_runs.len());
+        room_refusal(runs, counted.pages, room, self.shared.settings.page_limit)
     }
 
     // Counts several areas and, where their runs have room and their pages are within the limit, writes them: all are counted before one is written.

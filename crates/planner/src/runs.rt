@@ -111,7 +111,8 @@ fn size_of(slots: Measured, n: usize, filling: Filling) -> u64
     total(slots.part(0, n))
 }
 
-// Writes the numbers of a run to a lent list, from `at` on, and returns the place after them.
+// Writes the numbers of a run to a lent list, from `at` on, and returns the place after them. Four numbers: no struct has them, and one made for this
+// call would be taken apart by it.
 #[inline(always)]
 fn put_run(list: &mut [u64], at: usize, first: u32, last: u32, size: u64, mark: u64) -> usize
     requires { at + 4 ≤ length list.old }
@@ -227,7 +228,8 @@ impl Cutter<'_> {
         }
     }
 
-    // Writes the runs of a stretch to the front of a lent list, the first with the mark, and returns how many numbers they have.
+    // Writes the runs of a stretch to the front of a lent list, the first with the mark, and returns how many numbers they have. Its room: as at
+    // `write_empty`.
     #[inline(always)]
     fn write_runs(self, slots: Measured, mark: u64, list: &mut [u64]) -> usize
         requires room { Room (first_marked mark (axes.runs_by self slots)) list.old }
@@ -371,7 +373,7 @@ impl Cutter<'_> {
         self.write_runs(slots.part(a, e), mark_of(a), &mut list[at..])
     }
 
-    // Writes the runs of an axis to the front of a lent list and returns how many numbers they have.
+    // Writes the runs of an axis to the front of a lent list and returns how many numbers they have. Its room: as at `write_empty`.
     pub(crate) fn write_axis(self, slots: Measured, breaks: &[u32], list: &mut [u64]) -> usize
         requires room { Room (axes.axis_runs_by self slots breaks.now) list.old }
         ensures { Written (axes.axis_runs_by self.entry slots.entry breaks.now) result list.old list.new }

@@ -90,7 +90,7 @@ pub(crate) fn excess(fits: bool) -> u64
     ensures value { result ≡ cond fits 0 1 }
     ensures upper_bound { result ≤ 1 }
 {
-    if fits { 0 } else { 1 }
+    u64::from(!fits)
 }
 
 // Whether the runs of slots fit the page and meet the target: no more are cut once the answer is known.

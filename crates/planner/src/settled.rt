@@ -4,6 +4,7 @@ ghost use Rattle.planner_rules.specs.Steps.{FineAreas, Settled};
 
 use planner_rules::{PrintRange, Shared, SheetLists};
 
+// Each call makes it out of what is shared and borrows that: a function that answered it would have all that is shared copied into each area.
 #[derive(Clone, Copy)]
 pub(crate) struct SettledSheet<'a> {
     pub shared: &'a Shared,

@@ -1,14 +1,15 @@
 // What a title takes of a page: document 01, section "Titles".
-ghost use Rattle.std.specs.Prelude.{◌≡◌, true};
+ghost use Rattle.std.specs.Prelude.{◌≡◌, true, ◌<◌, ◌^◌, length};
 ghost use Rattle.planner_rules.specs.Slots.{Slots};
 ghost use Rattle.planner_rules.specs.Questions.{all_within};
-ghost use Rattle.planner_rules.specs.Titles.{title_total};
+ghost use Rattle.planner_rules.specs.Titles.{limit_of, title_total};
 ghost use Rattle.planner_rules.specs.Steps.{TitleReady};
 
 use crate::filling::total;
+use crate::memory::in_memory;
 use crate::places::place_of;
 use crate::slots::Measured;
-use planner_rules::{AxisLists, ReadyTitle, Title, Widened};
+use planner_rules::{Axis, AxisLists, MergeList, ReadyTitle, Title, Widened};
 use planner_titles::widened_title;
 
 // The sum of the measured slots in the title.
@@ -27,21 +28,26 @@ fn title_total(title: Title, slots: Measured) -> u64
 }
 
 // A title of the job, ready for all areas: widened, and with its total.
-pub(crate) fn ready_title(limit: u32, asked: Title, axis: AxisLists) -> ReadyTitle
-    requires slots { Slots axis.slots.indexes.now axis.slots.sizes.now }
-    requires merge_lasts_value { all_within limit axis.merges.lasts.now ≡ true }
+pub(crate) fn ready_title(axis: Axis, asked: Title, lists: AxisLists) -> ReadyTitle
+    requires slots { Slots lists.slots.indexes.now lists.slots.sizes.now }
+    requires merge_lasts_value { all_within (limit_of axis) lists.merges.lasts.now ≡ true }
     ensures asked_value { result.asked ≡ asked }
-    ensures title_ready { TitleReady result limit axis.entry.slots.indexes.now axis.entry.slots.sizes.now
-        axis.entry.merges.firsts.now axis.entry.merges.lasts.now }
+    ensures title_ready { TitleReady result (limit_of axis) lists.entry.slots.indexes.now lists.entry.slots.sizes.now
+        lists.entry.merges.firsts.now lists.entry.merges.lasts.now }
+    ensures few { length lists.entry.merges.firsts.now < 2 ^ 63 }
 {
+    let merges = MergeList {
+        firsts: in_memory(lists.merges.firsts),
+        ..lists.merges
+    };
     let Widened {
         title,
         ignored,
         expanded,
-    } = widened_title(limit, asked, axis.merges);
+    } = widened_title(axis.limit(), asked, merges);
     let slots = Measured {
-        indexes: axis.slots.indexes,
-        sizes: axis.slots.sizes,
+        indexes: lists.slots.indexes,
+        sizes: lists.slots.sizes,
     };
     ReadyTitle {
         asked,

@@ -20,7 +20,7 @@ fn nearer(edge: u64, from: u64, nearest: u64) -> u64
     if edge <= from {
         return nearest;
     }
-    if edge < nearest { edge } else { nearest }
+    edge.min(nearest)
 }
 
 // The nearest row past `from` where an area starts or has ended, or the end of the grid.

@@ -38,7 +38,7 @@ fn none_holds(merges: MergeList, b: u32) -> bool
 {
     let MergeList { firsts, lasts } = merges;
     let mut none = true;
-    // By number: over a zip it takes a sixth more time.
+    // By number: over a zip the plan of merged pairs misses its bar, for by lists its time, by the Rust's, is 20 to 30 percent above what it was.
     for i in 0..firsts.len().min(lasts.len()) {
         none = !((firsts[i] < b) & (b <= lasts[i])) & none;
     }

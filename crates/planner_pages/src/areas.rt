@@ -35,11 +35,11 @@ pub(crate) fn walk(areas: &[AreaPlan], before: usize) -> Spot
 }
 
 // 11: two lists with room for so many runs hold the runs of all areas. By what is left of the room, for a sum may be too large for a number.
-pub(crate) fn runs_fit(areas: &[AreaPlan], row_room: usize, column_room: usize) -> bool
-    ensures { result ≡ section.runs_held areas.now row_room column_room }
+pub(crate) fn runs_fit(areas: &[AreaPlan], room: RunCounts) -> bool
+    ensures { result ≡ section.runs_held areas.now room.rows room.columns }
 {
-    let mut rows = row_room;
-    let mut columns = column_room;
+    let mut rows = room.rows;
+    let mut columns = room.columns;
     for area in areas {
         if area.row_runs > rows {
             return false;

@@ -11,7 +11,7 @@ ghost use Rattle.planner_rules.specs.Pages as section;
 
 use crate::areas::{has_more, runs_fit, runs_of, walk};
 use planner_compare::index_of;
-use planner_questions::room_in;
+use planner_questions::{rooms_in, runs_held};
 use planner_rules::{
     AreaPlan, Page, PageOrder, PageRun, Place, Plan, RUN_NUMBERS, RunCounts, RunLists, Spot,
 };
@@ -83,11 +83,8 @@ fn page_at(
 fn holds_runs(plan: &Plan, runs: RunLists<'_>) -> bool
     ensures { result ≡ section.holds_runs plan.now runs.entry.rows.now runs.entry.columns.now }
 {
-    runs_fit(
-        plan.areas.as_slice(),
-        room_in(runs.rows.len()),
-        room_in(runs.columns.len()),
-    )
+    let room = rooms_in(runs.rows.len(), runs.columns.len());
+    runs_fit(plan.areas.as_slice(), room)
 }
 
 // The page at a spot, over the lists of runs that were lent to the plan.
@@ -132,10 +129,11 @@ pub fn area_page(
 ) -> Result<Page, Refusal>
     ensures { outcome result ≡ section.area_numbered order area runs.entry.rows.now runs.entry.columns.now number }
 {
-    if area.row_runs > room_in(runs.rows.len()) {
-        return Err(Refusal::ListTooShort);
-    }
-    if area.column_runs > room_in(runs.columns.len()) {
+    let counts = RunCounts {
+        rows: area.row_runs,
+        columns: area.column_runs,
+    };
+    if !runs_held(counts, rooms_in(runs.rows.len(), runs.columns.len())) {
         return Err(Refusal::ListTooShort);
     }
     if number == 0 {
@@ -145,11 +143,7 @@ pub fn area_page(
     if !has_more(area, before) {
         return Err(Refusal::NoSuchNumber);
     }
-    let none = RunCounts {
-        rows: 0,
-        columns: 0,
-    };
-    Ok(page_at(order, area, none, before, runs))
+    Ok(page_at(order, area, RunCounts::default(), before, runs))
 }
 
 // The page of a plan with a number from 1 to its count, over the lists of runs that were lent to the plan.

@@ -1,7 +1,7 @@
 // What is asked of lists before a call answers: document 01, section "Questions in order".
 #![tactic(auto)]
 
-ghost use Rattle.std.specs.Prelude.{◌≡◌, fold, bit_or, ◌/◌, ◌&&◌};
+ghost use Rattle.std.specs.Prelude.{◌≡◌, fold, bit_or, ◌/◌, ◌&&◌, leb};
 ghost use Rattle.units.specs.Refusals.{number_of};
 ghost use Rattle.planner_rules.specs.Questions.{no_or, equally_long, all_ordered, all_within, rising, rising_within, all_small, well_formed};
 ghost use Rattle.planner_rules.specs.Areas.{every_area, upright, inside_grid};
@@ -10,7 +10,9 @@ ghost use Rattle.planner_rules.specs.Asked.{sheet_asked};
 ghost use Rattle.planner_rules.specs.Partition as partition;
 
 use planner_areas::cells_hold;
-use planner_rules::{AxisSetup, MergeList, PrintRange, RUN_NUMBERS, Request, SheetLists, SlotList};
+use planner_rules::{
+    AxisSetup, MergeList, PrintRange, RUN_NUMBERS, Request, RunCounts, SheetLists, SlotList,
+};
 use units::{LARGEST_SIZE, MAX_WORKSHEET_COLUMN, MAX_WORKSHEET_ROW, Refusal};
 
 // How many runs a list of so many numbers has room for.
@@ -18,6 +20,23 @@ pub fn room_in(numbers: usize) -> usize
     ensures { result ≡ numbers / 4 }
 {
     numbers / RUN_NUMBERS
+}
+
+// How many runs of rows and of columns two lists of so many numbers have room for.
+pub fn rooms_in(rows: usize, columns: usize) -> RunCounts
+    ensures { (result.rows ≡ rows / 4) × (result.columns ≡ columns / 4) }
+{
+    RunCounts {
+        rows: room_in(rows),
+        columns: room_in(columns),
+    }
+}
+
+// 11 of so many runs of rows and of columns.
+pub fn runs_held(runs: RunCounts, room: RunCounts) -> bool
+    ensures { result ≡ (leb runs.rows room.rows && leb runs.columns room.columns) }
+{
+    (runs.rows <= room.rows) & (runs.columns <= room.columns)
 }
 
 // 6: no first is above its last.
@@ -181,17 +200,9 @@ pub fn plan_refusal(request: &Request, lists: &SheetLists) -> Result<(), Refusal
 }
 
 // 11, then 12, of so many runs of rows and of columns and so many pages: the first whose answer is no refuses.
-pub fn room_refusal(
-    rows: usize,
-    columns: usize,
-    pages: u64,
-    row_room: usize,
-    column_room: usize,
-    limit: u64,
-) -> Result<(), Refusal>
-    ensures { partition.no_of result ≡ call.room_no rows columns pages row_room column_room limit }
+pub fn room_refusal(runs: RunCounts, pages: u64, room: RunCounts, limit: u64) -> Result<(), Refusal>
+    ensures { partition.no_of result ≡ call.room_no runs.rows runs.columns pages room.rows room.columns limit }
 {
-    let eleven = (rows <= row_room) & (columns <= column_room);
-    ask(eleven, Refusal::ListTooShort)?;
+    ask(runs_held(runs, room), Refusal::ListTooShort)?;
     ask(pages <= limit, Refusal::TooManyPages)
 }

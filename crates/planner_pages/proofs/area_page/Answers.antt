@@ -1,33 +1,47 @@
 -- Its first no refuses, and else there is the page.
-use Rattle.std.proofs.Common.{sym, ap, ◌∙◌, arith, ltb-true, ltb-false}
+use Rattle.std.proofs.Common.{◌≡◌, ℕ, ◌≤◌, List, Bool, true, false, ◌&&◌, leb, sym, ap, ◌∙◌, arith, leb-true, ltb-true, ltb-false}
 use Rattle.units.specs.Outcome.{given}
-use Rattle.planner_rules.proofs.PagesCode.{area_few_rows, area_few_columns, area_zero, area_past, area_found}
+use Rattle.planner_rules.specs.declared.pages.AreaPlan.{AreaPlan}
+use Rattle.planner_rules.specs.declared.planning.RunCounts.{RunCounts}
+use Rattle.planner_rules.specs.Lent.{room_in}
+use Rattle.planner_rules.specs.Pages.{holds_area, area_numbered}
+use Rattle.planner_rules.proofs.QuestionLaws.{both}
+use Rattle.planner_rules.proofs.PagesCode.{area_zero, area_past, area_found}
 use Rattle.planner_pages.proofs.area_page.Goals as goal
 
-pub returns-then-area-room_in : goal.returns-then-area-room_in
-returns-then-area-room_in c =
-    let a = c.args in
-    area_few_rows a.order a.area a.runs.rows.now a.runs.columns.now a.number (omega arith)
+module _ (a : AreaPlan) (rows columns : List ℕ) (room : RunCounts) (e : (room.rows ≡ room_in rows) × (room.columns ≡ room_in columns)) (held : Bool)
+    (h : held ≡ (leb a.row_runs room.rows && leb a.column_runs room.columns)) where
+  none : held ≡ false → holds_area a rows columns ≡ false
+  none n = rw (sym e.0, sym e.1) (sym h ∙ n)
 
-pub returns-then-area-room_in-2 : goal.returns-then-area-room_in-2
-returns-then-area-room_in-2 c =
+  few : held ≡ true → (a.row_runs ≤ room_in rows) × (a.column_runs ≤ room_in columns)
+  few y =
+      let halves = both (leb a.row_runs room.rows) (leb a.column_runs room.columns) (sym h ∙ y) in
+      (omega (arith, e.0, leb-true a.row_runs room.rows halves.0), omega (arith, e.1, leb-true a.column_runs room.columns halves.1))
+
+pub returns-then-not-runs_held : goal.returns-then-not-runs_held
+unfolding area_numbered
+returns-then-not-runs_held c =
     let a = c.args in
-    area_few_columns a.order a.area a.runs.rows.now a.runs.columns.now a.number (omega arith)
+    rw (none a.area a.runs.rows.now a.runs.columns.now _ c.rooms_in.ensures _ c.runs_held.ensures c.if-not-runs_held.true)
 
 pub returns-then-number-eq0 : goal.returns-then-number-eq0
 returns-then-number-eq0 c =
     let a = c.args in
-    area_zero a.order a.area a.runs.rows.now a.runs.columns.now a.number (omega arith) (omega arith) (omega arith)
+    let fit = few a.area a.runs.rows.now a.runs.columns.now _ c.rooms_in.ensures _ c.runs_held.ensures c.if-not-runs_held.false in
+    area_zero a.order a.area a.runs.rows.now a.runs.columns.now a.number fit.0 fit.1 (omega arith)
 
 pub returns-then-not-has_more : goal.returns-then-not-has_more
 returns-then-not-has_more c =
     let a = c.args in
-    area_past a.order a.area a.runs.rows.now a.runs.columns.now a.number (omega arith) (omega arith) (omega arith)
+    let fit = few a.area a.runs.rows.now a.runs.columns.now _ c.rooms_in.ensures _ c.runs_held.ensures c.if-not-runs_held.false in
+    area_past a.order a.area a.runs.rows.now a.runs.columns.now a.number fit.0 fit.1 (omega arith)
     (ltb-false _ _ (sym c.has_more.ensures ∙ c.if-not-has_more.true))
 
 pub returns : goal.returns
 returns c =
     let a = c.args in
-    ap given c.page_at.ensures
-    ∙ area_found a.order a.area a.runs.rows.now a.runs.columns.now a.number (omega arith) (omega arith) (omega arith)
+    let fit = few a.area a.runs.rows.now a.runs.columns.now _ c.rooms_in.ensures _ c.runs_held.ensures c.if-not-runs_held.false in
+    ap given (rw (c.default.ensures.0, c.default.ensures.1) at c.page_at.ensures)
+    ∙ area_found a.order a.area a.runs.rows.now a.runs.columns.now a.number fit.0 fit.1 (omega arith)
     (ltb-true _ _ (sym c.has_more.ensures ∙ c.if-not-has_more.false))

@@ -8,8 +8,8 @@ pub returns-in_err-ask : goal.returns-in_err-ask
 unfolding room_no
 returns-in_err-ask c =
     let e : c.from_residual.result ≡ Err c.in_err-ask.field-0.0 = search rules in
-    rw e (sym (stopped 11 _ _ _ _ refl c.in_err-ask.ensures))
+    rw e (sym (stopped 11 _ _ _ _ refl (rw c.runs_held.ensures at c.in_err-ask.ensures)))
 
 pub returns : goal.returns
 unfolding room_no
-returns c = c.ask-2.ensures ∙ sym (passed 11 _ _ _ (omega arith) refl c.in_ok-ask.ensures)
+returns c = c.ask-2.ensures ∙ sym (passed 11 _ _ _ (omega arith) refl (rw c.runs_held.ensures at c.in_ok-ask.ensures))

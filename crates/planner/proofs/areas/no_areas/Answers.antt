@@ -9,5 +9,11 @@ returns c = λ i. record {
   rows = 0;
   columns = 0;
   pages = 0;
-  notes = record { clamped = 0; unreachable = 0; expansions = 0; shifts = 0; overflows = 0 };
+  notes = record {
+    clamped = c.default.ensures.0 i;
+    unreachable = c.default.ensures.1.0 i;
+    expansions = c.default.ensures.1.1.0 i;
+    shifts = c.default.ensures.1.1.1.0 i;
+    overflows = c.default.ensures.1.1.1.1 i;
+  };
 }

@@ -1,5 +1,5 @@
 -- The slots that are found are the body.
-use Rattle.std.proofs.Common.{ℕ, ◌+◌, ap, ◌∙◌, arith}
+use Rattle.std.proofs.Common.{◌≡◌, ℕ, ◌+◌, ap, ◌∙◌, arith}
 use Rattle.planner_rules.specs.Slots.{below}
 use Rattle.planner_rules.specs.Lent.{room_in}
 use Rattle.planner_rules.proofs.PartitionLaws.{start_within, answers_empty, found_body}
@@ -9,14 +9,18 @@ pub returns-then-to-from : goal.returns-then-to-from
 returns-then-to-from c =
     let a = c.args in
     let to_is = c.place_of-to.ensures.value ∙ ap (λ (k : ℕ). below (k + 1) a.slots.indexes.now) c.from.ensures in
-    answers_empty a.setup a.slots.indexes.now a.slots.sizes.now a.merges.firsts.now a.merges.lasts.now a.breaks.now a.list.now
+    let zeros = c.default.ensures in
+    let none : c.default.result ≡ record { runs = 0; expansions = 0; shifts = 0 } =
+    λ i. record { runs = zeros.0 i; expansions = zeros.1.0 i; shifts = zeros.1.1 i } in
+    rw none
+    (answers_empty a.setup a.slots.indexes.now a.slots.sizes.now a.merges.firsts.now a.merges.lasts.now a.breaks.now a.list.now
     (omega (
       arith,
       c.if-to-from.true,
       c.place_of-from.ensures.value,
       ap (λ (k : ℕ). below k a.slots.indexes.now) c.body_start-start.ensures,
       to_is,
-    ))
+    )))
 
 pub overflow_cast-frame : goal.overflow_cast-frame
 overflow_cast-frame c =

@@ -1,10 +1,9 @@
 -- A no refuses; with yes to all questions, the areas share what is found: whatever the settings, sides are given.
-use Rattle.std.proofs.Common.{◌≡◌, ℕ, ◌+◌, ◌^◌, ◌<◌, length, Err, refl, sym, subst, ◌∙◌, arith, rules}
+use Rattle.std.proofs.Common.{◌≡◌, ◌+◌, ◌^◌, ◌<◌, length, Err, refl, sym, ◌∙◌, arith, rules}
 use Rattle.units.specs.Outcome.{given}
 use Rattle.planner_rules.proofs.NoTen.{sides_given, not_given}
 use Rattle.planner_rules.specs.Plan.{sides_of, content_sides}
 use Rattle.planner_rules.specs.Asked.{sheet_asked}
-use Rattle.planner_rules.specs.Steps.{TitleReady}
 use Rattle.planner_rules.proofs.QuestionLaws.{positive}
 use Rattle.planner_rules.proofs.PlanLaws.{is_refused, all_yes, row_slots, column_slots, row_merges_inside, column_merges_inside, shared_by}
 use Rattle.planner.proofs.plan.prepare.Goals as goal
@@ -32,7 +31,7 @@ ready_title-row_title-requires-clause-merge_lasts_value c =
     let a = c.args in
     let sheet = sheet_asked a.request.now a.lists.now in
     let y = all_yes sheet a.request.now.areas.now _ c.in_ok-plan_refusal.ensures (omega arith) in
-    rw c.limit.ensures (row_merges_inside sheet a.request.now.areas.now y)
+    row_merges_inside sheet a.request.now.areas.now y
 
 pub ready_title-column_title-requires-clause-slots : goal.ready_title-column_title-requires-clause-slots
 ready_title-column_title-requires-clause-slots c =
@@ -46,7 +45,7 @@ ready_title-column_title-requires-clause-merge_lasts_value c =
     let a = c.args in
     let sheet = sheet_asked a.request.now a.lists.now in
     let y = all_yes sheet a.request.now.areas.now _ c.in_ok-plan_refusal.ensures (omega arith) in
-    rw c.limit-2.ensures (column_merges_inside sheet a.request.now.areas.now y)
+    column_merges_inside sheet a.request.now.areas.now y
 
 pub returns : goal.returns
 returns c =
@@ -55,19 +54,9 @@ returns c =
     let row_lists = a.lists.now.rows in
     let column_lists = a.lists.now.columns in
     let sides : content_sides a.request.now.settings ≡ given (sides_of c.in_ok-sides.sides) = sym c.in_ok-sides.ensures in
-    let rows =
-    subst
-    (λ (n : ℕ).
-    TitleReady c.ready_title-row_title.result n row_lists.slots.indexes.now row_lists.slots.sizes.now row_lists.merges.firsts.now row_lists.merges.lasts.now)
-    c.limit.ensures (rw c.in_memory.ensures.same at c.ready_title-row_title.ensures.title_ready) in
-    let columns =
-    subst
-    (λ (n : ℕ).
-    TitleReady c.ready_title-column_title.result n column_lists.slots.indexes.now column_lists.slots.sizes.now column_lists.merges.firsts.now
-    column_lists.merges.lasts.now)
-    c.limit-2.ensures (rw c.in_memory-2.ensures.same at c.ready_title-column_title.ensures.title_ready) in
-    let few : length row_lists.merges.firsts.now + length column_lists.merges.firsts.now < 2 ^ 64 =
-    omega (arith, c.in_memory.ensures.few, c.in_memory-2.ensures.few) in
+    let rows = c.ready_title-row_title.ensures in
+    let columns = c.ready_title-column_title.ensures in
+    let few : length row_lists.merges.firsts.now + length column_lists.merges.firsts.now < 2 ^ 64 = omega (arith, rows.few, columns.few) in
     shared_by sheet a.request.now.areas.now
     (all_yes sheet a.request.now.areas.now _ c.in_ok-plan_refusal.ensures (omega arith)) _
-    rows columns few sides refl c.ready_title-row_title.ensures.asked_value c.ready_title-column_title.ensures.asked_value
+    rows.title_ready columns.title_ready few sides refl rows.asked_value columns.asked_value

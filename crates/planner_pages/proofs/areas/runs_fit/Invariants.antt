@@ -6,5 +6,5 @@ use Rattle.planner_pages.proofs.areas.runs_fit.Given as goal
 abbrev pub invariant-loop-area : goal.invariant-loop-area
 invariant-loop-area l = record {
   within : l.area-index ≤ length l.areas;
-  held : section.runs_held (drop l.area-index l.areas) l.rows l.columns ≡ section.runs_held l.areas l.row_room l.column_room;
+  held : section.runs_held (drop l.area-index l.areas) l.rows l.columns ≡ section.runs_held l.areas l.fn.room.rows l.fn.room.columns;
 }

@@ -1,5 +1,5 @@
 -- An area at a permille is counted and, where its runs have room, written.
-use Rattle.std.proofs.Common.{◌≡◌, ℕ, ◌≤◌, ◌<◌, List, length, sym, ap, arith}
+use Rattle.std.proofs.Common.{◌≡◌, ℕ, ◌≤◌, List, Bool, true, false, ◌&&◌, leb, length, sym, ap, ◌∙◌, arith, leb-true}
 use Rattle.units.specs.Outcome.{Outcome, given, refused}
 use Rattle.planner_rules.specs.declared.planning.PrintRange.{PrintRange}
 use Rattle.planner_rules.specs.declared.planning.CountedArea.{CountedArea}
@@ -10,7 +10,8 @@ use Rattle.planner_rules.specs.Asked.{sheet_by}
 use Rattle.planner_rules.specs.Steps.{sides_in, Writable, put_at, rows_at, columns_at}
 use Rattle.planner_rules.proofs.AreaLaws.{as_long, writable, rows_put, columns_put}
 use Rattle.planner_rules.proofs.Lent.{room_runs}
-use Rattle.planner_rules.proofs.PlanLaws.{refuses_area, answers_area, rows_past, columns_past, runs_held}
+use Rattle.planner_rules.proofs.PlanLaws.{refuses_area, answers_area, runs_held}
+use Rattle.planner_rules.proofs.QuestionLaws.{both}
 use Rattle.planner.proofs.sheet_area.SheetArea.write_at.Goals as goal
 
 -- an area that was counted at a permille, and two lent lists
@@ -29,57 +30,57 @@ module _ (x : Shared) (s : Sheet) (g : PrintRange) (p : ℕ) (k : CountedArea) (
   long : (length laid.rows ≡ k.area.row_runs) × (length laid.columns ≡ k.area.column_runs)
   long = as_long x s g (scale_at p) k.area came_to
 
-  rows_refused : room_in rows < k.area.row_runs → AreaWrote room (refused 11) rows columns rows columns
-  rows_refused h = refuses_area _ 11 rows columns (rows_past laid (room_in rows) (room_in columns) (omega (arith, long)))
+  abbrev held : Bool
+  held = leb k.area.row_runs (room_in rows) && leb k.area.column_runs (room_in columns)
 
-  module _ (h : k.area.row_runs ≤ room_in rows) where
+  held_is : (leb (length laid.rows) (room_in rows) && leb (length laid.columns) (room_in columns)) ≡ held
+  held_is = rw (long.0, long.1)
+
+  no_room : held ≡ false → AreaWrote room (refused 11) rows columns rows columns
+  no_room h = refuses_area _ 11 rows columns (rw (held_is ∙ h))
+
+  module _ (h : held ≡ true) where
+    halves : (leb k.area.row_runs (room_in rows) ≡ true) × (leb k.area.column_runs (room_in columns) ≡ true)
+    halves = both (leb k.area.row_runs (room_in rows)) (leb k.area.column_runs (room_in columns)) h
+
     rows_fit : length laid.rows ≤ room_in rows
-    rows_fit = omega (arith, long)
+    rows_fit = omega (arith, long, leb-true k.area.row_runs (room_in rows) halves.0)
 
-    columns_refused : room_in columns < k.area.column_runs → AreaWrote room (refused 11) rows columns rows columns
-    columns_refused w = refuses_area _ 11 rows columns (columns_past laid (room_in rows) (room_in columns) rows_fit (omega (arith, long)))
+    columns_fit : length laid.columns ≤ room_in columns
+    columns_fit = omega (arith, long, leb-true k.area.column_runs (room_in columns) halves.1)
 
-    module _ (w : k.area.column_runs ≤ room_in columns) where
-      columns_fit : length laid.columns ≤ room_in columns
-      columns_fit = omega (arith, long)
+    can_write : Writable x s g k.area 0 0 rows columns
+    can_write =
+        writable x s g (scale_at p) k.area came_to 0 0 rows columns (omega (arith, room_runs laid.rows rows rows_fit))
+        (omega (arith, room_runs laid.columns columns columns_fit))
 
-      can_write : Writable x s g k.area 0 0 rows columns
-      can_write =
-          writable x s g (scale_at p) k.area came_to 0 0 rows columns (omega (arith, room_runs laid.rows rows rows_fit))
-          (omega (arith, room_runs laid.columns columns columns_fit))
+    answers : (rows' columns' : List ℕ) → rows' ≡ put_at (rows_at x s g k.area.permille) 0 rows
+        → columns' ≡ put_at (columns_at x s g k.area.permille) 0 columns
+        → AreaWrote room (given (record { rows = k.area.row_runs; columns = k.area.column_runs })) rows columns rows' columns'
+    answers rows' columns' put puts =
+        answers_area _ laid _ (runs_held laid (room_in rows) (room_in columns) rows_fit columns_fit)
+        (λ i. record { rows = sym long.0 i; columns = sym long.1 i }) rows columns _ _
+        (rows_put x s g (scale_at p) k.area came_to 0 rows _ put).list_is (columns_put x s g (scale_at p) k.area came_to 0 columns _ puts).list_is
 
-      answers : (rows' columns' : List ℕ) → rows' ≡ put_at (rows_at x s g k.area.permille) 0 rows
-          → columns' ≡ put_at (columns_at x s g k.area.permille) 0 columns
-          → AreaWrote room (given (record { rows = k.area.row_runs; columns = k.area.column_runs })) rows columns rows' columns'
-      answers rows' columns' put puts =
-          answers_area _ laid _ (runs_held laid (room_in rows) (room_in columns) rows_fit columns_fit)
-          (λ i. record { rows = sym long.0 i; columns = sym long.1 i }) rows columns _ _
-          (rows_put x s g (scale_at p) k.area came_to 0 rows _ put).list_is (columns_put x s g (scale_at p) k.area came_to 0 columns _ puts).list_is
-
-pub returns-then-rows-room_in : goal.returns-then-rows-room_in
-returns-then-rows-room_in c =
+pub returns-then-not-runs_held : goal.returns-then-not-runs_held
+returns-then-not-runs_held c =
     let a = c.args in
     let s = a.self.now in
-    rows_refused s.sheet.shared.now (sheet_by s.sheet.shared.now s.sheet.lists.now) s.ready.range a.permille _ c.count_at.ensures.counted a.row_runs.now
-    a.column_runs.now (omega arith)
-
-pub returns-then-columns-room_in : goal.returns-then-columns-room_in
-returns-then-columns-room_in c =
-    let a = c.args in
-    let s = a.self.now in
-    columns_refused s.sheet.shared.now (sheet_by s.sheet.shared.now s.sheet.lists.now) s.ready.range a.permille _ c.count_at.ensures.counted a.row_runs.now
-    a.column_runs.now (omega arith) (omega arith)
+    no_room s.sheet.shared.now (sheet_by s.sheet.shared.now s.sheet.lists.now) s.ready.range a.permille _ c.count_at.ensures.counted a.row_runs.now
+    a.column_runs.now (sym (rw (c.rooms_in.ensures.0, c.rooms_in.ensures.1) at c.runs_held.ensures) ∙ c.if-not-runs_held.true)
 
 pub write_by-requires-clause-writable : goal.write_by-requires-clause-writable
 write_by-requires-clause-writable c =
     let a = c.args in
     let s = a.self.now in
+    let held = sym (rw (c.rooms_in.ensures.0, c.rooms_in.ensures.1) at c.runs_held.ensures) ∙ c.if-not-runs_held.false in
     can_write s.sheet.shared.now (sheet_by s.sheet.shared.now s.sheet.lists.now) s.ready.range a.permille _ c.count_at.ensures.counted a.row_runs.now
-    a.column_runs.now (omega arith) (omega arith)
+    a.column_runs.now held
 
 pub returns : goal.returns
 returns c =
     let a = c.args in
     let s = a.self.now in
+    let held = sym (rw (c.rooms_in.ensures.0, c.rooms_in.ensures.1) at c.runs_held.ensures) ∙ c.if-not-runs_held.false in
     answers s.sheet.shared.now (sheet_by s.sheet.shared.now s.sheet.lists.now) s.ready.range a.permille _ c.count_at.ensures.counted a.row_runs.now
-    a.column_runs.now (omega arith) (omega arith) _ _ c.write_by.ensures.0 c.write_by.ensures.1
+    a.column_runs.now held _ _ c.write_by.ensures.0 c.write_by.ensures.1
