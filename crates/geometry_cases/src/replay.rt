@@ -11,7 +11,7 @@ use geometry::{Margins, PaperGeometry};
 use hexadecimal::{bits, digit};
 use job_records::{float, signed};
 use std::io;
-use std::io::{Read, Write};
+use std::io::{ErrorKind, Read, Write};
 use units::{Fixed, Refusal};
 
 // The bytes of a line with its line end.
@@ -53,11 +53,7 @@ fn write_length<W: Write>(out: &mut W, answer: Result<Fixed, Refusal>) -> io::Re
 }
 
 fn write_paper<W: Write>(out: &mut W, fields: &Fields) -> io::Result<()> {
-    let code = if fields[0] > 0 {
-        Some(small(fields[1]))
-    } else {
-        None
-    };
+    let code = (fields[0] > 0).then_some(small(fields[1]));
     let answer = geometry::paper_geometry(code, fields[2] > 0);
     let paper = answer.geometry;
     write!(out, "{} {} ", paper.paper_code, paper.width.raw())?;
@@ -134,8 +130,11 @@ fn answer<W: Write>(out: &mut W, letter: u8, fields: &Fields) -> io::Result<()> 
 pub(crate) fn answer_all<R: Read, W: Write>(input: &mut R, out: &mut W) -> io::Result<()> {
     let mut line = [0u8; LINE];
     for _ in 0..u64::MAX {
-        if input.read_exact(&mut line).is_err() {
-            break;
+        if let Err(error) = input.read_exact(&mut line) {
+            if error.kind() == ErrorKind::UnexpectedEof {
+                break;
+            }
+            return Err(error);
         }
         match fields(&line) {
             Some(fields) => answer(out, line[0], &fields)?,

@@ -1,4 +1,5 @@
-// Blocks of page lines (document 01, section "Jobs"), for a program that writes many at a time. A block has pages of one area.
+// Blocks of page lines (document 01, section "Jobs"), for a program that writes many at a time. A block has pages of one area. No `Display`,
+// as in `text.rt`.
 ghost use Rattle.std.specs.Prelude.{◌≡◌, ◌<◌, length};
 ghost use Rattle.job_report.specs.Blocks as section;
 

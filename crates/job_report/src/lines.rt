@@ -106,6 +106,9 @@ impl Text<'_> {
     }
 }
 
+// Each call below makes a `Text`, puts one thing and answers the place. No helper that takes the putting as a closure: its contract would say of
+// any closure what `LinesPut` says of these, and be longer than the two lines that it saves each of them.
+
 // The first lines of what a plan is told by, or the line of a refusal, at the start of `out`; it answers how many bytes.
 pub fn head_lines(planning: &Result<Plan, Refusal>, out: &mut [u8; 256]) -> usize
     ensures { section.LinesPut (section.head_lines (outcome planning.now)) result out.old out.new }

@@ -15,18 +15,6 @@ use planner_rules::{AreaPlan, AreaPlans, Notes, Plan, RunLists};
 use std::alloc::Global;
 use std::io::{self, Write};
 
-const NOTHING_NOTED: Notes = Notes {
-    unknown_paper: 0,
-    invalid_margins: 0,
-    scale_clamped: 0,
-    fit_unreachable: 0,
-    titles_ignored: 0,
-    titles_expanded: 0,
-    merge_expansions: 0,
-    break_shifts: 0,
-    overflowing_runs: 0,
-};
-
 fn read_area(fields: &mut Fields) -> Result<AreaPlan, Fault> {
     let (rows_empty, columns_empty) = (fields.next()?, fields.next()?);
     let (row_runs, column_runs): (u64, u64) = (fields.next()?, fields.next()?);
@@ -72,7 +60,7 @@ impl PageCase {
                 areas,
                 pages,
                 order,
-                notes: NOTHING_NOTED,
+                notes: Notes::default(),
             },
             number,
             row_runs: lent::marked_from(alloc, first_row, row_numbers, row_others)?,

@@ -165,6 +165,7 @@ impl Asked {
     }
 }
 
+// Beside `order_from` of `yuzhbani_answers`: that one takes a caller's number, and its crate is the calls' for other languages.
 pub(crate) fn page_order(over_then_down: bool) -> PageOrder {
     if over_then_down {
         PageOrder::OverThenDown

@@ -2,9 +2,7 @@
 // unreachable, the runs of rows and of columns, and whether the rows and the columns are empty. A page is `page`, the vertical and the
 // horizontal number, and both runs, with first, last, size, empty mark and manual mark.
 use planner_pages::page_numbered;
-use planner_rules::{
-    AreaPlan, Notes, Page, PageOrder, PageRun, Plan, RunLists, Tally, Title, Widened,
-};
+use planner_rules::{AreaPlan, Notes, Page, PageRun, Plan, RunLists, Tally, Title, Widened};
 use std::fmt;
 use units::Refusal;
 
@@ -75,10 +73,7 @@ impl fmt::Display for PlanText {
             order,
             notes,
         } = &self.0;
-        let order = match order {
-            PageOrder::DownThenOver => 0,
-            PageOrder::OverThenDown => 1,
-        };
+        let order = *order as u64;
         write!(
             f,
             "plan {} {pages} {order}{}",
