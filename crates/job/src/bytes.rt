@@ -11,7 +11,9 @@ use crate::wanted::{AreaRuns, PageCount, Wanted, WholePlan};
 use job_questions::Items;
 use job_reader::{JobLists, read_job};
 use job_settings::areas_for;
-use planner_rules::{AxisLists, MergeList, Plan, Request, RunCounts, Settings, SheetLists, SlotList};
+use planner_rules::{
+    AxisLists, MergeList, Plan, Request, RunCounts, Settings, SheetLists, SlotList,
+};
 use units::Refusal;
 
 // The fronts of lent lists, as long as so many items say.
