@@ -2,9 +2,8 @@
 use mathlib.Core.Path.{◌≡◌, refl, sym, ap, ap₂, ◌∙◌}
 use mathlib.Core.Bool.{Bool, true, false, cond}
 use mathlib.Core.List.{List, [], ◌∷◌}
-use Prim.Native.Nat.{ℕ, ◌+◌, ◌-◌, ◌*◌, ◌^◌, ◌≤◌, max}
+use Prim.Native.Nat.{ℕ, ◌+◌, ◌-◌, ◌≤◌, max}
 use native.Mathlib.Omega.{arith}
-use native.Mathlib.Nat.{mul-le-mul_left}
 use lib.IntN.{ℤ}
 use lib.ListN.{length, take}
 use lib.Seq.{take_all}
@@ -98,9 +97,6 @@ cut_of_lem r side a y p c e =
     e ∙ (λ i. cut_of (rs i) (n i) (o i))
 
 -- ---- the runs that are written
-
-pub few_pages : (m n : ℕ) → m ≤ 2 ^ 20 → n ≤ 2 ^ 20 → m * n ≤ 2 ^ 40
-few_pages m n h k = let a : m * n ≤ m * 2 ^ 20 = mul-le-mul_left m k in omega arith
 
 -- the breaks that are looked at
 pub looked : (fit : Bool) (bs : List ℕ) (n : ℕ) → n ≡ cond fit 0 (length bs) → take n bs ≡ looked_at fit bs

@@ -63,14 +63,6 @@ page_there order a rows columns above left before k r c e er ec =
 -- ---- an area's own page by its number, way by way
 
 module _ (order : PageOrder) (a : AreaPlan) (rows columns : List ℕ) (n : ℕ) where
-  pub area_few_rows : room_in rows < a.row_runs → refused 11 ≡ area_numbered order a rows columns n
-  unfolding area_numbered
-  area_few_rows h = rw (lt-leb a.row_runs (room_in rows) h)
-
-  pub area_few_columns : room_in columns < a.column_runs → refused 11 ≡ area_numbered order a rows columns n
-  unfolding area_numbered
-  area_few_columns h = rw (lt-leb a.column_runs (room_in columns) h, and-false (leb a.row_runs (room_in rows)))
-
   module _ (r : a.row_runs ≤ room_in rows) (c : a.column_runs ≤ room_in columns) where
     held : numbered (area_pages order a rows columns) n ≡ area_numbered order a rows columns n
     unfolding area_numbered

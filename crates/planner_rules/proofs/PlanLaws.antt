@@ -366,12 +366,6 @@ module _ (c : Sides) (s : Sheet) (areas : List PrintRange) (n p : ℕ) (rows col
 
 -- 11 of one area
 module _ (l : AreaLayout) (row_room column_room : ℕ) where
-  pub rows_past : row_room < length l.rows → area_room l row_room column_room ≡ refused 11
-  rows_past h = rw (lt-leb (length l.rows) row_room h)
-
-  pub columns_past : length l.rows ≤ row_room → column_room < length l.columns → area_room l row_room column_room ≡ refused 11
-  columns_past h k = rw (le-leb (length l.rows) row_room h, lt-leb (length l.columns) column_room k)
-
   pub runs_held : length l.rows ≤ row_room → length l.columns ≤ column_room → area_room l row_room column_room ≡ given l
   runs_held h k = rw (le-leb (length l.rows) row_room h, le-leb (length l.columns) column_room k)
 
