@@ -1,21 +1,25 @@
 -- `signed_ratio`, by the sign of the length, and that `scale_fixed` and the quotient in `unscaled_capacity` are such ratios. Assumes nothing.
-use Rattle.std.proofs.Common.{◌≡◌, ℕ, zero, suc, ◌+◌, ◌*◌, ◌/◌, ◌^◌, min, true, false, ℤ, pos, negsuc, ◌*ℤ◌, neg_ℤ, nat_abs, sym, refl, ap, ◌∙◌, true≢false}
+use Rattle.std.proofs.Common.{◌≡◌, ℕ, zero, suc, ◌+◌, ◌*◌, ◌/◌, ◌^◌, ◌<◌, true, false, ℤ, pos, negsuc, ◌*ℤ◌, neg_ℤ, nat_abs, sym, refl, ap, ◌∙◌, true≢false}
 use Rattle.std.proofs.Common.{add-zero, arith, ne_eqb}
 use native.Mathlib.Nat.{zero-div}
 use lib.Signed.{le_z, quot_z}
-use Rattle.units.specs.Outcome.{Outcome, given, and_then}
+use Rattle.units.specs.Outcome.{Outcome, given, refused, and_then}
 use Rattle.units.specs.Units.{in_i64, half_up, half_away, signed_ratio, scale_fixed, less_of, at_least_one, unscaled_capacity}
-use Rattle.units.proofs.Signs.{not_neg, cut_pos, cut_neg}
+use Rattle.units.proofs.Signs.{not_neg, outside, mag_large}
 
--- a number that was cut off above 2^63, with the sign of z
-pub ratio_pos : (z : ℤ) (k h d n : ℕ) → le_z (pos 0) z ≡ true → n ≡ min ((nat_abs z * k + h) / d) (2 ^ 63 + 1) → in_i64 (pos n) ≡ in_i64 (signed_ratio z k h d)
-ratio_pos (pos m) k h d n e q = cut_pos ((m * k + h) / d) n q
+-- a ratio with the sign of z
+pub ratio_pos : (z : ℤ) (k h d n : ℕ) → le_z (pos 0) z ≡ true → n ≡ (nat_abs z * k + h) / d → in_i64 (pos n) ≡ in_i64 (signed_ratio z k h d)
+ratio_pos (pos m) k h d n e q = ap (λ (x : ℕ). in_i64 (pos x)) q
 ratio_pos (negsuc m) k h d n e q = absurd (true≢false (sym e))
 
-pub ratio-neg : (z : ℤ) (k h d n : ℕ) → le_z (pos 0) z ≡ false → n ≡ min ((nat_abs z * k + h) / d) (2 ^ 63 + 1) → in_i64 (neg_ℤ (pos n)) ≡ in_i64
-    (signed_ratio z k h d)
+pub ratio-neg : (z : ℤ) (k h d n : ℕ) → le_z (pos 0) z ≡ false → n ≡ (nat_abs z * k + h) / d → in_i64 (neg_ℤ (pos n)) ≡ in_i64 (signed_ratio z k h d)
 ratio-neg (pos m) k h d n e q = absurd (not_neg m e)
-ratio-neg (negsuc m) k h d n e q = cut_neg ((suc m * k + h) / d) n q
+ratio-neg (negsuc m) k h d n e q = ap (λ (x : ℕ). in_i64 (neg_ℤ (pos x))) q
+
+-- a ratio that is no u64 is no i64
+pub ratio_large : (z : ℤ) (k h d : ℕ) → ((nat_abs z * k + h) / d < 2 ^ 64 → ⊥) → refused 10 ≡ in_i64 (signed_ratio z k h d)
+ratio_large (pos m) k h d n = sym (outside (signed_ratio (pos m) k h d) (omega arith))
+ratio_large (negsuc m) k h d n = sym (outside (signed_ratio (negsuc m) k h d) (mag_large ((suc m * k + h) / d) (omega arith)))
 
 halves : (x : ℕ) → (x + 500) / 1000 ≡ half_up x 1000
 halves x = omega arith

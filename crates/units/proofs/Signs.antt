@@ -1,5 +1,5 @@
 -- From ℤ to ℕ: an i64 by its sign, the machine's reading of its bits, and `in_i64`. Assumes nothing.
-use Rattle.std.proofs.Common.{◌≡◌, ℕ, zero, suc, ◌+◌, ◌^◌, ◌<◌, ◌≤◌, min, Bool, true, false, ℤ, pos, negsuc, ◌-ℤ◌, neg_ℤ, sym, refl, ap, ◌∙◌}
+use Rattle.std.proofs.Common.{◌≡◌, ℕ, zero, suc, ◌^◌, ◌<◌, ◌≤◌, Bool, true, false, ℤ, pos, negsuc, ◌-ℤ◌, neg_ℤ, sym, refl, ap, ◌∙◌}
 use Rattle.std.specs.Prelude.{Option, Some, None, Result, SomeIff, MatchOption}
 use Rattle.units.specs.declared.Fixed.{Fixed}
 use Rattle.units.specs.declared.refusal.Refusal.{Refusal}
@@ -48,18 +48,3 @@ of_none (suc n) = simp (lt-ltb 0 (suc n) (omega arith)) (ap negsuc (omega arith)
 pub mag_large : (n : ℕ) → 2 ^ 63 < n → 2 ^ 63 ≤ mag (neg_ℤ (pos n))
 mag_large zero h = omega arith
 mag_large (suc k) h = omega arith
-
--- a number that is cut off above 2^63 is in range where the whole number is
-pub cut_pos : (x n : ℕ) → n ≡ min x (2 ^ 63 + 1) → in_i64 (pos n) ≡ in_i64 (pos x)
-cut_pos x n e = by (dec_le x (2 ^ 63))
-  where
-    by : Dec (x ≤ 2 ^ 63) → in_i64 (pos n) ≡ in_i64 (pos x)
-    by (yes h) = ap (λ (k : ℕ). in_i64 (pos k)) (omega arith)
-    by (no h) = outside (pos n) (omega arith) ∙ sym (outside (pos x) (omega arith))
-
-pub cut_neg : (x n : ℕ) → n ≡ min x (2 ^ 63 + 1) → in_i64 (neg_ℤ (pos n)) ≡ in_i64 (neg_ℤ (pos x))
-cut_neg x n e = by (dec_le x (2 ^ 63))
-  where
-    by : Dec (x ≤ 2 ^ 63) → in_i64 (neg_ℤ (pos n)) ≡ in_i64 (neg_ℤ (pos x))
-    by (yes h) = let same : n ≡ x = omega arith in ap (λ (k : ℕ). in_i64 (neg_ℤ (pos k))) same
-    by (no h) = outside (neg_ℤ (pos n)) (mag_large n (omega arith)) ∙ sym (outside (neg_ℤ (pos x)) (mag_large x (omega arith)))

@@ -5,7 +5,7 @@ mod grid;
 mod margins;
 mod refusal;
 
-ghost use Rattle.std.specs.Prelude.{◌≡◌, ◌+◌, ◌*◌, ◌/◌, ◌^◌, ◌<◌, min, pos, unsigned_abs, MatchOption};
+ghost use Rattle.std.specs.Prelude.{◌≡◌, ◌+◌, ◌*◌, ◌/◌, ◌^◌, ◌<◌, unsigned_abs, MatchOption, SomeIff};
 ghost use Rattle.units.specs.Outcome.{given, refused};
 ghost use Rattle.units.specs.Units.{length_outcome, in_i64, signed_ratio, less_of, at_least_one, scale_fixed, unscaled_capacity, inches_to_fixed};
 
@@ -76,34 +76,22 @@ fn within(units: Option<i64>) -> Result<Fixed, Refusal>
 // A number below this, times a u16, and a u16 more, is below 2^63.
 const SMALL: u64 = 0x8000_0000_0000;
 
-// (m × k + h) / d, or 2^63 + 1 where it is more: where m is not small, its quotient and its remainder apart. At k of d, as at 1,000 permille, a
-// small m is not divided.
-fn ratio(m: u64, k: u16, h: u16, d: u16) -> u64
+// (m × k + h) / d, where it is a u64: where m is not small, its quotient and its remainder apart. At k of d, as at 1,000 permille, a small m is
+// not divided.
+fn ratio(m: u64, k: u16, h: u16, d: u16) -> Option<u64>
     requires { 0 < d }
-    ensures { result ≡ min ((m * k + h) / d) (2 ^ 63 + 1) }
+    ensures { SomeIff result ((m * k + h) / d < 2 ^ 64) ((m * k + h) / d) }
 {
-    let k = k as u64;
-    let d = d as u64;
-    let h = h as u64;
+    let k = u64::from(k);
+    let d = u64::from(d);
+    let h = u64::from(h);
     if m < SMALL {
         if k == d && h < d {
-            return m;
+            return Some(m);
         }
-        return (m * k + h) / d;
+        return Some((m * k + h) / d);
     }
-    if k == 0 {
-        return h / d;
-    }
-    let q = m / d;
-    if q > 0x8000_0000_0000_0000 / k {
-        return 0x8000_0000_0000_0001;
-    }
-    let n = q * k + (m % d * k + h) / d;
-    if n > 0x8000_0000_0000_0000 {
-        0x8000_0000_0000_0001
-    } else {
-        n
-    }
+    (m / d).checked_mul(k)?.checked_add((m % d * k + h) / d)
 }
 
 // (|z| × k + h) / d with the sign of z, where it is an i64
@@ -111,7 +99,7 @@ fn signed_ratio(z: i64, k: u16, h: u16, d: u16) -> Result<Fixed, Refusal>
     requires { 0 < d }
     ensures { length_outcome result ≡ in_i64 (signed_ratio z k h d) }
 {
-    let n = ratio(z.unsigned_abs(), k, h, d);
+    let n = ratio(z.unsigned_abs(), k, h, d).ok_or(Refusal::CoordinateOverflow)?;
     if z >= 0 {
         within(0i64.checked_add_unsigned(n))
     } else {
@@ -130,10 +118,7 @@ pub fn scale_fixed(size: Fixed, permille: u16) -> Result<Fixed, Refusal>
 fn at_least_one(length: Result<Fixed, Refusal>) -> Fixed
     ensures { result.0 ≡ at_least_one (length_outcome length) }
 {
-    match length {
-        Ok(l) => Fixed(l.0.max(1)),
-        Err(_) => Fixed(1),
-    }
+    length.unwrap_or(Fixed(1)).max(Fixed(1))
 }
 
 // Side × 1,000 / permille, less titles, less headings, and never under 1.
