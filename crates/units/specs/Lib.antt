@@ -3,4 +3,5 @@ pub mod Outcome
 pub mod Refusals
 pub mod Units
 pub mod Grid
+pub mod SixMargins
 mod Figures
