@@ -13,6 +13,9 @@ pub use grid::{LARGEST_SIZE, MAX_WORKSHEET_COLUMN, MAX_WORKSHEET_ROW};
 pub use margins::Margins;
 pub use refusal::Refusal;
 
+use std::fmt;
+use std::fmt::Write;
+
 // A length in units.
 #[derive(Clone, Copy, Debug, PartialEq, Eq, PartialOrd, Ord, Default)]
 pub struct Fixed(i64);
@@ -62,6 +65,13 @@ impl Fixed {
         ensures { length_outcome result ≡ less_of (less_of (given self.0) (given first.0)) (given second.0) }
     {
         self.less(first)?.less(second)
+    }
+}
+
+// Its units, as a number.
+impl fmt::Display for Fixed {
+    fn fmt<W: fmt::Write>(&self, f: &mut fmt::Formatter<W>) -> fmt::Result {
+        write!(f, "{}", self.0)
     }
 }
 

@@ -2,6 +2,9 @@
 ghost use Rattle.std.specs.Prelude.{◌≡◌};
 ghost use Rattle.units.specs.Refusals.{number_of};
 
+use std::fmt;
+use std::fmt::Write;
+
 // The question that a refused call answered with no.
 #[derive(Clone, Copy, Debug, PartialEq, Eq)]
 pub enum Refusal {
@@ -28,5 +31,12 @@ impl Refusal {
         ensures { result ≡ number_of self }
     {
         self as u8
+    }
+}
+
+// As programs print it: `no 10`.
+impl fmt::Display for Refusal {
+    fn fmt<W: fmt::Write>(&self, f: &mut fmt::Formatter<W>) -> fmt::Result {
+        write!(f, "no {}", self.number())
     }
 }
