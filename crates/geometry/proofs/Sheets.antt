@@ -1,7 +1,9 @@
 -- The code's tables of paper sizes are the definition's list of sheets, in units: one test, computed over the whole table. Assumes nothing.
-use Rattle.std.specs.Prelude.{Option, None, Some}
+use Rattle.std.specs.Prelude.{Option, None, Some, ◌==◌}
+use Rattle.std.specs.List.{find}
 use Rattle.std.proofs.Common.{◌≡◌, ℕ, ◌<◌, Bool, true, false, cond, ◌&&◌, T, eqb, List, [], ◌∷◌, get_or, ℤ, pos, negsuc, refl, ap, subst, sym, ◌∙◌, drop}
-use Rattle.std.proofs.Common.{eqb→eq, eqb-true, eq-eqb, ne_eqb, length, drop-cons, add-one, ◌+◌}
+use Rattle.std.proofs.Common.{eqb→eq, eqb-true, eq-eqb, ne_eqb}
+use borrow.Author.Tests.{eqb-false}
 use lib.Ieee.{mul, div, round, of_int}
 use lib.Ieee.Fits.{and_l, and_r}
 use Rattle.units.specs.Outcome.{Outcome, given, refused}
@@ -107,13 +109,22 @@ listed n w h e = sym (table_is n) ∙ ap (paper_of n) e
 pub unlisted : (n : ℕ) → row_of n table ≡ None → upright (resolved n sheets) ≡ given (found 1 835584 1081344 1)
 unlisted n e = sym (table_is n) ∙ ap (paper_of n) e
 
--- ---- the table, as the loop goes over it
-module _ (l : List (ℕ × ℕ × ℕ)) (r : ℕ × ℕ × ℕ) (n i : ℕ) where
-  pub hit : i < length l → looked n (drop i l) ≡ looked n l → (get_or l i r).0 ≡ n
-      → given (found n (get_or l i r).1 (get_or l i r).2 0) ≡ looked n l
-  hit h e q =
-      sym (ap (looked n) (drop-cons l i r h) ∙ rw (eq-eqb n (get_or l i r).0 (sym q)) refl) ∙ e
+-- ---- the table, as `find` goes over it
 
-  pub pass : i < length l → looked n (drop i l) ≡ looked n l → ((get_or l i r).0 ≡ n → ⊥) → looked n (drop (i + 1) l) ≡ looked n l
-  pass h e q =
-      rw (add-one) (sym (ap (looked n) (drop-cons l i r h) ∙ rw (ne_eqb n (get_or l i r).0 (λ k. q (sym k))) refl) ∙ e)
+-- the paper of a row; Letter, with a note, where there is none
+abbrev pub paper_by : Option (ℕ × ℕ × ℕ) → Outcome PaperFound
+paper_by None = given (found 1 835584 1081344 1)
+paper_by (Some r) = given (found r.0 r.1 r.2 0)
+
+pub found_by : (n : ℕ) (l : List (ℕ × ℕ × ℕ)) → paper_by (find (λ r. r.0 == n) l) ≡ looked n l
+found_by n [] = refl
+found_by n (r ∷ rest) = by (eqb r.0 n) refl (found_by n rest)
+  where
+    by : (b : Bool) → eqb r.0 n ≡ b → paper_by (find (λ k. k.0 == n) rest) ≡ looked n rest
+        → paper_by (cond (r.0 == n) (Some r) (find (λ k. k.0 == n) rest)) ≡ paper_of n (cond (eqb n r.0) (Some (r.1, r.2)) (row_of n rest))
+    by true t i =
+        let e = eqb-true r.0 n t in
+        rw (eq-eqb r.0 n e, eq-eqb n r.0 (sym e)) (ap (λ (k : ℕ). given (found k r.1 r.2 0)) e)
+    by false t i =
+        let e = eqb-false r.0 n t in
+        rw (ne_eqb r.0 n e, ne_eqb n r.0 (λ k. e (sym k))) i

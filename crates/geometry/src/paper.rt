@@ -5,6 +5,8 @@ ghost use Rattle.units.specs.Units.{length_outcome, less_of};
 ghost use Rattle.geometry.specs.Paper as Section;
 ghost use Rattle.geometry.specs.Lengths as Lengths;
 
+use std::fmt;
+use std::fmt::Write;
 use units::{Fixed, Rect, Refusal, inches_to_fixed};
 
 // A paper's code and its sides as they lie on the page.
@@ -15,7 +17,8 @@ pub struct PaperGeometry {
     pub height: Fixed,
 }
 
-// What `paper_geometry` answers: the paper, and how many codes were not known (0 or 1).
+// What `paper_geometry` answers: the paper, and how many codes were not known. A number, 0 or 1, and no bool: it is a count, which a plan's notes add
+// up and hand to C, as that of `ContentGeometry` is.
 #[derive(Clone, Copy, Debug, PartialEq, Eq)]
 pub struct Paper {
     pub geometry: PaperGeometry,
@@ -25,7 +28,7 @@ pub struct Paper {
 // Six margins in inches.
 pub type Margins = units::Margins<f64>;
 
-// Where the content, the header and the footer stand, and how many margins did not hold (0 or 1).
+// Where the content, the header and the footer stand, and how many times margins did not hold: a count of 0 or 1, as of a `Paper`.
 #[derive(Clone, Copy, Debug, PartialEq, Eq)]
 pub struct ContentGeometry {
     pub content: Rect,
@@ -34,9 +37,24 @@ pub struct ContentGeometry {
     pub invalid_margins: u64,
 }
 
-// The list of papers: each code, and its upright width and height in units.
-const SHEETS: [(u16, u32, u32); 35] = [
-    (1, 835584, 1081344),
+// Its seven numbers, the rectangle's first.
+impl fmt::Display for ContentGeometry {
+    fn fmt<W: fmt::Write>(&self, f: &mut fmt::Formatter<W>) -> fmt::Result {
+        let rect = self.content;
+        write!(f, "{} {} {} {} ", rect.x, rect.y, rect.width, rect.height)?;
+        write!(f, "{} {} {}", self.header_y, self.footer_y, self.invalid_margins)
+    }
+}
+
+// A paper's code, and its upright width and height in units.
+type Sheet = (u16, u32, u32);
+
+// What an absent code means, and one that the list does not have.
+const LETTER: Sheet = (1, 835584, 1081344);
+
+// The list of papers.
+const SHEETS: [Sheet; 35] = [
+    LETTER,
     (2, 835584, 1081344),
     (3, 1081344, 1671168),
     (4, 1671168, 1081344),
@@ -73,30 +91,25 @@ const SHEETS: [(u16, u32, u32); 35] = [
     (70, 406375, 572795),
 ];
 
-// The code that an absent one means: Letter.
-const DEFAULT_CODE: u16 = 1;
-
-// The upright paper of a code that the list has; any other resolves to 1, with a note.
+// The upright paper of a code that the list has; any other resolves to Letter, with a note.
 fn resolved(code: u16) -> Paper
     ensures { given (Section.paper_found result) ≡ Section.upright (Section.resolved code Section.sheets) }
 {
-    // A loop that returns what it finds: tried with `find`, whose contract left the sheet found unproved.
-    for (listed, width, height) in SHEETS {
-        if listed == code {
-            return upright(code, width, height, 0);
-        }
+    match SHEETS.iter().find(|sheet| sheet.0 == code) {
+        Some(sheet) => upright(*sheet, 0),
+        None => upright(LETTER, 1),
     }
-    upright(1, 835584, 1081344, 1)
 }
 
-fn upright(code: u16, width: u32, height: u32, unknown_paper: u64) -> Paper
-    ensures { Section.paper_found result ≡ record { code = code; width = pos width; height = pos height; unknown = unknown_paper } }
+fn upright(sheet: Sheet, unknown_paper: u64) -> Paper
+    ensures { Section.paper_found result ≡ record { code = sheet.0; width = pos sheet.1; height = pos sheet.2; unknown = unknown_paper } }
 {
+    let (paper_code, width, height) = sheet;
     Paper {
         geometry: PaperGeometry {
-            paper_code: code,
-            width: Fixed::from_raw(width as i64),
-            height: Fixed::from_raw(height as i64),
+            paper_code,
+            width: Fixed::from_raw(i64::from(width)),
+            height: Fixed::from_raw(i64::from(height)),
         },
         unknown_paper,
     }
@@ -124,7 +137,7 @@ fn turned(paper: Paper, landscape: bool) -> Paper
 pub fn paper_geometry(code: Option<u16>, landscape: bool) -> Paper
     ensures { given (Section.paper_found result) ≡ Section.paper_geometry code landscape }
 {
-    turned(resolved(code.unwrap_or(DEFAULT_CODE)), landscape)
+    turned(resolved(code.unwrap_or(LETTER.0)), landscape)
 }
 
 // Finite and at least 0.
@@ -137,12 +150,7 @@ fn usable(inches: f64) -> bool
 fn all_usable(m: Margins) -> bool
     ensures { result ≡ Section.all_usable m }
 {
-    usable(m.left)
-        && usable(m.right)
-        && usable(m.top)
-        && usable(m.bottom)
-        && usable(m.header)
-        && usable(m.footer)
+    m.all(usable)
 }
 
 // Whether inches, times 96, is less than a paper side in pixels: each operation rounded as f64.
@@ -182,14 +190,7 @@ const FOOTER_LINE: i64 = 16384;
 fn in_units(m: Margins) -> Result<MarginLengths, Refusal>
     ensures { Lengths.margins_outcome result ≡ Lengths.in_units m }
 {
-    Ok(MarginLengths {
-        left: inches_to_fixed(m.left)?,
-        right: inches_to_fixed(m.right)?,
-        top: inches_to_fixed(m.top)?,
-        bottom: inches_to_fixed(m.bottom)?,
-        header: inches_to_fixed(m.header)?,
-        footer: inches_to_fixed(m.footer)?,
-    })
+    m.map(inches_to_fixed).transpose()
 }
 
 // The content between six margins in units.
