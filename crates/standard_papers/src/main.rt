@@ -11,58 +11,28 @@ use units::Fixed;
 // The codes whose sizes the standard decides.
 const CODES: [u16; 5] = [12, 13, 24, 25, 26];
 
-// Writes what margins leave of a paper: where the content, the header and the footer stand, and whether the margins held. The numbers stand as
-// `geometry_cases` writes them: a library for this one line would be longer than the line.
+// Writes what margins leave of a paper: where the content, the header and the footer stand, and whether the margins held.
 fn write_content<W: Write>(
     out: &mut W,
     name: &str,
     paper: PaperGeometry,
     margins: Option<Margins>,
 ) -> io::Result<()> {
-    write!(out, "  {name}: ")?;
-    let placed = match geometry::content_geometry(paper, margins) {
-        Ok(placed) => placed,
-        Err(refusal) => return writeln!(out, "no {}", refusal.number()),
-    };
-    let rect = placed.content;
-    write!(
-        out,
-        "{} {} {} {} ",
-        rect.x.raw(),
-        rect.y.raw(),
-        rect.width.raw(),
-        rect.height.raw()
-    )?;
-    writeln!(
-        out,
-        "{} {} {}",
-        placed.header_y.raw(),
-        placed.footer_y.raw(),
-        placed.invalid_margins
-    )
+    match geometry::content_geometry(paper, margins) {
+        Ok(placed) => writeln!(out, "  {name}: {placed}"),
+        Err(refusal) => writeln!(out, "  {name}: {refusal}"),
+    }
 }
 
-fn across(left: f64, right: f64) -> Option<Margins> {
-    Some(Margins {
-        left,
-        right,
-        top: 0.0,
-        bottom: 0.0,
-        header: 0.0,
-        footer: 0.0,
-    })
-}
-
-fn along(top: f64, bottom: f64, header: f64, footer: f64) -> Option<Margins> {
-    Some(Margins {
-        left: 0.0,
-        right: 0.0,
-        top,
-        bottom,
-        header,
-        footer,
-    })
-}
+// No margin at all.
+const NONE: Margins = Margins {
+    left: 0.0,
+    right: 0.0,
+    top: 0.0,
+    bottom: 0.0,
+    header: 0.0,
+    footer: 0.0,
+};
 
 // A side and so many units more, in inches, times a number at or next to 1.
 fn inches(side: Fixed, more: f64, times: f64) -> f64 {
@@ -77,12 +47,12 @@ fn write_limits<W: Write>(
     times: f64,
 ) -> io::Result<()> {
     let half = inches(paper.width, more, times) / 2.0;
-    write_content(out, "left and right", paper, across(half, half))?;
+    write_content(out, "left and right", paper, Some(Margins { left: half, right: half, ..NONE }))?;
     let height = inches(paper.height, more, times);
     let half = height / 2.0;
-    write_content(out, "top and bottom", paper, along(half, half, 0.0, 0.0))?;
-    write_content(out, "header", paper, along(0.0, 0.0, height, 0.0))?;
-    write_content(out, "footer", paper, along(0.0, 0.0, 0.0, height))
+    write_content(out, "top and bottom", paper, Some(Margins { top: half, bottom: half, ..NONE }))?;
+    write_content(out, "header", paper, Some(Margins { header: height, ..NONE }))?;
+    write_content(out, "footer", paper, Some(Margins { footer: height, ..NONE }))
 }
 
 fn write_paper<W: Write>(out: &mut W, code: u16, landscape: bool) -> io::Result<()> {
@@ -93,12 +63,12 @@ fn write_paper<W: Write>(out: &mut W, code: u16, landscape: bool) -> io::Result<
     writeln!(
         out,
         "{} {} {}",
-        paper.width.raw(),
-        paper.height.raw(),
+        paper.width,
+        paper.height,
         answer.unknown_paper
     )?;
     write_content(out, "absent", paper, None)?;
-    write_content(out, "3.5 and 3.5 inches", paper, across(3.5, 3.5))?;
+    write_content(out, "3.5 and 3.5 inches", paper, Some(Margins { left: 3.5, right: 3.5, ..NONE }))?;
     writeln!(out, " a unit less than the side")?;
     write_limits(out, paper, -1.0, 1.0)?;
     writeln!(out, " the float below the side")?;
