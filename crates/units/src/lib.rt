@@ -12,7 +12,6 @@ ghost use Rattle.units.specs.Units.{length_outcome, in_i64, signed_ratio, less_o
 pub use grid::{LARGEST_SIZE, MAX_WORKSHEET_COLUMN, MAX_WORKSHEET_ROW};
 pub use margins::Margins;
 pub use refusal::Refusal;
-
 use std::fmt;
 use std::fmt::Write;
 
