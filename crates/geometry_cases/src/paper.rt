@@ -62,19 +62,20 @@ fn paper_figures<W: Write>(out: &mut W) -> io::Result<()> {
 }
 
 fn letter() -> PaperGeometry {
-    let answer = upright(1);
-    answer.geometry
+    upright(1).geometry
 }
 
-fn on_letter(left: f64, right: f64, top: f64, bottom: f64, header: f64, footer: f64) -> Answer {
-    let margins = Margins {
-        left,
-        right,
-        top,
-        bottom,
-        header,
-        footer,
-    };
+// No margin at all.
+const NONE: Margins = Margins {
+    left: 0.0,
+    right: 0.0,
+    top: 0.0,
+    bottom: 0.0,
+    header: 0.0,
+    footer: 0.0,
+};
+
+fn on_letter(margins: Margins) -> Answer {
     geometry::content_geometry(letter(), Some(margins))
 }
 
@@ -89,7 +90,7 @@ fn box_is(answer: Answer, x: i64, y: i64, width: i64, height: i64) -> bool {
 }
 
 fn lines_are(answer: Answer, header: i64, footer: i64) -> bool {
-    answer.is_ok_and(|placed| placed.header_y.raw() == header && placed.footer_y.raw() == footer)
+    answer.is_ok_and(|placed| placed.header_y == Fixed::from_raw(header) && placed.footer_y == Fixed::from_raw(footer))
 }
 
 fn note_is(answer: Answer, note: u64) -> bool {
@@ -113,42 +114,42 @@ fn sum_figures<W: Write>(out: &mut W) -> io::Result<()> {
     say(
         out,
         "margins 4.25 and 4.25",
-        falls_back(on_letter(4.25, 4.25, 0.0, 0.0, 0.0, 0.0)),
+        falls_back(on_letter(Margins { left: 4.25, right: 4.25, ..NONE })),
     )?;
     say(
         out,
         "margins 4.25 and 4.2499",
-        holds(on_letter(4.25, 4.2499, 0.0, 0.0, 0.0, 0.0)),
+        holds(on_letter(Margins { left: 4.25, right: 4.2499, ..NONE })),
     )?;
     say(
         out,
         "margins 5.5 over 5.5",
-        falls_back(on_letter(0.0, 0.0, 5.5, 5.5, 0.0, 0.0)),
+        falls_back(on_letter(Margins { top: 5.5, bottom: 5.5, ..NONE })),
     )?;
     say(
         out,
         "margins 5.5 over 5.4999",
-        holds(on_letter(0.0, 0.0, 5.5, 5.4999, 0.0, 0.0)),
+        holds(on_letter(Margins { top: 5.5, bottom: 5.4999, ..NONE })),
     )?;
     say(
         out,
         "header 11",
-        falls_back(on_letter(0.0, 0.0, 0.0, 0.0, 11.0, 0.0)),
+        falls_back(on_letter(Margins { header: 11.0, ..NONE })),
     )?;
     say(
         out,
         "header 10.99",
-        holds(on_letter(0.0, 0.0, 0.0, 0.0, 10.99, 0.0)),
+        holds(on_letter(Margins { header: 10.99, ..NONE })),
     )?;
     say(
         out,
         "footer 11",
-        falls_back(on_letter(0.0, 0.0, 0.0, 0.0, 0.0, 11.0)),
+        falls_back(on_letter(Margins { footer: 11.0, ..NONE })),
     )?;
     say(
         out,
         "footer 10.99",
-        lines_are(on_letter(0.0, 0.0, 0.0, 0.0, 0.0, 10.99), 0, -15401),
+        lines_are(on_letter(Margins { footer: 10.99, ..NONE }), 0, -15401),
     )?;
     Ok(())
 }
@@ -157,42 +158,42 @@ fn sign_figures<W: Write>(out: &mut W) -> io::Result<()> {
     say(
         out,
         "margins 0",
-        holds(on_letter(0.0, 0.0, 0.0, 0.0, 0.0, 0.0)),
+        holds(on_letter(NONE)),
     )?;
     say(
         out,
         "left -0",
-        holds(on_letter(-0.0, 0.0, 0.0, 0.0, 0.0, 0.0)),
+        holds(on_letter(Margins { left: -0.0, ..NONE })),
     )?;
     say(
         out,
         "left -0.1",
-        falls_back(on_letter(-0.1, 0.0, 0.0, 0.0, 0.0, 0.0)),
+        falls_back(on_letter(Margins { left: -0.1, ..NONE })),
     )?;
     say(
         out,
         "right nan",
-        falls_back(on_letter(0.0, f64::NAN, 0.0, 0.0, 0.0, 0.0)),
+        falls_back(on_letter(Margins { right: f64::NAN, ..NONE })),
     )?;
     say(
         out,
         "top -infinity",
-        falls_back(on_letter(0.0, 0.0, f64::NEG_INFINITY, 0.0, 0.0, 0.0)),
+        falls_back(on_letter(Margins { top: f64::NEG_INFINITY, ..NONE })),
     )?;
     say(
         out,
         "bottom infinity",
-        falls_back(on_letter(0.0, 0.0, 0.0, f64::INFINITY, 0.0, 0.0)),
+        falls_back(on_letter(Margins { bottom: f64::INFINITY, ..NONE })),
     )?;
     say(
         out,
         "header nan",
-        falls_back(on_letter(0.0, 0.0, 0.0, 0.0, f64::NAN, 0.0)),
+        falls_back(on_letter(Margins { header: f64::NAN, ..NONE })),
     )?;
     say(
         out,
         "footer -0.1",
-        falls_back(on_letter(0.0, 0.0, 0.0, 0.0, 0.0, -0.1)),
+        falls_back(on_letter(Margins { footer: -0.1, ..NONE })),
     )?;
     Ok(())
 }
@@ -203,10 +204,7 @@ fn below_zero() -> bool {
     let margins = Margins {
         left: float(0x3fc3_5a2a_aaaa_aaab),
         right: float(0x400f_dc82_aaaa_aaaa),
-        top: 0.0,
-        bottom: 0.0,
-        header: 0.0,
-        footer: 0.0,
+        ..NONE
     };
     let answer = geometry::content_geometry(paper.geometry, Some(margins));
     box_is(answer, 14863, 0, -1, 572795) && holds(answer)

@@ -7,9 +7,10 @@
 //     p  paper_geometry     0 absent or 1 given, code, landscape 0 or 1
 //     m  content_geometry   width, height, left, right, top, bottom, header, footer
 //     a  content_geometry   width, height; margins absent
-use geometry::{Margins, PaperGeometry};
+use geometry::{Margins, Paper, PaperGeometry};
 use hexadecimal::{bits, digit};
 use job_records::{float, signed};
+use std::fmt::Display;
 use std::io;
 use std::io::{ErrorKind, Read, Write};
 use units::{Fixed, Refusal};
@@ -45,84 +46,76 @@ fn small(bits: u64) -> u16 {
     (bits % 65536) as u16
 }
 
-fn write_length<W: Write>(out: &mut W, answer: Result<Fixed, Refusal>) -> io::Result<()> {
-    match answer {
-        Ok(length) => writeln!(out, "{}", length.raw()),
-        Err(refusal) => writeln!(out, "no {}", refusal.number()),
-    }
+// What a line asks.
+enum Case {
+    Inches { inches: f64 },
+    Capacity { side: Fixed, permille: u16, titles: Fixed, headings: Fixed },
+    Scaled { size: Fixed, permille: u16 },
+    Paper { code: Option<u16>, landscape: bool },
+    Content { paper: PaperGeometry, margins: Option<Margins> },
 }
 
-fn write_paper<W: Write>(out: &mut W, fields: &Fields) -> io::Result<()> {
-    let code = (fields[0] > 0).then_some(small(fields[1]));
-    let answer = geometry::paper_geometry(code, fields[2] > 0);
-    let paper = answer.geometry;
-    write!(out, "{} {} ", paper.paper_code, paper.width.raw())?;
-    writeln!(out, "{} {}", paper.height.raw(), answer.unknown_paper)
-}
-
-fn margins(fields: &Fields) -> Margins {
-    Margins {
-        left: float(fields[2]),
-        right: float(fields[3]),
-        top: float(fields[4]),
-        bottom: float(fields[5]),
-        header: float(fields[6]),
-        footer: float(fields[7]),
-    }
-}
-
-// The numbers of a content stand as `standard_papers` writes them: a library for this one line would be longer than the line.
-fn write_content<W: Write>(
-    out: &mut W,
-    fields: &Fields,
-    margins: Option<Margins>,
-) -> io::Result<()> {
-    let paper = PaperGeometry {
+// The paper of the first two fields, of which a content has the sides alone.
+fn paper(fields: &Fields) -> PaperGeometry {
+    PaperGeometry {
         paper_code: 0,
         width: fixed(fields[0]),
         height: fixed(fields[1]),
-    };
-    let placed = match geometry::content_geometry(paper, margins) {
-        Ok(placed) => placed,
-        Err(refusal) => return writeln!(out, "no {}", refusal.number()),
-    };
-    let rect = placed.content;
-    write!(
-        out,
-        "{} {} {} {} ",
-        rect.x.raw(),
-        rect.y.raw(),
-        rect.width.raw(),
-        rect.height.raw()
-    )?;
-    writeln!(
-        out,
-        "{} {} {}",
-        placed.header_y.raw(),
-        placed.footer_y.raw(),
-        placed.invalid_margins
-    )
+    }
 }
 
-fn capacity(fields: &Fields) -> Result<Fixed, Refusal> {
-    units::unscaled_capacity(
-        fixed(fields[0]),
-        small(fields[1]),
-        fixed(fields[2]),
-        fixed(fields[3]),
-    )
-}
-
-// Answers a line of a letter and its fields.
-fn answer<W: Write>(out: &mut W, letter: u8, fields: &Fields) -> io::Result<()> {
+// What a letter asks of its fields.
+fn asked(letter: u8, fields: &Fields) -> Option<Case> {
     match letter {
-        b'i' => write_length(out, units::inches_to_fixed(float(fields[0]))),
-        b'c' => write_length(out, capacity(fields)),
-        b's' => write_length(out, units::scale_fixed(fixed(fields[0]), small(fields[1]))),
-        b'p' => write_paper(out, fields),
-        b'm' => write_content(out, fields, Some(margins(fields))),
-        b'a' => write_content(out, fields, None),
-        _ => writeln!(out, "bad line"),
+        b'i' => Some(Case::Inches { inches: float(fields[0]) }),
+        b'c' => Some(Case::Capacity {
+            side: fixed(fields[0]),
+            permille: small(fields[1]),
+            titles: fixed(fields[2]),
+            headings: fixed(fields[3]),
+        }),
+        b's' => Some(Case::Scaled { size: fixed(fields[0]), permille: small(fields[1]) }),
+        b'p' => Some(Case::Paper {
+            code: (fields[0] > 0).then_some(small(fields[1])),
+            landscape: fields[2] > 0,
+        }),
+        b'm' => Some(Case::Content {
+            paper: paper(fields),
+            margins: Some(Margins::from_fn(|k| float(fields[2 + k]))),
+        }),
+        b'a' => Some(Case::Content { paper: paper(fields), margins: None }),
+        _ => None,
+    }
+}
+
+// The case of a line, if it is well formed.
+fn read(line: &[u8; LINE]) -> Option<Case> {
+    asked(line[0], &fields(line)?)
+}
+
+// A value, or the number of its refusal.
+fn write_answer<W: Write, T: Display + Drop>(out: &mut W, answer: Result<T, Refusal>) -> io::Result<()> {
+    match answer {
+        Ok(value) => writeln!(out, "{value}"),
+        Err(refusal) => writeln!(out, "{refusal}"),
+    }
+}
+
+fn write_paper<W: Write>(out: &mut W, answer: Paper) -> io::Result<()> {
+    let paper = answer.geometry;
+    write!(out, "{} {} ", paper.paper_code, paper.width)?;
+    writeln!(out, "{} {}", paper.height, answer.unknown_paper)
+}
+
+fn answer<W: Write>(out: &mut W, case: Case) -> io::Result<()> {
+    match case {
+        Case::Inches { inches } => write_answer(out, units::inches_to_fixed(inches)),
+        Case::Capacity { side, permille, titles, headings } => {
+            write_answer(out, units::unscaled_capacity(side, permille, titles, headings))
+        }
+        Case::Scaled { size, permille } => write_answer(out, units::scale_fixed(size, permille)),
+        Case::Paper { code, landscape } => write_paper(out, geometry::paper_geometry(code, landscape)),
+        Case::Content { paper, margins } => write_answer(out, geometry::content_geometry(paper, margins)),
     }
 }
 
@@ -136,8 +129,8 @@ pub(crate) fn answer_all<R: Read, W: Write>(input: &mut R, out: &mut W) -> io::R
             }
             return Err(error);
         }
-        match fields(&line) {
-            Some(fields) => answer(out, line[0], &fields)?,
+        match read(&line) {
+            Some(case) => answer(out, case)?,
             None => writeln!(out, "bad line")?,
         }
     }
