@@ -150,7 +150,12 @@ fn usable(inches: f64) -> bool
 fn all_usable(m: Margins) -> bool
     ensures { result ≡ Section.all_usable m }
 {
-    m.all(usable)
+    usable(m.left)
+        && usable(m.right)
+        && usable(m.top)
+        && usable(m.bottom)
+        && usable(m.header)
+        && usable(m.footer)
 }
 
 // Whether inches, times 96, is less than a paper side in pixels: each operation rounded as f64.
@@ -190,7 +195,14 @@ const FOOTER_LINE: i64 = 16384;
 fn in_units(m: Margins) -> Result<MarginLengths, Refusal>
     ensures { Lengths.margins_outcome result ≡ Lengths.in_units m }
 {
-    m.map(inches_to_fixed).transpose()
+    Ok(MarginLengths {
+        left: inches_to_fixed(m.left)?,
+        right: inches_to_fixed(m.right)?,
+        top: inches_to_fixed(m.top)?,
+        bottom: inches_to_fixed(m.bottom)?,
+        header: inches_to_fixed(m.header)?,
+        footer: inches_to_fixed(m.footer)?,
+    })
 }
 
 // The content between six margins in units.

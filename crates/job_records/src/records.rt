@@ -71,7 +71,14 @@ fn margins_at(s: &[u8]) -> MarginBits
     requires { 50 ≤ length s.now }
     ensures { result ≡ margins_at s.now }
 {
-    MarginBits::from_fn(|k| u64_at(s, 2 + 8 * k))
+    MarginBits {
+        left: u64_at(s, 2),
+        right: u64_at(s, 10),
+        top: u64_at(s, 18),
+        bottom: u64_at(s, 26),
+        header: u64_at(s, 34),
+        footer: u64_at(s, 42),
+    }
 }
 
 fn range_at(s: &[u8]) -> Range

@@ -3,5 +3,4 @@ pub mod Outcome
 pub mod Refusals
 pub mod Units
 pub mod Grid
-pub mod SixMargins
 mod Figures
