@@ -106,8 +106,8 @@ fn size_of(slots: Measured, n: usize, filling: Filling) -> u64
     total(slots.part(0, n))
 }
 
-// Writes the numbers of a run to a lent list, from `at` on, and returns the place after them. Four numbers: no struct has them, and one made for this
-// call would be taken apart by it.
+// Writes the numbers of a run to a lent list, from `at` on, and returns the place after them. Four numbers, and no `PageRun`, which also says whether
+// the body is empty: no list of runs does.
 #[inline(always)]
 fn put_run(list: &mut [u64], at: usize, first: u32, last: u32, size: u64, mark: bool) -> usize
     requires { at + 4 ≤ length list.old }
@@ -348,7 +348,9 @@ impl Cutter<'_> {
         self.write_runs(slots.part(a, e), mark_of(a), &mut list[at..])
     }
 
-    // Writes the runs of an axis to the front of a lent list and returns how many numbers they have. Its room: as at `write_empty`.
+    // Writes the runs of an axis to the front of a lent list and returns how many numbers they have. Its room: as at `write_empty`. The walk over breaks
+    // is that of `count_axis`: one walk for both, told what to do at a stretch, would have the counts' bounds, or the room and what was written, in a
+    // closure's contract.
     pub(crate) fn write_axis(self, slots: Measured, breaks: &[u32], list: &mut [u64]) -> usize
         requires room { Room (axes.axis_runs_by self slots breaks.now) list.old }
         ensures { Written (axes.axis_runs_by self.entry slots.entry breaks.now) result list.old list.new }

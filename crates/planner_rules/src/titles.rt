@@ -23,7 +23,7 @@ impl Axis {
     }
 }
 
-// A title: absent, or from a first index to a last. No `Option`: it is handed over as document 01's enum, whose names the definitions have too.
+// A title: absent, or from a first index to a last. No `Option` of a `Span`: document 01 names this enum, and that it is opened by `let .. else`.
 #[derive(Clone, Copy)]
 pub enum Title {
     Absent,
