@@ -10,11 +10,12 @@ ghost use Rattle.planner_rules.specs.Plan.{ready_frame, cut_of};
 use crate::fitted::FittedAxis;
 use crate::page::ScaledPage;
 use crate::runs::{Cutter, write_empty};
-use crate::scale::{empty_fits, excess};
+use crate::scale::empty_fits;
 use planner_cuts::final_cut;
 use planner_rules::{FinalCut, Frame};
 
 // How many runs of the final cut overflow, of what was counted: an axis without runs gets one, which does where titles plus headings do not fit.
+#[tactic(auto, using(planner_rules::proofs::EndLaws::bit_not, planner_rules::proofs::EndLaws::bit_few))]
 fn cut_overflows(page: ScaledPage, runs: usize, overflows: u64) -> u64
     ensures value { let alone = fits_side (space_of page.side) page.permille (page.side.titles + page.side.headings) in
         result ≡ cond (ltb 0 runs) overflows (cond alone 0 1) }
@@ -23,7 +24,7 @@ fn cut_overflows(page: ScaledPage, runs: usize, overflows: u64) -> u64
     if runs > 0 {
         return overflows;
     }
-    excess(empty_fits(page))
+    u64::from(!empty_fits(page))
 }
 
 // Counts the final cut of an axis, without writing it.

@@ -18,25 +18,24 @@ pub(crate) fn place_of(indexes: &[u32], limit: u64) -> usize
 
 // The cut of a break at the place p, whose boundary `held` holds.
 pub(crate) fn moved_cut(held: Option<Span>, prev: usize, p: usize, slots: Measured) -> Cut
-    ensures value { result ≡ moved held prev p slots.entry.indexes.now }
-    ensures once { result.shifted ≤ 1 }
+    ensures { result ≡ moved held prev p slots.entry.indexes.now }
 {
     let Some(span) = held else {
         return Cut {
             place: p,
-            shifted: 0,
+            shifted: false,
         };
     };
     let start = place_of(slots.indexes, u64::from(span.first));
     if start > prev {
         return Cut {
             place: start,
-            shifted: 1,
+            shifted: true,
         };
     }
     let end = place_of(slots.indexes, u64::from(span.last) + 1);
     Cut {
         place: end,
-        shifted: 1,
+        shifted: true,
     }
 }

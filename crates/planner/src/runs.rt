@@ -1,7 +1,7 @@
 // Where the slots of an axis are cut into runs: document 01, section "Runs".
-ghost use Rattle.std.specs.Prelude.{◌≡◌, false, [], ◌∷◌, ◌++◌, ◌+◌, ◌≤◌, ◌<◌, length, take, drop};
+ghost use Rattle.std.specs.Prelude.{◌≡◌, false, cond, [], ◌∷◌, ◌++◌, ◌+◌, ◌≤◌, ◌<◌, length, take, drop};
 ghost use Rattle.planner_rules.specs.Slots.{sum, below, written};
-ghost use Rattle.planner_rules.specs.Runs.{holding, filled, resumed, resumption, taken, merged, ends, run_end, expansions, first_marked};
+ghost use Rattle.planner_rules.specs.Runs.{holding, filled, resumed, resumption, taken, merged, run_end, expansions, first_marked};
 ghost use Rattle.planner_rules.specs.Runs.{placed, next_cut, stretch, axis_tally};
 ghost use Rattle.planner_rules.specs.Lent.{Room, Written, RoomAt, WrittenAt, flat};
 ghost use Rattle.planner_rules.specs.Scale.{space_of};
@@ -11,16 +11,15 @@ ghost use Rattle.planner.specs.Axes as axes;
 use crate::filling::{Filling, natural_fill, total};
 use crate::page::ScaledPage;
 use crate::places::{moved_cut, place_of};
-use crate::scale::{excess, run_fits};
+use crate::scale::run_fits;
 use crate::slots::Measured;
-use planner_cuts::{capacity_for, holding_merge, mark_of, merge_step, title_holds};
+use planner_cuts::{capacity_for, holding_merge, mark_of, merge_step};
 use planner_rules::{Cut, Frame, MergeList, RUN_NUMBERS, RunEnd, Span, Tally, Title};
 
-// Where a run ends: how many slots it has, 1 where a merge took it further, and its size.
+// Where a run ends, and its size.
 #[derive(Clone, Copy)]
 pub(crate) struct Reach {
-    pub slots: usize,
-    pub grown: u64,
+    pub end: RunEnd,
     pub size: u64,
 }
 
@@ -75,14 +74,11 @@ fn title_end(title: Title, capacity: u64, slots: Measured, n: usize) -> usize
     ensures value { result ≡ resumption title capacity n slots.entry.indexes.now slots.entry.sizes.now }
     ensures lower_bound { (n ≤ result) × (result ≤ length slots.entry.sizes.now) }
 {
-    let Title::Pair(first, last) = title else {
+    let Title::Pair(_, last) = title else {
         return n;
     };
-    let b = slots.indexes[n];
-    if first < b {
-        if b <= last {
-            return n + resumed_fill(slots.after(n), capacity, last);
-        }
+    if title.holds(slots.indexes[n]) {
+        return n + resumed_fill(slots.after(n), capacity, last);
     }
     n
 }
@@ -96,8 +92,7 @@ fn taken_slots(k: Frame, slots: Measured, n: usize) -> usize
     if n >= slots.indexes.len() {
         return n;
     }
-    let title = k.title;
-    title_end(title, k.titled, slots, n)
+    title_end(k.title, k.titled, slots, n)
 }
 
 // The size of the first n slots, which are often as many as filling took.
@@ -111,18 +106,18 @@ fn size_of(slots: Measured, n: usize, filling: Filling) -> u64
     total(slots.part(0, n))
 }
 
-// Writes the numbers of a run to a lent list, from `at` on, and returns the place after them. Four numbers: no struct has them, and one made for this
-// call would be taken apart by it.
+// Writes the numbers of a run to a lent list, from `at` on, and returns the place after them. Four numbers, and no `PageRun`, which also says whether
+// the body is empty: no list of runs does.
 #[inline(always)]
-fn put_run(list: &mut [u64], at: usize, first: u32, last: u32, size: u64, mark: u64) -> usize
+fn put_run(list: &mut [u64], at: usize, first: u32, last: u32, size: u64, mark: bool) -> usize
     requires { at + 4 ≤ length list.old }
     ensures value { result ≡ at + 4 }
-    ensures list_after { list.new ≡ take at list.old ++ written (first ∷ last ∷ size ∷ mark ∷ []) (drop at list.old) }
+    ensures list_after { list.new ≡ take at list.old ++ written (first ∷ last ∷ size ∷ cond mark 1 0 ∷ []) (drop at list.old) }
 {
     list[at] = u64::from(first);
     list[at + 1] = u64::from(last);
     list[at + 2] = size;
-    list[at + 3] = mark;
+    list[at + 3] = u64::from(mark);
     at + RUN_NUMBERS
 }
 
@@ -132,7 +127,7 @@ pub(crate) fn write_empty(first: u32, list: &mut [u64])
     requires { Room (or_empty first []) list.old }
     ensures { list.new ≡ written (flat (or_empty first [])) list.old }
 {
-    put_run(list, 0, first, first, 0, 0);
+    put_run(list, 0, first, first, 0, false);
 }
 
 // How many slots have an index below the break b, which often stands right past the last kept cut.
@@ -142,12 +137,8 @@ fn break_place(slots: Measured, prev: usize, b: u32) -> usize
 {
     let indexes = slots.indexes;
     let next = prev + 1;
-    if next < indexes.len() {
-        if indexes[prev] < b {
-            if b <= indexes[next] {
-                return next;
-            }
-        }
+    if next < indexes.len() && indexes[prev] < b && b <= indexes[next] {
+        return next;
     }
     place_of(indexes, u64::from(b))
 }
@@ -172,7 +163,10 @@ impl Cutter<'_> {
             result ≡ merged k.lo k.hi self.entry.merges.firsts.now self.entry.merges.lasts.now n indexes.now }
     {
         if n >= indexes.len() {
-            return RunEnd { slots: n, grown: 0 };
+            return RunEnd {
+                slots: n,
+                grown: false,
+            };
         }
         merge_step(indexes, n, self.holder(indexes[n]))
     }
@@ -183,9 +177,9 @@ impl Cutter<'_> {
         ensures grown_value { let merges = self.entry.merges in
             let is = slots.entry.indexes.now in
             let ss = slots.entry.sizes.now in
-            (ends result.slots result.grown ≡ run_end self.entry.frame merges.firsts.now merges.lasts.now is ss)
-            × (result.size ≡ sum (take result.slots ss)) }
-        ensures le_slots { (1 ≤ result.slots) × (result.slots ≤ length slots.entry.sizes.now) × (result.grown ≤ 1) }
+            (result.end ≡ run_end self.entry.frame merges.firsts.now merges.lasts.now is ss)
+            × (result.size ≡ sum (take result.end.slots ss)) }
+        ensures le_slots { (1 ≤ result.end.slots) × (result.end.slots ≤ length slots.entry.sizes.now) }
     {
         let k = self.frame;
         let capacity = capacity_for(k, slots.indexes[0]);
@@ -193,8 +187,7 @@ impl Cutter<'_> {
         let n = taken_slots(k, slots, filling.slots);
         let end = self.merged_end(slots.indexes, n);
         Reach {
-            slots: end.slots,
-            grown: end.grown,
+            end,
             size: size_of(slots, end.slots, filling),
         }
     }
@@ -214,11 +207,11 @@ impl Cutter<'_> {
         let mut grown = 0;
         let mut overflows = 0;
         // What is left says how far it is: an iterator over runs would hold this rest and that it shrinks in a contract of its own, for three loops.
-        while rest.sizes.len() > 0 {
-            let end = self.run_end(rest);
+        while !rest.sizes.is_empty() {
+            let Reach { end, size } = self.run_end(rest);
             runs += 1;
-            grown += end.grown;
-            overflows += excess(run_fits(page, title, rest.indexes[0], end.size));
+            grown += u64::from(end.grown);
+            overflows += u64::from(!run_fits(page, title, rest.indexes[0], size));
             rest = rest.after(end.slots);
         }
         Counted {
@@ -231,26 +224,19 @@ impl Cutter<'_> {
     // Writes the runs of a stretch to the front of a lent list, the first with the mark, and returns how many numbers they have. Its room: as at
     // `write_empty`.
     #[inline(always)]
-    fn write_runs(self, slots: Measured, mark: u64, list: &mut [u64]) -> usize
-        requires room { Room (first_marked mark (axes.runs_by self slots)) list.old }
-        ensures { Written (first_marked mark (axes.runs_by self.entry slots.entry)) result list.old list.new }
+    fn write_runs(self, slots: Measured, mark: bool, list: &mut [u64]) -> usize
+        requires room { Room (first_marked (cond mark 1 0) (axes.runs_by self slots)) list.old }
+        ensures { Written (first_marked (cond mark 1 0) (axes.runs_by self.entry slots.entry)) result list.old list.new }
     {
         let mut rest = slots;
         let mut manual = mark;
         let mut at = 0;
         // What is left says how far it is, as where runs are counted.
-        while rest.sizes.len() > 0 {
-            let end = self.run_end(rest);
+        while !rest.sizes.is_empty() {
+            let Reach { end, size } = self.run_end(rest);
             let n = end.slots;
-            at = put_run(
-                list,
-                at,
-                rest.indexes[0],
-                rest.indexes[n - 1],
-                end.size,
-                manual,
-            );
-            manual = 0;
+            at = put_run(list, at, rest.indexes[0], rest.indexes[n - 1], size, manual);
+            manual = false;
             rest = rest.after(n);
         }
         at
@@ -259,23 +245,18 @@ impl Cutter<'_> {
     // The cut of a break at the place p; the last kept one where the break is skipped.
     #[inline(always)]
     fn placed_cut(self, slots: Measured, prev: usize, p: usize) -> Cut
-        ensures value { let merges = self.entry.merges in
+        ensures { let merges = self.entry.merges in
             result ≡ placed self.entry.frame merges.firsts.now merges.lasts.now slots.entry.indexes.now prev p }
-        ensures once { result.shifted ≤ 1 }
     {
         let skipped = Cut {
             place: prev,
-            shifted: 0,
+            shifted: false,
         };
-        if p == 0 {
-            return skipped;
-        }
-        if p >= slots.indexes.len() {
+        if p == 0 || p >= slots.indexes.len() {
             return skipped;
         }
         let b = slots.indexes[p];
-        let title = self.frame.title;
-        if title_holds(title, b) {
+        if self.frame.title.holds(b) {
             return skipped;
         }
         moved_cut(self.holder(b), prev, p, slots)
@@ -287,25 +268,19 @@ impl Cutter<'_> {
         requires { prev ≤ length slots.indexes.now }
         ensures value { let merges = self.entry.merges in
             result ≡ next_cut self.entry.frame merges.firsts.now merges.lasts.now slots.entry.indexes.now prev b }
-        ensures prev_le_place { (prev ≤ result.place) × (result.place ≤ length slots.entry.indexes.now) × (result.shifted ≤ 1) }
+        ensures prev_le_place { (prev ≤ result.place) × (result.place ≤ length slots.entry.indexes.now) }
     {
         let indexes = slots.indexes;
-        if self.merges.firsts.len() == 0 {
-            if prev < indexes.len() {
-                if b <= indexes[prev] {
-                    return Cut {
-                        place: prev,
-                        shifted: 0,
-                    };
-                }
-            }
+        if self.merges.firsts.is_empty() && prev < indexes.len() && b <= indexes[prev] {
+            return Cut {
+                place: prev,
+                shifted: false,
+            };
         }
         let p = break_place(slots, prev, b);
         let Cut { place, shifted } = self.placed_cut(slots, prev, p);
-        if place > prev {
-            if place < indexes.len() {
-                return Cut { place, shifted };
-            }
+        if place > prev && place < indexes.len() {
+            return Cut { place, shifted };
         }
         Cut {
             place: prev,
@@ -338,7 +313,7 @@ impl Cutter<'_> {
             count += t.runs;
             grown += t.grown;
             overflows += t.overflows;
-            shifts += cut.shifted;
+            shifts += u64::from(cut.shifted);
             prev = next;
         }
         let t = self.count_runs(page, slots.part(prev, slots.sizes.len()));
@@ -373,7 +348,9 @@ impl Cutter<'_> {
         self.write_runs(slots.part(a, e), mark_of(a), &mut list[at..])
     }
 
-    // Writes the runs of an axis to the front of a lent list and returns how many numbers they have. Its room: as at `write_empty`.
+    // Writes the runs of an axis to the front of a lent list and returns how many numbers they have. Its room: as at `write_empty`. The walk over breaks
+    // is that of `count_axis`: one walk for both, told what to do at a stretch, would have the counts' bounds, or the room and what was written, in a
+    // closure's contract.
     pub(crate) fn write_axis(self, slots: Measured, breaks: &[u32], list: &mut [u64]) -> usize
         requires room { Room (axes.axis_runs_by self slots breaks.now) list.old }
         ensures { Written (axes.axis_runs_by self.entry slots.entry breaks.now) result list.old list.new }

@@ -1,25 +1,22 @@
 // How large a worksheet is printed: document 01, section "Scale".
-ghost use Rattle.std.specs.Prelude.{◌≡◌, false, cond, ◌&&◌, ◌+◌, ◌≤◌, ◌^◌, pos, length};
+ghost use Rattle.std.specs.Prelude.{◌≡◌, false, ◌&&◌, ◌+◌, ◌≤◌, ◌^◌, pos, length};
 ghost use Rattle.planner_rules.specs.Scale.{capacity_of, fits_side, all_fit, meets, halve, fit_scale, space_of, scale_of, titled};
 ghost use Rattle.planner_rules.specs.Scale as section;
 ghost use Rattle.planner.specs.Axes as axes;
 
 use crate::fitted::FittedAxis;
 use crate::page::ScaledPage;
-use crate::runs::Cutter;
+use crate::runs::{Cutter, Reach};
 use crate::slots::Measured;
 use planner_rules::{ChosenScale, Title};
 use planner_setup::{meets_target, middle_of};
 use units::Fixed;
 
-// So many units as a length. No titles, and no headings, are `Fixed::ZERO`, as in the Rust.
+// So many units as a length.
 fn length_of(n: u64) -> Fixed
     requires { n ≤ 2 ^ 53 }
     ensures { result.0 ≡ pos n }
 {
-    if n == 0 {
-        return Fixed::ZERO;
-    }
     Fixed::from_raw(n as i64)
 }
 
@@ -29,16 +26,13 @@ pub(crate) fn capacity_at(page: ScaledPage, titles: u64) -> u64
     ensures { result ≡ capacity_of (space_of page.side) page.permille titles }
 {
     let side = page.side;
-    let answer = units::unscaled_capacity(
+    units::unscaled_capacity(
         side.side,
         page.permille,
         length_of(titles),
         length_of(side.headings),
-    );
-    match answer {
-        Ok(capacity) => capacity.magnitude(),
-        Err(_) => 0,
-    }
+    )
+    .map_or(0, Fixed::magnitude)
 }
 
 // Whether a size, scaled and rounded, is at most the side.
@@ -60,10 +54,7 @@ fn printed(page: ScaledPage, title: Title, first: u32, size: u64) -> u64
     ensures upper_bound { result ≤ 2 ^ 53 }
 {
     let side = page.side;
-    let Title::Pair(_, last) = title else {
-        return size + side.headings;
-    };
-    if first > last {
+    if title.is_passed_by(first) {
         return size + side.titles + side.headings;
     }
     size + side.headings
@@ -85,14 +76,6 @@ pub(crate) fn empty_fits(page: ScaledPage) -> bool
     fits_side(page, page.side.titles + page.side.headings)
 }
 
-// How many runs one that fits, or does not, adds to those that overflow.
-pub(crate) fn excess(fits: bool) -> u64
-    ensures value { result ≡ cond fits 0 1 }
-    ensures upper_bound { result ≤ 1 }
-{
-    u64::from(!fits)
-}
-
 // Whether the runs of slots fit the page and meet the target: no more are cut once the answer is known.
 fn runs_pass(page: ScaledPage, cutter: Cutter, target: u16, slots: Measured) -> bool
     ensures { let rs = axes.runs_by cutter.entry slots.entry in
@@ -102,13 +85,13 @@ fn runs_pass(page: ScaledPage, cutter: Cutter, target: u16, slots: Measured) -> 
     let mut rest = slots;
     let mut count = 0;
     // What is left says how far it is, as where runs are counted; and it is asked before the next run is cut.
-    while rest.sizes.len() > 0 {
+    while !rest.sizes.is_empty() {
         count += 1;
         if !meets_target(target, count) {
             return false;
         }
-        let end = cutter.run_end(rest);
-        if !run_fits(page, title, rest.indexes[0], end.size) {
+        let Reach { end, size } = cutter.run_end(rest);
+        if !run_fits(page, title, rest.indexes[0], size) {
             return false;
         }
         rest = rest.after(end.slots);
@@ -125,7 +108,7 @@ fn fit_passes(axis: FittedAxis, permille: u16) -> bool
         side: fit.page,
         permille,
     };
-    if axis.slots.sizes.len() == 0 {
+    if axis.slots.sizes.is_empty() {
         return empty_fits(page);
     }
     let cutter = Cutter {
@@ -139,10 +122,7 @@ fn fit_passes(axis: FittedAxis, permille: u16) -> bool
 fn both_pass(rows: FittedAxis, columns: FittedAxis, permille: u16) -> bool
     ensures { result ≡ axes.both_pass rows.entry columns.entry permille }
 {
-    if !fit_passes(rows, permille) {
-        return false;
-    }
-    fit_passes(columns, permille)
+    fit_passes(rows, permille) && fit_passes(columns, permille)
 }
 
 // The halving from 100 to 1,000.

@@ -1,48 +1,35 @@
 // The merge that is used at a boundary: document 01, section "Runs".
 ghost use Rattle.std.specs.Prelude.{◌≡◌};
-ghost use Rattle.planner_rules.specs.Titles.{holds, no_merge};
-ghost use Rattle.planner_rules.specs.Runs.{earlier, nearer, holding, holding_onto};
+ghost use Rattle.planner_rules.specs.Titles.{holds};
+ghost use Rattle.planner_rules.specs.Runs.{nearer, holding, holding_onto};
 
-use planner_rules::{MergeList, Span};
+use planner_rules::{MERGE_PART, MergeList, MergeTest, Span};
 
-// So many merges are asked at once whether one of them holds a boundary.
-const PART: usize = 32;
-
-// The earlier of two pairs, by first, then last.
-#[tactic(auto, unfolding(planner_rules::specs::Runs::earlier))]
-fn earlier_of(span: Span, held: Option<Span>) -> Option<Span>
-    ensures { result ≡ earlier span.first span.last held }
-{
-    let Some(found) = held else {
-        return Some(span);
-    };
-    Some(span.min(found))
+// Whether a merge holds a boundary, asked without a branch.
+#[derive(Clone, Copy)]
+struct Holds {
+    b: u32,
 }
 
-// What holds b, of a pair and of what was found before.
-#[tactic(auto, unfolding(planner_rules::specs::Runs::nearer))]
+impl MergeTest for Holds {
+    ghost says = { λ t f l. holds f l t.b };
+
+    #[inline(always)]
+    fn says(&self, first: u32, last: u32) -> bool {
+        (first < self.b) & (self.b <= last)
+    }
+}
+
+// What holds b, of a pair and of what was found before: the earlier of both by first, then last.
+#[tactic(auto, unfolding(planner_rules::specs::Runs::nearer, planner_rules::specs::Runs::earlier))]
 fn nearer_of(span: Span, b: u32, held: Option<Span>) -> Option<Span>
     ensures { result ≡ nearer span.first span.last b held }
 {
-    if span.first < b {
-        if b <= span.last {
-            return earlier_of(span, held);
-        }
+    if span.holds(b) {
+        Some(held.map_or(span, |found| span.min(found)))
+    } else {
+        held
     }
-    held
-}
-
-// Whether no merge holds b: all are asked, so that there is no branch on what one of them answers.
-fn none_holds(merges: MergeList, b: u32) -> bool
-    ensures { result ≡ no_merge (λ f l. holds f l b) merges.entry.firsts.now merges.entry.lasts.now }
-{
-    let MergeList { firsts, lasts } = merges;
-    let mut none = true;
-    // By number: over a zip the plan of merged pairs misses its bar, for by lists its time, by the Rust's, is 20 to 30 percent above what it was.
-    for i in 0..firsts.len().min(lasts.len()) {
-        none = !((firsts[i] < b) & (b <= lasts[i])) & none;
-    }
-    none
 }
 
 // The earliest of some merges that hold b, clipped to the stretch, and of what was found before.
@@ -68,11 +55,11 @@ pub fn holding_merge(merges: MergeList, clip: Span, b: u32) -> Option<Span>
     ensures { result ≡ holding clip.first clip.last b merges.entry.firsts.now merges.entry.lasts.now }
 {
     let count = merges.firsts.len().min(merges.lasts.len());
-    let last_parts = merges.lasts[..count].rchunks(PART);
+    let last_parts = merges.lasts[..count].rchunks(MERGE_PART);
     let mut held = None;
-    for (firsts, lasts) in merges.firsts[..count].rchunks(PART).zip(last_parts) {
+    for (firsts, lasts) in merges.firsts[..count].rchunks(MERGE_PART).zip(last_parts) {
         let part = MergeList { firsts, lasts };
-        if !none_holds(part, b) {
+        if !part.none(&Holds { b }) {
             held = earliest_of(part, clip, b, held);
         }
     }

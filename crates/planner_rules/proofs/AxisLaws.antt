@@ -1,6 +1,6 @@
 -- Laws of cuts and of the runs of an axis (`specs/Runs.antt`), way by way. Assumes nothing.
 use mathlib.Core.Path.{◌≡◌, refl, sym, ap, ◌∙◌}
-use mathlib.Core.Bool.{true, false}
+use mathlib.Core.Bool.{true, false, cond}
 use mathlib.Core.List.{List, [], ◌∷◌, ◌++◌}
 use Prim.Native.Nat.{ℕ, ◌+◌, ◌≤◌, ◌<◌, min}
 use native.Mathlib.Omega.{arith}
@@ -21,24 +21,24 @@ use Rattle.planner_rules.specs.Runs.{Run, holding, expansions, cut_at, moved, pl
 use Rattle.planner_rules.specs.Runs.{first_marked, with_mark}
 
 module _ (held : Option Span) (m : Span) (prev p : ℕ) (is : List ℕ) (h : held ≡ Some m) (s : ℕ) (e : s ≡ below m.first is) where
-  pub moved_start : prev < s → cut_at s 1 ≡ moved held prev p is
+  pub moved_start : prev < s → cut_at s true ≡ moved held prev p is
   unfolding moved
   moved_start q = rw (h, ← e, lt-ltb prev s)
 
-  pub moved_past : s ≤ prev → (t : ℕ) → t ≡ through m.last is → cut_at t 1 ≡ moved held prev p is
+  pub moved_past : s ≤ prev → (t : ℕ) → t ≡ through m.last is → cut_at t true ≡ moved held prev p is
   unfolding moved
   moved_past q t e' = rw (h, ← e, ← e', le-ltb prev s)
 
 module _ (k : Frame) (fs ls is : List ℕ) (prev p : ℕ) where
-  pub placed_zero : p ≤ 0 → cut_at prev 0 ≡ placed k fs ls is prev p
+  pub placed_zero : p ≤ 0 → cut_at prev false ≡ placed k fs ls is prev p
   unfolding placed
   placed_zero h = rw (le-ltb 0 p)
 
-  pub placed_past : 0 < p → length is ≤ p → cut_at prev 0 ≡ placed k fs ls is prev p
+  pub placed_past : 0 < p → length is ≤ p → cut_at prev false ≡ placed k fs ls is prev p
   unfolding placed
   placed_past h q = rw (lt-ltb 0 p, le-ltb p (length is))
 
-  pub placed_title : 0 < p → p < length is → title_holds k.title (get_or is p 0) ≡ true → cut_at prev 0 ≡ placed k fs ls is prev p
+  pub placed_title : 0 < p → p < length is → title_holds k.title (get_or is p 0) ≡ true → cut_at prev false ≡ placed k fs ls is prev p
   unfolding placed
   placed_title h q t = rw (lt-ltb 0 p, lt-ltb p (length is), t)
 
@@ -62,7 +62,7 @@ module _ (n prev : ℕ) (c : Cut) where
 
 -- with no merges, a break that is not past the last kept cut leaves it
 pub next_stays : (k : Frame) (fs ls is : List ℕ) (prev b : ℕ) → length fs ≡ 0 → prev < length is → b ≤ get_or is prev 0
-    → cut_at prev 0 ≡ next_cut k fs ls is prev b
+    → cut_at prev false ≡ next_cut k fs ls is prev b
 unfolding next_cut placed moved holding
 next_stays k (f ∷ fs) ls is prev b none h l = absurd (omega arith)
 next_stays k [] ls is prev b none h l =
@@ -70,12 +70,12 @@ next_stays k [] ls is prev b none h l =
     let low = below_up_to b is prev h l in
     either Stays (ltb 0 p)
     (either Stays (ltb p (length is))
-    (either Stays (title_holds k.title (get_or is p 0)) (kept_low (length is) prev (cut_at prev 0) (omega arith)) (kept_low (length is) prev (cut_at p 0) low))
-    (kept_low (length is) prev (cut_at prev 0) (omega arith)))
-    (kept_low (length is) prev (cut_at prev 0) (omega arith))
+    (either Stays (title_holds k.title (get_or is p 0)) (kept_low (length is) prev (cut_at prev false) (omega arith)) (kept_low (length is) prev (cut_at p false) low))
+    (kept_low (length is) prev (cut_at prev false) (omega arith)))
+    (kept_low (length is) prev (cut_at prev false) (omega arith))
   where
     Stays : Cut → Type 0
-    Stays c = cut_at prev 0 ≡ kept (length is) prev c
+    Stays c = cut_at prev false ≡ kept (length is) prev c
 
 pub next_is : (k : Frame) (fs ls is : List ℕ) (prev b p : ℕ) (c : Cut) → p ≡ below b is → c ≡ placed k fs ls is prev p
     → kept (length is) prev c ≡ next_cut k fs ls is prev b
@@ -140,7 +140,7 @@ module _ (k : Frame) (fs ls is ss : List ℕ) (prev j : ℕ) (bs : List ℕ) whe
   axis_end h = rw (drop_of_length-le bs h)
 
   pub shifts_more : (c : Cut) → j < length bs → c ≡ next_cut k fs ls is prev (get_or bs j 0)
-      → shifts k fs ls is prev (drop j bs) ≡ c.shifted + shifts k fs ls is c.place (drop (j + 1) bs)
+      → shifts k fs ls is prev (drop j bs) ≡ cond c.shifted 1 0 + shifts k fs ls is c.place (drop (j + 1) bs)
   unfolding shifts
   shifts_more c h e = rw (e, add-one, drop-cons bs j 0)
 

@@ -1,5 +1,7 @@
 -- Laws of searches, of the title's resumption and of the merge step (`specs/Slots.antt`, `specs/Runs.antt`), way by way. Assumes nothing.
-use mathlib.Core.Path.{◌≡◌, ◌∙◌}
+use mathlib.Core.Path.{◌≡◌, ◌∙◌, refl}
+use mathlib.Core.Bool.{Bool, true, false, not, cond}
+use mir.Val.{bool_byte}
 use mathlib.Core.List.{List, [], ◌∷◌}
 use Prim.Native.Nat.{ℕ, zero, suc, ◌+◌, ◌≤◌, ◌<◌}
 use native.Mathlib.Numerals.{add-one}
@@ -16,6 +18,7 @@ use lib.Dec.{leb, ltb}
 use Rattle.planner_rules.specs.declared.runs.RunEnd.{RunEnd}
 use Rattle.planner_rules.specs.declared.runs.Frame.{Frame}
 use Rattle.planner_rules.specs.Slots.{below, through}
+use Rattle.planner_rules.specs.Titles.{holds, title_holds}
 use Rattle.planner_rules.specs.Runs.{merge_step, merged, again, resumed, resumption, filled, taken, holding}
 
 -- ---- slots below a limit
@@ -62,17 +65,17 @@ resumed_start cap last (i ∷ is) [] h k = absurd (omega arith)
 resumed_start cap last (i ∷ is) (x ∷ xs) h k = omega arith
 
 module _ (title : Title) (f l cap n : ℕ) (is ss : List ℕ) (h : title ≡ Pair f l) where
-  pub title_holds : f < get_or is n 0 → get_or is n 0 ≤ l → n + resumed cap l (part n is) (part n ss) ≡ resumption title cap n is ss
-  unfolding resumption
-  title_holds p q = rw (h, lt-ltb f (get_or is n 0), le-leb (get_or is n 0) l, rest n is, rest n ss)
+  pub goes_on : title_holds (Pair f l) (get_or is n 0) ≡ true → n + resumed cap l (part n is) (part n ss) ≡ resumption title cap n is ss
+  unfolding resumption title_holds
+  goes_on p =
+      let q : holds f l (get_or is n 0) ≡ true = p in
+      rw (h, q, rest n is, rest n ss)
 
-  pub title_before : get_or is n 0 ≤ f → n ≡ resumption title cap n is ss
-  unfolding resumption
-  title_before p = rw (h, le-ltb f (get_or is n 0))
-
-  pub title_after : f < get_or is n 0 → l < get_or is n 0 → n ≡ resumption title cap n is ss
-  unfolding resumption
-  title_after p q = rw (h, lt-ltb f (get_or is n 0), lt-leb (get_or is n 0) l)
+  pub ends_there : title_holds (Pair f l) (get_or is n 0) ≡ false → n ≡ resumption title cap n is ss
+  unfolding resumption title_holds
+  ends_there p =
+      let q : holds f l (get_or is n 0) ≡ false = p in
+      rw (h, q)
 
 -- ---- the whole run
 
@@ -108,9 +111,9 @@ through_front k (suc j) n (i ∷ is) e =
     let r : through k is ≡ j + suc n = through_front k j n is e in
     rw (r, lt-ltb 0 (j + suc n) (omega arith)) (omega arith)
 
--- a run's end is past its first slot and within the slots, and is at most one expansion
+-- a run's end is past its first slot and within the slots
 abbrev pub Within : List ℕ → RunEnd → Type 0
-Within is r = (1 ≤ r.slots) × (r.slots ≤ length is) × (r.grown ≤ 1)
+Within is r = (1 ≤ r.slots) × (r.slots ≤ length is)
 
 merge_step-within : (held : Option Span) (n : ℕ) (is : List ℕ) → 1 ≤ n → n ≤ length is → Within is (merge_step held n is)
 unfolding merge_step
@@ -123,3 +126,17 @@ pub merged_within : (lo hi : ℕ) (fs ls : List ℕ) (n : ℕ) (is : List ℕ) �
 unfolding merged
 merged_within lo hi fs ls n is h k =
     either_lt (Within is) n (length is) (λ p. merge_step-within (holding lo hi (get_or is n 0) fs ls) n is h k) (λ p. omega arith)
+
+-- ---- a flag as a number
+
+pub bit_is : (b : Bool) → bool_byte b ≡ cond b 1 0
+bit_is true = refl
+bit_is false = refl
+
+pub bit_not : (b : Bool) → bool_byte (not b) ≡ cond b 0 1
+bit_not true = refl
+bit_not false = refl
+
+pub bit_few : (b : Bool) → bool_byte b ≤ 1
+bit_few true = omega arith
+bit_few false = omega arith

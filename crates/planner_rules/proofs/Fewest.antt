@@ -159,7 +159,7 @@ unfolding title_holds
 absent_holds title i t = rw t
 
 module _ (k : Frame) (is : List ℕ) (t : k.title ≡ Absent) (prev p : ℕ) where
-  placed_at : 0 < p → p < length is → placed k [] [] is prev p ≡ cut_at p 0
+  placed_at : 0 < p → p < length is → placed k [] [] is prev p ≡ cut_at p false
   unfolding holding moved
   placed_at h q = sym (placed_moved k [] [] is prev p h q (absent_holds k.title (get_or is p 0) t))
 
@@ -169,11 +169,11 @@ module _ (k : Frame) (is : List ℕ) (t : k.title ≡ Absent) (prev p : ℕ) whe
 
   next_plain : Next prev p (length is) (kept (length is) prev (placed k [] [] is prev p)).place
   next_plain =
-      split p 0 (λ h. stays (cut_at prev 0) (sym (placed_zero k [] [] is prev p h)) (omega arith) (rw (le-ltb prev p (omega arith))))
+      split p 0 (λ h. stays (cut_at prev false) (sym (placed_zero k [] [] is prev p h)) (omega arith) (rw (le-ltb prev p (omega arith))))
       (λ h. split (length is) p
-      (λ q. stays (cut_at prev 0) (sym (placed_past k [] [] is prev p h q)) (omega arith) (rw (le-ltb p (length is) q) (and-false (ltb prev p))))
-      (λ q. split p prev (λ l. stays (cut_at p 0) (placed_at h q) l (rw (le-ltb prev p l)))
-      (λ l. inl (l, q, rw (placed_at h q) (ap (λ (d : Cut). d.place) (sym (kept_yes (length is) prev (cut_at p 0) l q)))))))
+      (λ q. stays (cut_at prev false) (sym (placed_past k [] [] is prev p h q)) (omega arith) (rw (le-ltb p (length is) q) (and-false (ltb prev p))))
+      (λ q. split p prev (λ l. stays (cut_at p false) (placed_at h q) l (rw (le-ltb prev p l)))
+      (λ l. inl (l, q, rw (placed_at h q) (ap (λ (d : Cut). d.place) (sym (kept_yes (length is) prev (cut_at p false) l q)))))))
 
 pub kept_plain : (k : Frame) (is : List ℕ) → k.title ≡ Absent → (prev : ℕ) (bs : List ℕ) → kept_cuts k [] [] is prev bs ≡ kept_breaks is prev bs
 unfolding kept_cuts kept_breaks next_cut

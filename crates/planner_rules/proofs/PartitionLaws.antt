@@ -1,6 +1,6 @@
 -- Laws of `specs/Partition.antt`'s definitions. Assumes nothing.
 use mathlib.Core.Path.{◌≡◌, refl, ◌∙◌}
-use mathlib.Core.Bool.{Bool, true, cond, ◌&&◌}
+use mathlib.Core.Bool.{Bool, true, false, cond, ◌&&◌}
 use mathlib.Core.List.{List, [], ◌∷◌}
 use Prim.Native.Nat.{ℕ, suc, ◌+◌, ◌-◌, ◌≤◌, ◌<◌}
 use native.Mathlib.Omega.{arith}
@@ -69,7 +69,7 @@ module _ (limit : ℕ) (s : AxisSetup) (is ss fs ls bs list : List ℕ) (n : ℕ
 
 -- ---- no slots
 
-none_cut : (k : Frame) (fs ls : List ℕ) (b : ℕ) → ((next_cut k fs ls [] 0 b).place ≡ 0) × ((next_cut k fs ls [] 0 b).shifted ≡ 0)
+none_cut : (k : Frame) (fs ls : List ℕ) (b : ℕ) → ((next_cut k fs ls [] 0 b).place ≡ 0) × ((next_cut k fs ls [] 0 b).shifted ≡ false)
 unfolding next_cut kept placed below
 none_cut k fs ls b = (refl, refl)
 

@@ -20,17 +20,11 @@ scale_at p c u = record { permille = p; clamp = c; unreachable = u }
 -- ---- what a run takes of a page
 
 module _ (s : Space) (title : Title) (first size : ℕ) where
-  pub printed_absent : title ≡ Absent → size + s.headings ≡ printed s title false first size
-  unfolding past_title
-  printed_absent t = rw t (omega arith)
+  pub printed_past : past_title title first ≡ true → size + s.titles + s.headings ≡ printed s title false first size
+  printed_past t = rw t refl
 
-  pub printed_past : (f l : ℕ) → title ≡ Pair f l → l < first → size + s.titles + s.headings ≡ printed s title false first size
-  unfolding past_title
-  printed_past f l t h = rw (t, lt-ltb l first h)
-
-  pub printed_before : (f l : ℕ) → title ≡ Pair f l → first ≤ l → size + s.headings ≡ printed s title false first size
-  unfolding past_title
-  printed_before f l t h = rw (t, le-ltb l first h) (omega arith)
+  pub printed_before : past_title title first ≡ false → size + s.headings ≡ printed s title false first size
+  printed_before t = rw t (omega arith)
 
 -- ---- the number of runs
 

@@ -1,6 +1,6 @@
 -- Document 01, section "Runs". Everything is said of the slots from a run's first on: is are their indexes, ss their sizes, n how many
 -- the run has so far. Merges are two lists side by side: firsts and lasts. Assumes nothing.
-use Rattle.std.specs.Prelude.{Option, Some, None, cond, List, [], ◌∷◌, ◌++◌, ℕ, zero, suc, pred, ◌+◌, ◌-◌, min, max, length, get_or, take, drop, leb, ltb}
+use Rattle.std.specs.Prelude.{Option, Some, None, Bool, true, false, cond, List, [], ◌∷◌, ◌++◌, ℕ, zero, suc, pred, ◌+◌, ◌-◌, min, max, length, get_or, take, drop, leb, ltb}
 use Rattle.planner_rules.specs.declared.titles.Title.{Title}
 use Rattle.planner_rules.specs.declared.titles.Title.TheVariants.{Absent, Pair}
 use Rattle.planner_rules.specs.declared.titles.Span.{Span}
@@ -80,20 +80,20 @@ taken k is ss = cond (ltb (filled k is ss) (length is)) (resumption k.title k.ti
 
 -- ---- the merge step
 
--- where a run ends: its slots, and 1 for an expansion
-abbrev pub ends : ℕ → ℕ → RunEnd
+-- where a run ends: its slots, and whether that is an expansion
+abbrev pub ends : ℕ → Bool → RunEnd
 ends n g = record { slots = n; grown = g }
 
 -- "a merge that holds the present b and whose first slot is past p ends the run there; otherwise the run reaches past the merge's last slot,
 -- counting one expansion if that is further. The new boundary is not tested again."
 unfoldable pub merge_step : Option Span → ℕ → List ℕ → RunEnd
-merge_step None n is = ends n 0
+merge_step None n is = ends n false
 merge_step (Some s) n is =
-    cond (ltb 0 (below s.first is)) (ends (below s.first is) 0) (cond (ltb n (through s.last is)) (ends (through s.last is) 1) (ends n 0))
+    cond (ltb 0 (below s.first is)) (ends (below s.first is) false) (cond (ltb n (through s.last is)) (ends (through s.last is) true) (ends n false))
 
 -- the run's end, where n slots were taken: if slots remain, the merge step
 unfoldable pub merged : ℕ → ℕ → List ℕ → List ℕ → ℕ → List ℕ → RunEnd
-merged lo hi fs ls n is = cond (ltb n (length is)) (merge_step (holding lo hi (get_or is n 0) fs ls) n is) (ends n 0)
+merged lo hi fs ls n is = cond (ltb n (length is)) (merge_step (holding lo hi (get_or is n 0) fs ls) n is) (ends n false)
 
 -- ---- the runs between two cuts
 
@@ -116,7 +116,7 @@ run_end k fs ls is ss = merged k.lo k.hi fs ls (taken k is ss) is
 
 -- the run at the head
 unfoldable pub run : Frame → List ℕ → List ℕ → List ℕ → List ℕ → Run
-run k fs ls is ss = run_of (run_end k fs ls is ss).slots (run_end k fs ls is ss).grown is ss
+run k fs ls is ss = run_of (run_end k fs ls is ss).slots (cond (run_end k fs ls is ss).grown 1 0) is ss
 
 -- run after run, where a run that starts at the head of the lists is `at` of them; k slots still belong to the run before
 unfoldable pub runs_by : (List ℕ → List ℕ → Run) → ℕ → List ℕ → List ℕ → List Run
@@ -136,24 +136,24 @@ expansions (r ∷ rs) = r.grown + expansions rs
 
 -- ---- manual breaks: a cut is a place among the slots
 
--- a cut, and 1 for a shift
-abbrev pub cut_at : ℕ → ℕ → Cut
+-- a cut, and whether it is shifted
+abbrev pub cut_at : ℕ → Bool → Cut
 cut_at c s = record { place = c; shifted = s }
 
 -- "If a merge holds it, the cut moves to the merge's first slot if that is past the last kept cut, else past its last slot, and a shift is
 -- counted"
 unfoldable pub moved : Option Span → ℕ → ℕ → List ℕ → Cut
-moved None prev p is = cut_at p 0
-moved (Some s) prev p is = cut_at (cond (ltb prev (below s.first is)) (below s.first is) (through s.last is)) 1
+moved None prev p is = cut_at p false
+moved (Some s) prev p is = cut_at (cond (ltb prev (below s.first is)) (below s.first is) (through s.last is)) true
 
 -- "Position 0 or the end is skipped; so is a boundary held by the title." Skipped, the cut is the last kept one.
 unfoldable pub placed : Frame → List ℕ → List ℕ → List ℕ → ℕ → ℕ → Cut
 placed k fs ls is prev p =
     cond (ltb 0 p)
     (cond (ltb p (length is))
-    (cond (title_holds k.title (get_or is p 0)) (cut_at prev 0) (moved (holding k.lo k.hi (get_or is p 0) fs ls) prev p is))
-    (cut_at prev 0))
-    (cut_at prev 0)
+    (cond (title_holds k.title (get_or is p 0)) (cut_at prev false) (moved (holding k.lo k.hi (get_or is p 0) fs ls) prev p is))
+    (cut_at prev false))
+    (cut_at prev false)
 
 -- "A cut not past the previous one, or at the end, is dropped": the last kept cut stays, and so does the shift
 unfoldable pub kept : ℕ → ℕ → Cut → Cut
@@ -187,7 +187,7 @@ axis_runs k fs ls is ss prev (b ∷ bs) =
 -- how many shifts the breaks count, from the last kept cut on
 unfoldable pub shifts : Frame → List ℕ → List ℕ → List ℕ → ℕ → List ℕ → ℕ
 shifts k fs ls is prev [] = 0
-shifts k fs ls is prev (b ∷ bs) = (next_cut k fs ls is prev b).shifted + shifts k fs ls is (next_cut k fs ls is prev b).place bs
+shifts k fs ls is prev (b ∷ bs) = cond (next_cut k fs ls is prev b).shifted 1 0 + shifts k fs ls is (next_cut k fs ls is prev b).place bs
 
 -- so many runs, expansions and shifts
 abbrev pub tallies : ℕ → ℕ → ℕ → Tally

@@ -9,7 +9,7 @@ mod runs;
 mod scale;
 mod titles;
 
-pub use lists::{AxisLists, MergeList, RunLists, SheetLists, SlotList};
+pub use lists::{AxisLists, MERGE_PART, MergeList, MergeTest, RunLists, SheetLists, SlotList};
 pub use pages::{AreaPlan, AreaPlans, Notes, Page, PageOrder, PageRun, Place, Plan, Spot};
 pub use partition::AxisSetup;
 pub use planning::{

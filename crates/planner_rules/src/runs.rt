@@ -15,18 +15,18 @@ pub struct Frame {
     pub hi: u32,
 }
 
-// Where a run ends: how many slots it has, and 1 where a merge took it further.
+// Where a run ends: how many slots it has, and whether a merge took it further.
 #[derive(Clone, Copy)]
 pub struct RunEnd {
     pub slots: usize,
-    pub grown: u64,
+    pub grown: bool,
 }
 
-// The place of a cut, and 1 where a merge moved it.
+// The place of a cut, and whether a merge moved it.
 #[derive(Clone, Copy)]
 pub struct Cut {
     pub place: usize,
-    pub shifted: u64,
+    pub shifted: bool,
 }
 
 // What an axis comes to: how many runs, expansions and shifts.

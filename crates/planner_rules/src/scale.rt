@@ -26,7 +26,8 @@ pub struct Stretch {
     pub hi: u32,
 }
 
-// An axis to be fitted: its page, its stretch, and the most runs that it may have, 0 for any number.
+// An axis to be fitted: its page, its stretch, and the most runs that it may have, 0 for any number. No `Option`: the records FW and FH write the
+// 0, and so each definition of fit reads it (`meets`).
 #[derive(Clone, Copy)]
 pub struct Fit {
     pub page: PageSide,

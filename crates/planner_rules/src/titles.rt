@@ -1,6 +1,6 @@
 // Titles: document 01, section "Titles".
 ghost use Rattle.std.specs.Prelude.{◌≡◌};
-ghost use Rattle.planner_rules.specs.Titles.{limit_of};
+ghost use Rattle.planner_rules.specs.Titles.{limit_of, holds, title_holds, past_title};
 
 use units::{MAX_WORKSHEET_COLUMN, MAX_WORKSHEET_ROW};
 
@@ -23,14 +23,38 @@ impl Axis {
     }
 }
 
-// A title: absent, or from a first index to a last.
+// A title: absent, or from a first index to a last. No `Option` of a `Span`: document 01 names this enum, and that it is opened by `let .. else`.
 #[derive(Clone, Copy)]
 pub enum Title {
     Absent,
     Pair(u32, u32),
 }
 
-// A title that the grid has or that is absent, and 1 where another one was ignored.
+impl Title {
+    // Whether the title holds the boundary b.
+    #[tactic(auto, unfolding(crate::specs::Titles::title_holds))]
+    pub fn holds(self, b: u32) -> bool
+        ensures { result ≡ title_holds self b }
+    {
+        match self {
+            Title::Absent => false,
+            Title::Pair(first, last) => Span { first, last }.holds(b),
+        }
+    }
+
+    // Whether a slot with this index lies past the title's last.
+    #[tactic(auto, unfolding(crate::specs::Titles::past_title))]
+    pub fn is_passed_by(self, index: u32) -> bool
+        ensures { result ≡ past_title self index }
+    {
+        match self {
+            Title::Absent => false,
+            Title::Pair(_, last) => index > last,
+        }
+    }
+}
+
+// A title that the grid has or that is absent, and how many notes of an ignored one: 0 or 1, a count, which the plan adds up for both axes.
 #[derive(Clone, Copy)]
 pub struct Normalized {
     pub title: Title,
@@ -44,6 +68,15 @@ pub struct Span {
     pub last: u32,
 }
 
+impl Span {
+    // Whether the pair holds the boundary b: between it and b the pair goes on.
+    pub fn holds(self, b: u32) -> bool
+        ensures { result ≡ holds self.first self.last b }
+    {
+        self.first < b && b <= self.last
+    }
+}
+
 // A title as merges widened it, and how many passes changed it.
 #[derive(Clone, Copy)]
 pub struct Expanded {
@@ -51,7 +84,7 @@ pub struct Expanded {
     pub expanded: u64,
 }
 
-// What a title comes to, and its two counts of notes.
+// What a title comes to, and its two counts of notes, which the plan adds up for both axes: `ignored` is 0 or 1.
 #[derive(Clone, Copy)]
 pub struct Widened {
     pub title: Title,

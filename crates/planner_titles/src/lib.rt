@@ -6,11 +6,10 @@ ghost use Rattle.planner_rules.specs.Titles.{body_start, limit_of, normalized, n
 ghost use Rattle.units.specs.Refusals.{outcome};
 
 use planner_questions::{all_within, pairs_ordered};
-use planner_rules::{Axis, Expanded, MergeList, Normalized, Span, Title, Widened};
+use planner_rules::{
+    Axis, Expanded, MERGE_PART, MergeList, MergeTest, Normalized, Span, Title, Widened,
+};
 use units::Refusal;
-
-// So many merges are asked at once whether one of them widens a title.
-const PART: usize = 32;
 
 // The title, unless its first is above its last or its last beyond the limit.
 #[tactic(auto, unfolding(planner_rules::specs::Titles::normalized))]
@@ -23,13 +22,8 @@ fn normalize_repeat(title: Title, limit: u32) -> Normalized
             ignored: 0,
         };
     };
-    if first <= last {
-        if last <= limit {
-            return Normalized {
-                title: Title::Pair(first, last),
-                ignored: 0,
-            };
-        }
+    if first <= last && last <= limit {
+        return Normalized { title, ignored: 0 };
     }
     Normalized {
         title: Title::Absent,
@@ -42,38 +36,37 @@ fn normalize_repeat(title: Title, limit: u32) -> Normalized
 fn widen_to(span: Span, first: u32, last: u32) -> Span
     ensures { result ≡ widen_to span first last }
 {
-    if first <= span.last {
-        if last >= span.first {
-            return Span {
-                first: span.first.min(first),
-                last: span.last.max(last),
-            };
-        }
+    if first <= span.last && span.first <= last {
+        return Span {
+            first: span.first.min(first),
+            last: span.last.max(last),
+        };
     }
     span
 }
 
-// Whether no merge of these widens the span: all are asked, so that there is no branch on what one of them answers.
-fn none_widens(span: Span, merges: MergeList) -> bool
-    ensures { result ≡ no_merge (widens span) merges.entry.firsts.now merges.entry.lasts.now }
-{
-    let Span { first, last } = span;
-    let MergeList { firsts, lasts } = merges;
-    let mut none = true;
-    // By number: over a zip, which ends where either list does, the machine asks one merge at a time and takes twice as long.
-    for i in 0..firsts.len().min(lasts.len()) {
-        let f = firsts[i];
-        let l = lasts[i];
-        none = !((f <= last) & ((first <= l) & !((first <= f) & (l <= last)))) & none;
+// Whether a merge widens a span, asked without a branch.
+#[derive(Clone, Copy)]
+struct Widens {
+    span: Span,
+}
+
+impl MergeTest for Widens {
+    ghost says = { λ t. widens t.span };
+
+    #[inline(always)]
+    fn says(&self, first: u32, last: u32) -> bool {
+        let span = self.span;
+        (first <= span.last)
+            & ((span.first <= last) & !((span.first <= first) & (last <= span.last)))
     }
-    none
 }
 
 // What a part of the merges makes of the span.
 fn widen_by_part(span: Span, merges: MergeList) -> Span
     ensures { result ≡ pass merges.entry.firsts.now merges.entry.lasts.now span }
 {
-    if none_widens(span, merges) {
+    if merges.none(&Widens { span }) {
         return span;
     }
     let mut wide = span;
@@ -92,7 +85,10 @@ fn expand_repeat_for_merges(asked: Span, merges: MergeList) -> Expanded
     // A `loop`, as document 01 has it: that a pass was the last is known once it is over.
     let title = loop {
         let previous = span;
-        let parts = merges.firsts.chunks(PART).zip(merges.lasts.chunks(PART));
+        let parts = merges
+            .firsts
+            .chunks(MERGE_PART)
+            .zip(merges.lasts.chunks(MERGE_PART));
         for (firsts, lasts) in parts {
             span = widen_by_part(span, MergeList { firsts, lasts });
         }
@@ -133,10 +129,7 @@ pub fn widened_title(limit: u32, title: Title, merges: MergeList) -> Widened
 pub fn widen_title(axis: Axis, title: Title, merges: MergeList) -> Result<Widened, Refusal>
     ensures { outcome result ≡ widen_title (limit_of axis) title merges.entry.firsts.now merges.entry.lasts.now }
 {
-    if merges.firsts.len() != merges.lasts.len() {
-        return Err(Refusal::MalformedLists);
-    }
-    if !pairs_ordered(merges) {
+    if merges.firsts.len() != merges.lasts.len() || !pairs_ordered(merges) {
         return Err(Refusal::MalformedLists);
     }
     let limit = axis.limit();
@@ -151,13 +144,8 @@ pub fn widen_title(axis: Axis, title: Title, merges: MergeList) -> Result<Widene
 pub fn body_start(title: Title, first: u32) -> u64
     ensures { result ≡ body_start title first }
 {
-    let Title::Pair(from, to) = title else {
-        return u64::from(first);
-    };
-    if from <= first {
-        if first <= to {
-            return u64::from(to) + 1;
-        }
+    match title {
+        Title::Pair(from, to) if from <= first && first <= to => u64::from(to) + 1,
+        _ => u64::from(first),
     }
-    u64::from(first)
 }

@@ -1,41 +1,25 @@
--- The slot before those that the loop passed decides.
-use Rattle.std.proofs.Common.{ℕ, List, [], ◌∷◌, ◌++◌, ◌≡◌, ◌+◌, ◌≤◌, ◌<◌, length, ap, ◌∙◌, append_assoc, append-nil, refl, arith, rules}
-use Rattle.std.proofs.Math.Seq.{drop-append_seam}
-use borrow.Author.Tests.{le-leb, lt-leb}
+-- Past the last slot at or below the index none is, and up to it all are counted.
+use Rattle.std.proofs.Common.{ℕ, zero, suc, List, [], ◌∷◌, ◌≡◌, ◌+◌, ◌≤◌, ◌<◌, length, get_or, refl, sym, arith, rules}
+use borrow.Author.Tests.{le-leb, lt-leb, lt-ltb}
 use Rattle.planner_rules.specs.Slots.{through}
-use Rattle.planner_rules.proofs.EndLaws.{through_front}
 use Rattle.planner_cuts.proofs.slots_through.Goals as goal
 
-module _ (k x : ℕ) (is rs ts ps : List ℕ) (e : is ≡ rs ++ ps) (f : rs ≡ ts ++ (x ∷ [])) where
-  one_back : is ≡ ts ++ (x ∷ ps)
-  one_back = rw (e, f) (append_assoc ts (x ∷ []) ps)
-
-  found : (n : ℕ) → through k ps ≡ 0 → x ≤ k → n ≡ length ts → n + 1 ≡ through k is
-  unfolding through
-  found n z h m =
-      let hit : through k (x ∷ ps) ≡ 1 = rw (z, le-leb x k h) refl in
-      let all = through_front k (length ts) 0 (ts ++ (x ∷ ps)) (ap (through k) (drop-append_seam {A = ℕ} ts (x ∷ ps)) ∙ hit) in
-      rw one_back (omega (arith, all, m))
-
-  missed : through k ps ≡ 0 → k < x → through k (x ∷ ps) ≡ 0
-  unfolding through
-  missed z h = rw (z, lt-leb x k h) refl
-
-pub loop-n-init : goal.loop-n-init
+none_through : (k : ℕ) (is : List ℕ) → ((j : ℕ) → j < length is → k < get_or is j 0) → through k is ≡ 0
 unfolding through
-loop-n-init c = (search rules, ([], search (rules, append-nil), refl))
+none_through k [] h = refl
+none_through k (i ∷ is) h = rw (none_through k is (λ j p. h (suc j) (omega arith)), lt-leb i k (h 0 (omega arith))) refl
 
-pub returns-then-index-last-clause-value : goal.returns-then-index-last-clause-value
-returns-then-index-last-clause-value c =
-    let i = c.loop-n.invariant in
-    let s = c.in-Some.ensures.steps in
-    found c.args.last c.in-Some.index.now c.args.indexes.now _ _ i.1.0 i.1.1 s.1.0 c.in-Some.n i.1.2 (omega arith) (omega (arith, s.1.1, i.0))
+last_through : (k n : ℕ) (is : List ℕ) → n < length is → get_or is n 0 ≤ k → ((j : ℕ) → n + 1 ≤ j → j < length is → k < get_or is j 0)
+    → through k is ≡ n + 1
+unfolding through
+last_through k n [] h l m = absurd (omega arith)
+last_through k zero (i ∷ is) h l m = rw (none_through k is (λ j p. m (suc j) (omega arith) (omega arith)), le-leb i k l) refl
+last_through k (suc n) (i ∷ is) h l m =
+    let r : through k is ≡ n + 1 = last_through k n is (omega arith) l (λ j p q. m (suc j) (omega arith) (omega arith)) in
+    rw (r, lt-ltb 0 (n + 1) (omega arith)) (omega arith)
 
-pub loop-n-preserved : goal.loop-n-preserved
-loop-n-preserved c =
-    let i = c.loop-n.invariant in
-    let s = c.in-Some.ensures.steps in
-    let x = c.in-Some.index.now in
-    let is = c.args.indexes.now in
-    let back = one_back c.args.last x is _ _ i.1.0 i.1.1 s.1.0 in
-    (s.0 ∙ i.0, (x ∷ i.1.0, back, missed c.args.last x is _ _ i.1.0 i.1.1 s.1.0 i.1.2 (omega arith)))
+pub returns-in-Some-clause-value : goal.returns-in-Some-clause-value
+returns-in-Some-clause-value c = sym (last_through c.args.last c.in-Some.n c.args.indexes.now (search rules) (search rules) (search rules))
+
+pub returns-in-None-clause-value : goal.returns-in-None-clause-value
+returns-in-None-clause-value c = sym (none_through c.args.last c.args.indexes.now (search rules))

@@ -5,9 +5,9 @@ use Rattle.planner_rules.specs.Titles.{pass}
 use Rattle.planner_rules.proofs.TitleLaws.{pass_over, pass_none}
 use Rattle.planner_titles.proofs.widen_by_part.Goals as goal
 
-pub returns-then-none_widens : goal.returns-then-none_widens
-returns-then-none_widens c =
-    sym (pass_none c.args.span c.args.merges.firsts.now c.args.merges.lasts.now (sym c.none_widens.ensures ∙ c.if-none_widens.true))
+pub returns-then-none : goal.returns-then-none
+returns-then-none c =
+    sym (pass_none c.args.span c.args.merges.firsts.now c.args.merges.lasts.now (sym c.none.ensures ∙ c.if-none.true))
 
 pub loop-first-preserved : goal.loop-first-preserved
 unfolding pass

@@ -21,8 +21,8 @@ loop-firsts-init c =
       ([], [], sym f ∙ sym (append-nil _), sym l ∙ sym (append-nil _), refl),
     )
 
-pub loop-firsts-preserved-then-not-none_holds : goal.loop-firsts-preserved-then-not-none_holds
-loop-firsts-preserved-then-not-none_holds c =
+pub loop-firsts-preserved-then-not-none : goal.loop-firsts-preserved-then-not-none
+loop-firsts-preserved-then-not-none c =
     let a = c.args in
     let i = c.loop-firsts.invariant in
     let s = c.in-Some.ensures.steps in
@@ -41,7 +41,7 @@ loop-firsts-preserved c =
     let p = c.in-Some.firsts.now in
     let q = c.in-Some.lasts.now in
     let even = parts_even _ _ _ _ _ _ p q i.0 i.1 i.2 s.0.1.0 s.0.1.1 s.1.1.0 s.1.1.1 in
-    let free = onto_free a.clip.first a.clip.last a.b c.loop-firsts.held p q (sym c.none_holds.ensures ∙ c.if-not-none_holds.false) in
+    let free = onto_free a.clip.first a.clip.last a.b c.loop-firsts.held p q (sym c.none.ensures ∙ c.if-not-none.false) in
     let onto = holding_onto a.clip.first a.clip.last a.b p q in
     let held = sym free ∙ ap onto i.3.4 ∙ holding_append a.clip.first a.clip.last a.b p q i.3.0 i.3.1 even.0 in
     (s.0.0 ∙ i.0, s.1.0 ∙ i.1, even.1, (p ++ i.3.0, q ++ i.3.1, one_part _ _ _ _ _ i.3.2 s.0.1.0, one_part _ _ _ _ _ i.3.3 s.1.1.0, held))

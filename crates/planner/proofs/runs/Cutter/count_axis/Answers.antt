@@ -9,6 +9,7 @@ use Rattle.planner_rules.specs.Pages.{overflowing}
 use Rattle.planner_rules.proofs.AxisLaws.{stretch_length, stretch_expansions, axis_more, axis_end, shifts_more, shifts_end, expansions-append}
 use Rattle.planner_rules.proofs.OverflowLaws.{stretch_overflowing, overflowing_append}
 use Rattle.planner_rules.proofs.Laws.{length-mid}
+use Rattle.planner_rules.proofs.EndLaws.{bit_is, bit_few}
 use Rattle.planner.proofs.runs.Cutter.count_axis.Goals as goal
 
 -- how many of some runs exceed their page
@@ -52,7 +53,7 @@ loop-b-preserved c =
       omega (arith, t.ensures.bounds.0, ap length c.part.ensures.sizes_are, len, inside.0, l.invariant.1),
       omega (arith, t.ensures.bounds.1, ap length c.part.ensures.sizes_are, len, inside.0, l.invariant.2),
       omega (arith, t.ensures.bounds.2, ap length c.part.ensures.sizes_are, len, inside.0, l.invariant.3),
-      omega (arith, inside.2, l.invariant.4),
+      omega (arith, c.from-shifts.ensures, bit_few cut.result.shifted, l.invariant.4),
       omega (arith, ap length more, length-append here there, counts.0, l.invariant.5),
       omega (arith, ap expansions more, expansions-append here there, counts.1, l.invariant.6),
       omega (
@@ -62,7 +63,7 @@ loop-b-preserved c =
         counts.2,
         l.invariant.7,
       ),
-      omega (arith, shifted, l.invariant.8),
+      omega (arith, shifted, c.from-shifts.ensures ∙ bit_is _, l.invariant.8),
     )
 
 pub returns-clause-counts : goal.returns-clause-counts

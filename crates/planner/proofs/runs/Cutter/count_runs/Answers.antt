@@ -1,5 +1,5 @@
 -- A turn counts the run at the head, and whether it exceeds its page.
-use Rattle.std.proofs.Common.{◌≡◌, Bool, false, cond, ℕ, List, ◌∷◌, length, get_or, take, sym, ap, ◌∙◌, arith}
+use Rattle.std.proofs.Common.{◌≡◌, Bool, false, not, cond, ℕ, List, ◌∷◌, length, get_or, take, sym, ap, ◌∙◌, arith, rules, tests}
 use Rattle.planner_rules.specs.declared.runs.RunEnd.{RunEnd}
 use Rattle.planner_rules.specs.Slots.{sum}
 use Rattle.planner_rules.specs.Runs.{Run, run, runs, expansions}
@@ -7,13 +7,14 @@ use Rattle.planner_rules.specs.Scale.{fits_side, printed, space_of}
 use Rattle.planner_rules.specs.Pages.{overflowing}
 use Rattle.planner_rules.proofs.Laws.{part, length_part, small-take, turn, none}
 use Rattle.planner_rules.proofs.TitleLaws.{small-sum}
+use Rattle.planner_rules.proofs.EndLaws.{bit_is, bit_not, bit_few}
 use Rattle.planner.proofs.runs.Cutter.count_runs.Goals as goal
 
 pub run_fits-requires : goal.run_fits-requires
 run_fits-requires c =
     let l = c.loop-rest in
-    let e = c.run_end-end in
-    let n = e.result.slots in
+    let e = c.run_end-size in
+    let n = e.result.end.slots in
     omega (arith, e.ensures.grown_value.1, small-sum (take n l.rest.sizes.now) (small-take n l.rest.sizes.now e.ensures.le_slots.1 l.rest.are.small))
 
 pub loop-rest-preserved : goal.loop-rest-preserved
@@ -24,8 +25,8 @@ loop-rest-preserved c =
     let k = a.self.frame in
     let fs = a.self.merges.firsts.now in
     let ls = a.self.merges.lasts.now in
-    let e = c.run_end-end in
-    let n = e.result.slots in
+    let e = c.run_end-size in
+    let n = e.result.end.slots in
     let is = l.rest.indexes.now in
     let ss = l.rest.sizes.now in
     let page = space_of a.page.side in
@@ -33,17 +34,17 @@ loop-rest-preserved c =
     let rest = c.after-rest.ensures in
     let left : runs k fs ls c.after-rest.result.indexes.now c.after-rest.result.sizes.now ≡ runs k fs ls (part n is) (part n ss) =
     λ i. runs k fs ls (rest.indexes_are i) (rest.sizes_are i) in
-    let t = turn (run k fs ls) n is ss l.rest.are c.loop-rest-test.true (ap (λ (r : RunEnd). r.slots) e.ensures.grown_value.0)
+    let t = turn (run k fs ls) n is ss l.rest.are (search (rules, tests)) (ap (λ (r : RunEnd). r.slots) e.ensures.grown_value.0)
     e.ensures.le_slots.0 ∙ ap (λ (rs : List Run). run k fs ls is ss ∷ rs) (sym left) in
     let size_is = e.ensures.grown_value.1 ∙ ap (λ (r : RunEnd). sum (take r.slots ss)) e.ensures.grown_value.0 in
     let fitting = λ (m : ℕ). fits_side page a.page.permille (printed page k.title false (get_or is 0 0) m) in
-    let exceeds = c.excess-overflows.ensures.value ∙ ap (λ (b : Bool). cond {A = ℕ} b 0 1) (c.run_fits.ensures ∙ ap fitting size_is) in (
+    let exceeds = c.from-overflows.ensures ∙ bit_not _ ∙ ap (λ (b : Bool). cond {A = ℕ} b 0 1) (c.run_fits.ensures ∙ ap fitting size_is) in (
       omega (arith, ap length t, l.invariant.0),
-      omega (arith, ap expansions t, ap (λ (r : RunEnd). r.grown) e.ensures.grown_value.0, l.invariant.1),
+      omega (arith, ap expansions t, ap (λ (r : RunEnd). cond {A = ℕ} r.grown 1 0) e.ensures.grown_value.0, c.from-grown.ensures ∙ bit_is _, l.invariant.1),
       omega (arith, ap exceeding t, exceeds, l.invariant.2),
-      omega (arith, ap length rest.sizes_are, length_part n ss, e.ensures.le_slots.0, e.ensures.le_slots.1, l.invariant.3),
-      omega (arith, e.ensures.le_slots.2, l.invariant.4),
-      omega (arith, c.excess-overflows.ensures.upper_bound, l.invariant.5),
+      omega (arith, ap length rest.sizes_are, length_part n ss, e.ensures.le_slots, l.invariant.3),
+      omega (arith, c.from-grown.ensures, bit_few e.result.end.grown, l.invariant.4),
+      omega (arith, c.from-overflows.ensures, bit_few (not c.run_fits.result), l.invariant.5),
     )
 
 pub returns-clause-counts : goal.returns-clause-counts
@@ -55,5 +56,5 @@ returns-clause-counts c =
     let fs = a.self.merges.firsts.now in
     let ls = a.self.merges.lasts.now in
     let exceeding = λ (rs : List Run). overflowing (space_of a.page.side) k.title a.page.permille false rs in
-    let z = none (run k fs ls) l.rest.indexes.now l.rest.sizes.now c.loop-rest-test.false in
+    let z = none (run k fs ls) l.rest.indexes.now l.rest.sizes.now (search (rules, tests)) in
     (omega (arith, ap length z), omega (arith, ap expansions z), omega (arith, ap exceeding z))

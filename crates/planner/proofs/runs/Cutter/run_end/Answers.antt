@@ -32,4 +32,4 @@ pub returns-clause-le_slots : goal.returns-clause-le_slots
 returns-clause-le_slots c =
     let t = c.args.self in
     let w = within t.frame t.merges.firsts.now t.merges.lasts.now _ c.args.slots.indexes.now _ c.merged_end-end.ensures (omega arith) (omega arith) in
-    (w.0, omega (arith, w.1, c.args.slots.are.even), w.2)
+    (w.0, omega (arith, w.1, c.args.slots.are.even))

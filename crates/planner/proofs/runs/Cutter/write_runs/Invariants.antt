@@ -1,13 +1,13 @@
 -- What is written, and the runs of the slots that are left, are all.
-use Rattle.std.proofs.Common.{length}
+use Rattle.std.proofs.Common.{cond, length}
 use Rattle.planner_rules.specs.Runs.{runs, first_marked}
 use Rattle.planner_rules.proofs.Lent.{Writing}
 use Rattle.planner.proofs.runs.Cutter.write_runs.Given as goal
 
 abbrev pub invariant-loop-rest : goal.invariant-loop-rest
 invariant-loop-rest l =
-    Writing (first_marked l.mark (runs l.self.frame l.self.merges.firsts.now l.self.merges.lasts.now l.slots.indexes.now l.slots.sizes.now)) l.initial.list l.at
-    (first_marked l.manual (runs l.self.frame l.self.merges.firsts.now l.self.merges.lasts.now l.rest.indexes.now l.rest.sizes.now)) l.list
+    Writing (first_marked (cond l.mark 1 0) (runs l.self.frame l.self.merges.firsts.now l.self.merges.lasts.now l.slots.indexes.now l.slots.sizes.now)) l.initial.list l.at
+    (first_marked (cond l.manual 1 0) (runs l.self.frame l.self.merges.firsts.now l.self.merges.lasts.now l.rest.indexes.now l.rest.sizes.now)) l.list
 
 abbrev pub decreases-loop-rest : goal.decreases-loop-rest
 decreases-loop-rest l = length l.rest.sizes.now
