@@ -9,7 +9,7 @@ ghost use Rattle.planner_rules.specs.Plan as call;
 ghost use Rattle.planner_rules.specs.Asked.{sheet_asked};
 ghost use Rattle.planner_rules.specs.Partition as partition;
 
-use planner_areas::cells_hold;
+use planner_areas::{cells_hold, is_upright};
 use planner_rules::{
     AxisSetup, MergeList, PrintRange, RUN_NUMBERS, Request, RunCounts, SheetLists, SlotList,
 };
@@ -99,9 +99,7 @@ pub fn all_small(sizes: &[u64]) -> bool
 fn all_upright(areas: &[PrintRange]) -> bool
     ensures { result ≡ every_area upright areas.now }
 {
-    areas.iter().all(|range| {
-        (range.first_row <= range.last_row) & (range.first_column <= range.last_column)
-    })
+    areas.iter().all(|range| is_upright(*range))
 }
 
 // 7 of the areas: each last cell is in the grid.

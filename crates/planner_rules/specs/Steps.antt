@@ -1,6 +1,6 @@
 -- What the private functions of the plan calls hand to each other: what all areas share, an area that is ready, counted areas, and runs that are
 -- written area by area. Assumes nothing.
-use Rattle.std.specs.Prelude.{◌≡◌, Result, Ok, Err, List, [], ◌∷◌, ◌++◌, map, ℕ, ◌+◌, ◌*◌, ◌^◌, ◌≤◌, ◌<◌, max, length, get_or, take, drop}
+use Rattle.std.specs.Prelude.{◌≡◌, Result, Ok, Err, List, [], ◌∷◌, ◌++◌, map, ℕ, ◌+◌, ◌*◌, ◌^◌, ◌≤◌, ◌<◌, max, length, get_or}
 use Rattle.units.specs.Grid.{last_row, last_column}
 use Rattle.units.specs.Outcome.{Outcome, given, refused}
 use Rattle.units.specs.Refusals.{number_of}
@@ -19,11 +19,11 @@ use Rattle.planner_rules.specs.declared.planning.AreaNotes.{AreaNotes}
 use Rattle.planner_rules.specs.declared.planning.CountedArea.{CountedArea}
 use Rattle.planner_rules.specs.declared.planning.CountedAreas.{CountedAreas}
 use Rattle.planner_rules.specs.declared.planning.Shared.{Shared}
-use Rattle.planner_rules.specs.Slots.{Slots, Rising, below, written}
+use Rattle.planner_rules.specs.Slots.{Slots, Rising, below}
 use Rattle.planner_rules.specs.Areas.{no_range, over_areas}
 use Rattle.planner_rules.specs.Titles.{limit_of, widened, body_start, title_total}
 use Rattle.planner_rules.specs.Runs.{Run}
-use Rattle.planner_rules.specs.Lent.{flat, Room, RoomAt}
+use Rattle.planner_rules.specs.Lent.{Room}
 use Rattle.planner_rules.specs.Scale.{Scale}
 use Rattle.planner_rules.specs.Pages.{pages_in}
 use Rattle.planner_rules.specs.Plan.{AxisInput, Sheet, rows_of, columns_of, rows_in, columns_in, Sides}
@@ -234,16 +234,12 @@ rows_at x s g p = page_runs (sides_in x).height (rows_in s g) p
 abbrev pub columns_at : Shared → Sheet → PrintRange → ℕ → List Run
 columns_at x s g p = page_runs (sides_in x).width (columns_in s g) p
 
--- an area whose runs can be written from two places on
-pub record Writable (x : Shared) (s : Sheet) (g : PrintRange) (a : AreaPlan) (row_at column_at : ℕ) (rows columns : List ℕ) : Type 0 where
+-- an area whose runs can be written to the fronts of two lists
+pub record Writable (x : Shared) (s : Sheet) (g : PrintRange) (a : AreaPlan) (rows columns : List ℕ) : Type 0 where
   pub rows_empty : a.rows_empty ≡ body_is_empty (sides_in x).height (rows_in s g) a.permille
   pub columns_empty : a.columns_empty ≡ body_is_empty (sides_in x).width (columns_in s g) a.permille
-  pub row_room : RoomAt (rows_at x s g a.permille) row_at rows
-  pub column_room : RoomAt (columns_at x s g a.permille) column_at columns
-
--- runs stand in a list from a place on, which was `old`
-abbrev pub put_at : List Run → ℕ → List ℕ → List ℕ
-put_at rs at old = take at old ++ written (flat rs) (drop at old)
+  pub row_room : Room (rows_at x s g a.permille) rows
+  pub column_room : Room (columns_at x s g a.permille) columns
 
 -- areas whose runs have room
 pub record RoomForAll (ls : List AreaLayout) (rows columns : List ℕ) : Type 0 where
