@@ -22,7 +22,8 @@ use planner_setup::{axis_range, fixed_scale, looked_at};
 use planner_titles::body_start;
 use units::Fixed;
 
-// What an area came to, and what its runs go by there.
+// What an area came to, and what its runs go by there. That those frames are the area's is said by each function: a ghost field could say it only of an
+// area that stands in the struct, and the functions would have to say which that is.
 #[derive(Clone, Copy)]
 pub(crate) struct FramedCount {
     pub counted: CountedArea,

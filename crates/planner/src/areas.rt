@@ -9,7 +9,7 @@ ghost use Rattle.planner.specs.Bodies.{layouts_in};
 use crate::settled::SettledSheet;
 use planner_rules::{AreaNotes, AreaPlan, AreaPlans, CountedArea, CountedAreas, RUN_NUMBERS};
 
-// No area, yet.
+// No area, yet. Not a derived default: each of the two callers would have to show of its five fields what is shown here once.
 #[inline(always)]
 pub(crate) fn no_areas() -> CountedAreas
     ensures { result ≡ step.counted_of [] }

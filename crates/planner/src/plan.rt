@@ -70,7 +70,9 @@ fn plan_of(shared: &Shared, counted: CountedAreas) -> Plan
 }
 
 impl SheetArea<'_> {
-    // Counts an area that stands alone and, where its runs have room and its pages are within the limit, writes it.
+    // Counts an area that stands alone and, where its runs have room and its pages are within the limit, writes it. Beside `plan_several` for speed:
+    // there an area is made ready and its capacities are found twice, with which one area took longer than its bar
+    // (docs/DECISIONS.md, T-02, 17).
     #[inline(always)]
     fn plan(&self, row_runs: &mut [u64], column_runs: &mut [u64]) -> Result<Plan, Refusal>
         ensures { let of = self.now.sheet in

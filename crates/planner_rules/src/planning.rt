@@ -6,7 +6,8 @@ use crate::titles::Title;
 use geometry::Margins;
 use units::Fixed;
 
-// How areas are printed. A target is the most pages in a direction, 0 for any number.
+// How areas are printed. A target is the most pages in a direction, 0 for any number. Not an enum of fitting and of a percent: the definition of an
+// axis reads its target whatever `fit` is.
 #[derive(Clone, Copy)]
 pub struct Settings {
     pub paper: Option<u16>,
@@ -23,7 +24,8 @@ pub struct Settings {
     pub cell_limit: Option<u64>,
 }
 
-// An area of the sheet. Not one type with the `Range` of a record, whose columns are u16: each clause on a range would have to name its number.
+// An area of the sheet. Not one type with the `Range` of a record, whose columns are u16 as its bytes are: one of both would be generic over its
+// columns, and would stand below the planner and the records, in `units`, which has no cells.
 #[derive(Clone, Copy, Default)]
 pub struct PrintRange {
     pub first_row: u32,
@@ -130,7 +132,8 @@ pub struct CountedAreas {
     pub notes: AreaNotes,
 }
 
-// The sides of the content, and the notes on paper and margins.
+// The sides of the content, and how many notes there are on paper and on margins: counts of 0 or 1, as a plan has them, for which a bool would be
+// turned back into a count.
 #[derive(Clone, Copy)]
 pub struct ContentSides {
     pub width: Fixed,
