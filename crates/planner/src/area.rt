@@ -36,7 +36,7 @@ fn ready_axis(axis: AxisRange, side: Fixed, title: ReadyTitle, indexes: &[u32]) 
     requires { step.Startable indexes.now title axis.first }
     ensures { result ≡ step.ready_from side title (call.axis_for axis indexes.now [] [] [] []) }
 {
-    let widened = title.title;
+    let widened = title.widened.title;
     let start = body_start(widened, axis.first);
     let from = place_of(indexes, start);
     let end = place_of(indexes, u64::from(axis.last) + 1);

@@ -95,7 +95,7 @@ pub fn partition_axis_with_breaks(
         call.Answered (call.partition (limit_of axis) setup is ss firsts lasts bs list.old)
         (call.body_runs setup is ss firsts lasts bs) result list.old list.new }
 {
-    partition_refusal(axis.limit(), setup, lists.slots, lists.merges)?;
+    partition_refusal(axis.limit(), setup, lists)?;
     let slots = Measured {
         indexes: lists.slots.indexes,
         sizes: lists.slots.sizes,

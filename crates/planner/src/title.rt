@@ -8,7 +8,7 @@ ghost use Rattle.planner_rules.specs.Steps.{TitleReady};
 use crate::filling::total;
 use crate::places::place_of;
 use crate::slots::Measured;
-use planner_rules::{Axis, AxisLists, ReadyTitle, Title, Widened};
+use planner_rules::{Axis, AxisLists, ReadyTitle, Title};
 use planner_titles::widened_title;
 
 // The sum of the measured slots in the title.
@@ -35,20 +35,14 @@ pub(crate) fn ready_title(axis: Axis, asked: Title, lists: AxisLists) -> ReadyTi
         lists.entry.merges.firsts.now lists.entry.merges.lasts.now }
     ensures few { length lists.entry.merges.firsts.now < 2 ^ 63 }
 {
-    let Widened {
-        title,
-        ignored,
-        expanded,
-    } = widened_title(axis.limit(), asked, lists.merges);
+    let widened = widened_title(axis.limit(), asked, lists.merges);
     let slots = Measured {
         indexes: lists.slots.indexes,
         sizes: lists.slots.sizes,
     };
     ReadyTitle {
         asked,
-        title,
-        total: title_total(title, slots),
-        ignored,
-        expanded,
+        widened,
+        total: title_total(widened.title, slots),
     }
 }

@@ -41,11 +41,9 @@ use Rattle.planner_rules.proofs.CutLaws.{cuttable, passes_of, runs_of, cut_of_le
 
 module _ (limit : ℕ) (asked : Title) (is ss fs ls : List ℕ) (slots : Slots is ss) (inside : all_within limit ls ≡ true) where
   pub title_ready : (w : Widened) → w ≡ widened limit asked fs ls → (n : ℕ) → n ≡ title_total w.title is ss
-      → TitleReady (record { asked = asked; title = w.title; total = n; ignored = w.ignored; expanded = w.expanded }) limit is ss fs ls
+      → TitleReady (record { asked = asked; widened = w; total = n }) limit is ss fs ls
   title_ready w e n total = record {
-    title_is = ap (λ (v : Widened). v.title) e;
-    ignored_is = ap (λ (v : Widened). v.ignored) e;
-    expanded_is = ap (λ (v : Widened). v.expanded) e;
+    widened_is = e;
     total_is = total;
     total_low = rw total (title_total_le w.title is ss slots);
     starts_low = λ first h. body_start_le limit w.title first h
@@ -55,7 +53,8 @@ module _ (limit : ℕ) (asked : Title) (is ss fs ls : List ℕ) (slots : Slots i
 -- ---- an area that is ready
 
 -- an axis with its title, ready to be cut
-pub ready_for : (side : Fixed) (t : ReadyTitle) (a : AxisInput) → t.title ≡ (title_of a).title → t.total ≡ title_total t.title a.indexes a.sizes
+pub ready_for : (side : Fixed) (t : ReadyTitle) (a : AxisInput) → t.widened.title ≡ (title_of a).title
+    → t.total ≡ title_total t.widened.title a.indexes a.sizes
     → t.total ≤ 2 ^ 50 → a.headings ≤ 2 ^ 50 → ReadyFor (ready_from side t a) side.0 a
 unfolding space_on
 ready_for side t a e total low headings =
@@ -106,13 +105,13 @@ module _ (x : Shared) (s : Sheet) (y : Settled x s) (g : PrintRange) where
     pub rows_are : ReadyFor r.rows (sides_in x).height rows
     rows_are =
         let t = y.rows_ready in
-        rw e (ready_for x.sides.height x.rows rows t.title_is t.total_is t.total_low
+        rw e (ready_for x.sides.height x.rows rows (ap (λ (w : Widened). w.title) t.widened_is) t.total_is t.total_low
         (either (λ (n : ℕ). n ≤ 2 ^ 50) x.settings.headings (omega arith) (omega arith)))
 
     pub columns_are : ReadyFor r.columns (sides_in x).width columns
     columns_are =
         let t = y.columns_ready in
-        rw e (ready_for x.sides.width x.columns columns t.title_is t.total_is t.total_low
+        rw e (ready_for x.sides.width x.columns columns (ap (λ (w : Widened). w.title) t.widened_is) t.total_is t.total_low
         (either (λ (n : ℕ). n ≤ 2 ^ 50) x.settings.headings (omega arith) (omega arith)))
 
     pub row_cuttable : Cuttable r.rows s.row_indexes s.row_sizes

@@ -2,7 +2,7 @@
 use crate::pages::{AreaPlan, AreaPlans, PageOrder};
 use crate::runs::Frame;
 use crate::scale::Fit;
-use crate::titles::Title;
+use crate::titles::{Title, Widened};
 use geometry::Margins;
 use units::Fixed;
 
@@ -61,15 +61,12 @@ pub struct AxisRange {
     pub target: u16,
 }
 
-// A title of the job: as it was asked for, as merges widened it, its total, and its two counts of notes. No `Widened` in it: `widen_title` answers
-// that to a caller, and each clause on a title would name one field more.
+// A title of the job: as it was asked for, as merges widened it, and its total.
 #[derive(Clone, Copy)]
 pub struct ReadyTitle {
     pub asked: Title,
-    pub title: Title,
+    pub widened: Widened,
     pub total: u64,
-    pub ignored: u64,
-    pub expanded: u64,
 }
 
 // An axis of an area that is ready to be cut: what it is fitted by, and where its body stands among the slots.
