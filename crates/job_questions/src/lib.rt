@@ -11,9 +11,9 @@ ghost use Rattle.planner_rules.specs.Partition.{no_of};
 ghost use Rattle.job_questions.specs.Pass.{start, advanced, after, surveyed, answer};
 
 use job_records::{Mark, Range, Record, Slot, read_record};
-use job_settings::areas_for;
+use job_settings::{areas_for, range_for};
 use job_walk::{SortedJob, areas_of, cell_limit_of};
-use planner_areas::cells_hold;
+use planner_areas::{cells_hold, is_upright};
 use std::ops::BitAnd;
 use units::{LARGEST_SIZE, MAX_WORKSHEET_COLUMN, MAX_WORKSHEET_ROW, Refusal};
 
@@ -102,7 +102,7 @@ fn follows_on(last: Option<Mark>, next: Mark) -> bool
 fn firsts_ok(a: Range) -> bool
     ensures { result ≡ firsts_ok a }
 {
-    (a.first_row <= a.last_row) & (a.first_column <= a.last_column)
+    is_upright(range_for(a))
 }
 
 fn grid_ok(a: Range) -> bool

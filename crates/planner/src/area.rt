@@ -1,14 +1,14 @@
 // One area: ready to be cut, its scale, counted and written. Document 01, sections "Scale" and "Pages", and document 02, T-02.
 ghost use Rattle.std.specs.Prelude.{◌≡◌, []};
+ghost use Rattle.planner_rules.specs.Slots.{written};
+ghost use Rattle.planner_rules.specs.Lent.{flat};
 ghost use Rattle.planner_rules.specs.Scale.{scale_of};
-ghost use Rattle.planner_rules.specs.Asked.{sheet_by};
 ghost use Rattle.planner_rules.specs.Plan as call;
 ghost use Rattle.planner_rules.specs.Steps as step;
-ghost use Rattle.planner.specs.Bodies.{IsBody, BodyOf};
+ghost use Rattle.planner.specs.Bodies.{IsBody, BodyOf, sheet_in, sides_in, rows_in, columns_in, row_runs, column_runs};
 
 use crate::cut::{count_cut, write_cut};
 use crate::fitted::FittedAxis;
-use crate::memory::in_memory;
 use crate::places::place_of;
 use crate::scale::fit_scale;
 use crate::settled::SettledSheet;
@@ -22,7 +22,8 @@ use planner_setup::{axis_range, fixed_scale, looked_at};
 use planner_titles::body_start;
 use units::Fixed;
 
-// What an area came to, and what its runs go by there.
+// What an area came to, and what its runs go by there. That those frames are the area's is said by each function: a ghost field could say it only of an
+// area that stands in the struct, and the functions would have to say which that is.
 #[derive(Clone, Copy)]
 pub(crate) struct FramedCount {
     pub counted: CountedArea,
@@ -35,7 +36,7 @@ fn ready_axis(axis: AxisRange, side: Fixed, title: ReadyTitle, indexes: &[u32]) 
     requires { step.Startable indexes.now title axis.first }
     ensures { result ≡ step.ready_from side title (call.axis_for axis indexes.now [] [] [] []) }
 {
-    let widened = title.title;
+    let widened = title.widened.title;
     let start = body_start(widened, axis.first);
     let from = place_of(indexes, start);
     let end = place_of(indexes, u64::from(axis.last) + 1);
@@ -157,10 +158,8 @@ impl<'a> SheetArea<'a> {
     // Its scale: by fitting, or by percent.
     #[inline(always)]
     fn choose_scale(&self) -> ChosenScale
-        ensures { let shared = self.now.sheet.shared.now in
-            let sheet = sheet_by shared self.now.sheet.lists.now in
-            let range = self.now.ready.range in
-            scale_of result ≡ call.chosen_scale shared.settings (step.sides_in shared) (call.rows_in sheet range) (call.columns_in sheet range) }
+        ensures { let of = self.now in
+            scale_of result ≡ call.chosen_scale of.sheet.shared.now.settings (sides_in of.sheet) (rows_in of) (columns_in of) }
     {
         let settings = self.sheet.shared.settings;
         if settings.fit {
@@ -172,31 +171,25 @@ impl<'a> SheetArea<'a> {
     // Counts its final cuts at a scale. With fit on, no break is looked at.
     #[inline(always)]
     pub(crate) fn count_at(&self, scale: ChosenScale) -> FramedCount
-        ensures counted { let shared = self.now.sheet.shared.now in
-            let sheet = sheet_by shared self.now.sheet.lists.now in
-            let range = self.now.ready.range in
-            result.counted ≡ call.counted_at (step.sides_in shared) (call.rows_in sheet range) (call.columns_in sheet range) (scale_of scale) }
+        ensures counted { let of = self.now in
+            result.counted ≡ call.counted_at (sides_in of.sheet) (rows_in of) (columns_in of) (scale_of scale) }
         ensures few_cut { step.FewCut result.counted }
         ensures frames_are { result.frames ≡ step.frames_of self.now.ready result.counted.area.permille }
     {
         let fit = self.sheet.shared.settings.fit;
         let SheetLists { rows, columns } = *self.sheet.lists;
-        let row_breaks = in_memory(rows.breaks);
-        let column_breaks = in_memory(columns.breaks);
-        let row_kept = looked_at(fit, row_breaks.len());
-        let column_kept = looked_at(fit, column_breaks.len());
         let frames = self.frames_at(scale.permille);
         let row_cut = count_cut(
             self.body(Axis::Rows),
             frames.rows,
             scale.permille,
-            &row_breaks[..row_kept],
+            looked_at(fit, rows.breaks),
         );
         let column_cut = count_cut(
             self.body(Axis::Columns),
             frames.columns,
             scale.permille,
-            &column_breaks[..column_kept],
+            looked_at(fit, columns.breaks),
         );
         FramedCount {
             counted: area_from(scale, row_cut, column_cut),
@@ -207,77 +200,59 @@ impl<'a> SheetArea<'a> {
     // Counts it at the scale that is chosen for it.
     #[inline(always)]
     pub(crate) fn count(&self) -> FramedCount
-        ensures counted { let shared = self.now.sheet.shared.now in
-            let sheet = sheet_by shared self.now.sheet.lists.now in
-            result.counted ≡ (call.area_layout (step.sides_in shared) sheet self.now.ready.range).counted }
+        ensures counted { let of = self.now in
+            result.counted ≡ (call.area_layout (sides_in of.sheet) (sheet_in of.sheet) of.ready.range).counted }
         ensures few { step.Few result.counted }
         ensures frames_are { result.frames ≡ step.frames_of self.now.ready result.counted.area.permille }
     {
         self.count_at(self.choose_scale())
     }
 
-    // Writes its runs by their frames, from a place in each list on.
+    // Writes its runs by their frames to the fronts of two lists.
     #[inline(always)]
     pub(crate) fn write_by(
         &self,
         frames: Frames,
         area: AreaPlan,
-        row_at: usize,
-        column_at: usize,
-        row_runs: &mut [u64],
-        column_runs: &mut [u64],
+        rows: &mut [u64],
+        columns: &mut [u64],
     )
-        requires writable { let shared = self.now.sheet.shared.now in
-            let sheet = sheet_by shared self.now.sheet.lists.now in
-            step.Writable shared sheet self.now.ready.range area row_at column_at row_runs.old column_runs.old }
+        requires writable { let of = self.now in
+            step.Writable of.sheet.shared.now (sheet_in of.sheet) of.ready.range area rows.old columns.old }
         requires frames_are { frames ≡ step.frames_of self.now.ready area.permille }
-        ensures { let shared = self.now.sheet.shared.now in
-            let sheet = sheet_by shared self.now.sheet.lists.now in
-            let range = self.now.ready.range in
-            (row_runs.new ≡ step.put_at (step.rows_at shared sheet range area.permille) row_at row_runs.old)
-            × (column_runs.new ≡ step.put_at (step.columns_at shared sheet range area.permille) column_at column_runs.old) }
+        ensures { let of = self.now in
+            (rows.new ≡ written (flat (row_runs of area.permille)) rows.old)
+            × (columns.new ≡ written (flat (column_runs of area.permille)) columns.old) }
     {
         let fit = self.sheet.shared.settings.fit;
-        let SheetLists { rows, columns } = *self.sheet.lists;
-        let row_kept = looked_at(fit, rows.breaks.len());
-        let column_kept = looked_at(fit, columns.breaks.len());
+        let lists = self.sheet.lists;
         write_cut(
             self.body(Axis::Rows),
             frames.rows,
             area.rows_empty,
             self.ready.range.first_row,
-            &rows.breaks[..row_kept],
-            &mut row_runs[row_at..],
+            looked_at(fit, lists.rows.breaks),
+            rows,
         );
         write_cut(
             self.body(Axis::Columns),
             frames.columns,
             area.columns_empty,
             self.ready.range.first_column,
-            &columns.breaks[..column_kept],
-            &mut column_runs[column_at..],
+            looked_at(fit, lists.columns.breaks),
+            columns,
         );
     }
 
-    // Writes its runs as they were counted, from a place in each list on.
-    pub(crate) fn write(
-        &self,
-        area: AreaPlan,
-        row_at: usize,
-        column_at: usize,
-        row_runs: &mut [u64],
-        column_runs: &mut [u64],
-    )
-        requires writable { let shared = self.now.sheet.shared.now in
-            let sheet = sheet_by shared self.now.sheet.lists.now in
-            step.Writable shared sheet self.now.ready.range area row_at column_at row_runs.old column_runs.old }
-        ensures { let shared = self.now.sheet.shared.now in
-            let sheet = sheet_by shared self.now.sheet.lists.now in
-            let range = self.now.ready.range in
-            (row_runs.new ≡ step.put_at (step.rows_at shared sheet range area.permille) row_at row_runs.old)
-            × (column_runs.new ≡ step.put_at (step.columns_at shared sheet range area.permille) column_at column_runs.old) }
+    // Writes its runs as they were counted to the fronts of two lists.
+    pub(crate) fn write(&self, area: AreaPlan, rows: &mut [u64], columns: &mut [u64])
+        requires writable { let of = self.now in
+            step.Writable of.sheet.shared.now (sheet_in of.sheet) of.ready.range area rows.old columns.old }
+        ensures { let of = self.now in
+            (rows.new ≡ written (flat (row_runs of area.permille)) rows.old)
+            × (columns.new ≡ written (flat (column_runs of area.permille)) columns.old) }
     {
         let frames = self.frames_at(area.permille);
-        self.write_by(frames, area, row_at, column_at, row_runs, column_runs);
+        self.write_by(frames, area, rows, columns);
     }
 }

@@ -2,14 +2,14 @@
 ghost use Rattle.std.specs.Prelude.{◌≡◌, [], map, ◌<◌};
 ghost use Rattle.planner_rules.specs.Slots.{written};
 ghost use Rattle.planner_rules.specs.Lent.{flat};
-ghost use Rattle.planner_rules.specs.Asked.{sheet_by};
 ghost use Rattle.planner_rules.specs.Plan as call;
 ghost use Rattle.planner_rules.specs.Steps as step;
+ghost use Rattle.planner.specs.Bodies.{layouts_in};
 
 use crate::settled::SettledSheet;
 use planner_rules::{AreaNotes, AreaPlan, AreaPlans, CountedArea, CountedAreas, RUN_NUMBERS};
 
-// No area, yet.
+// No area, yet. Not a derived default: each of the two callers would have to show of its five fields what is shown here once.
 #[inline(always)]
 pub(crate) fn no_areas() -> CountedAreas
     ensures { result ≡ step.counted_of [] }
@@ -51,9 +51,7 @@ impl SettledSheet<'_> {
     // Counts the areas in job order, each at its own scale.
     #[inline(always)]
     pub(crate) fn count_areas(&self) -> CountedAreas
-        ensures { let shared = self.now.shared.now in
-            let sheet = sheet_by shared self.now.lists.now in
-            result ≡ step.counted_of (call.layouts_of (step.sides_in shared) sheet self.now.areas.now) }
+        ensures { result ≡ step.counted_of (layouts_in self.now) }
     {
         let mut all = no_areas();
         for range in self.areas {
@@ -69,19 +67,20 @@ impl SettledSheet<'_> {
         row_runs: &mut [u64],
         column_runs: &mut [u64],
     )
-        requires counted { let shared = self.now.shared.now in
-            let layouts = call.layouts_of (step.sides_in shared) (sheet_by shared self.now.lists.now) self.now.areas.now in
+        requires counted { let layouts = layouts_in self.now in
             (plans.now ≡ map call.plan_in layouts) × step.RoomForAll layouts row_runs.old column_runs.old }
-        ensures { let shared = self.now.shared.now in
-            let layouts = call.layouts_of (step.sides_in shared) (sheet_by shared self.now.lists.now) self.now.areas.now in
+        ensures { let layouts = layouts_in self.now in
             (row_runs.new ≡ written (flat (call.row_runs_of layouts)) row_runs.old)
             × (column_runs.new ≡ written (flat (call.column_runs_of layouts)) column_runs.old) }
     {
         let mut row_at = 0;
         let mut column_at = 0;
         for (range, area) in self.areas.iter().zip(plans) {
-            self.ready(*range)
-                .write(*area, row_at, column_at, row_runs, column_runs);
+            self.ready(*range).write(
+                *area,
+                &mut row_runs[row_at..],
+                &mut column_runs[column_at..],
+            );
             row_at += area.row_runs * RUN_NUMBERS;
             column_at += area.column_runs * RUN_NUMBERS;
         }

@@ -6,7 +6,6 @@ mod areas;
 mod cut;
 mod filling;
 mod fitted;
-mod memory;
 mod page;
 mod partition;
 mod places;

@@ -27,7 +27,8 @@ fn partition_slots(
         let tally = axis_tally cutter.entry.frame merges.firsts.now merges.lasts.now is slots.entry.sizes.now breaks.now in
         call.Answered (call.room_for runs tally (room_in list.old)) runs result list.old list.new }
 {
-    // how many runs overflow is not answered, so that any page serves
+    // Any page serves: how many runs overflow is not answered. `count_axis` asks it of each run: to count without, it would be written twice, or take
+    // a closure, of whose answers its contract would have to speak for its other caller.
     let page = ScaledPage {
         side: PageSide {
             side: Fixed::ZERO,
@@ -94,7 +95,7 @@ pub fn partition_axis_with_breaks(
         call.Answered (call.partition (limit_of axis) setup is ss firsts lasts bs list.old)
         (call.body_runs setup is ss firsts lasts bs) result list.old list.new }
 {
-    partition_refusal(axis.limit(), setup, lists.slots, lists.merges)?;
+    partition_refusal(axis.limit(), setup, lists)?;
     let slots = Measured {
         indexes: lists.slots.indexes,
         sizes: lists.slots.sizes,

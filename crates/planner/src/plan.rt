@@ -4,10 +4,11 @@ ghost use Rattle.std.specs.Prelude.{◌≡◌, [], ◌∷◌};
 ghost use Rattle.units.specs.Refusals.{outcome};
 ghost use Rattle.planner_rules.specs.Lent.{room_in};
 ghost use Rattle.planner_rules.specs.Demand.{CoversPairs, FewestPlan, LargestPlan};
-ghost use Rattle.planner_rules.specs.Asked.{sheet_asked, sheet_by};
+ghost use Rattle.planner_rules.specs.Asked.{sheet_asked};
 ghost use Rattle.planner_rules.specs.Partition.{no_of};
 ghost use Rattle.planner_rules.specs.Plan as call;
 ghost use Rattle.planner_rules.specs.Steps as step;
+ghost use Rattle.planner.specs.Bodies.{sheet_in, sides_in, rows_in, columns_in, layout_in};
 
 use crate::area::FramedCount;
 use crate::areas::{add_area, no_areas};
@@ -59,8 +60,8 @@ fn plan_of(shared: &Shared, counted: CountedAreas) -> Plan
             invalid_margins: sides.invalid,
             scale_clamped: added.clamped,
             fit_unreachable: added.unreachable,
-            titles_ignored: rows.ignored + columns.ignored,
-            titles_expanded: rows.expanded + columns.expanded,
+            titles_ignored: rows.widened.ignored + columns.widened.ignored,
+            titles_expanded: rows.widened.expanded + columns.widened.expanded,
             merge_expansions: added.expansions,
             break_shifts: added.shifts,
             overflowing_runs: added.overflows,
@@ -69,12 +70,14 @@ fn plan_of(shared: &Shared, counted: CountedAreas) -> Plan
 }
 
 impl SheetArea<'_> {
-    // Counts an area that stands alone and, where its runs have room and its pages are within the limit, writes it.
+    // Counts an area that stands alone and, where its runs have room and its pages are within the limit, writes it. Beside `plan_several` for speed:
+    // there an area is made ready and its capacities are found twice, with which one area took longer than its bar
+    // (docs/DECISIONS.md, T-02, 17).
     #[inline(always)]
     fn plan(&self, row_runs: &mut [u64], column_runs: &mut [u64]) -> Result<Plan, Refusal>
-        ensures { let shared = self.now.sheet.shared.now in
-            let sheet = sheet_by shared self.now.sheet.lists.now in
-            let layout = call.layout (step.sides_in shared) sheet (self.now.ready.range ∷ []) in
+        ensures { let of = self.now.sheet in
+            let sheet = sheet_in of in
+            let layout = call.layout (sides_in of) sheet (self.now.ready.range ∷ []) in
             call.Planned (call.room_for sheet layout (room_in row_runs.old) (room_in column_runs.old)) (outcome result)
             row_runs.old column_runs.old row_runs.new column_runs.new }
     {
@@ -82,7 +85,7 @@ impl SheetArea<'_> {
         let mut counted = no_areas();
         add_area(&mut counted, one.counted);
         self.sheet.ask_room(&counted, row_runs, column_runs)?;
-        self.write_by(one.frames, one.counted.area, 0, 0, row_runs, column_runs);
+        self.write_by(one.frames, one.counted.area, row_runs, column_runs);
         Ok(plan_of(self.sheet.shared, counted))
     }
 
@@ -93,10 +96,8 @@ impl SheetArea<'_> {
         row_runs: &mut [u64],
         column_runs: &mut [u64],
     ) -> Result<RunCounts, Refusal>
-        ensures { let shared = self.now.sheet.shared.now in
-            let sheet = sheet_by shared self.now.sheet.lists.now in
-            let range = self.now.ready.range in
-            let area = call.area_at (step.sides_in shared) (call.rows_in sheet range) (call.columns_in sheet range) (call.scale_at permille) in
+        ensures { let of = self.now in
+            let area = call.area_at (sides_in of.sheet) (rows_in of) (columns_in of) (call.scale_at permille) in
             call.AreaWrote (call.area_room area (room_in row_runs.old) (room_in column_runs.old)) (outcome result)
             row_runs.old column_runs.old row_runs.new column_runs.new }
     {
@@ -114,7 +115,7 @@ impl SheetArea<'_> {
         if !runs_held(runs, rooms_in(row_runs.len(), column_runs.len())) {
             return Err(Refusal::ListTooShort);
         }
-        self.write_by(frames, area, 0, 0, row_runs, column_runs);
+        self.write_by(frames, area, row_runs, column_runs);
         Ok(runs)
     }
 }
@@ -143,10 +144,7 @@ impl SettledSheet<'_> {
     // Counts several areas and, where their runs have room and their pages are within the limit, writes them: all are counted before one is written.
     #[inline(never)]
     fn plan_several(&self, row_runs: &mut [u64], column_runs: &mut [u64]) -> Result<Plan, Refusal>
-        ensures { let shared = self.now.shared.now in
-            let sheet = sheet_by shared self.now.lists.now in
-            let layout = call.layout (step.sides_in shared) sheet self.now.areas.now in
-            call.Planned (call.room_for sheet layout (room_in row_runs.old) (room_in column_runs.old)) (outcome result)
+        ensures { call.Planned (call.room_for (sheet_in self.now) (layout_in self.now) (room_in row_runs.old) (room_in column_runs.old)) (outcome result)
             row_runs.old column_runs.old row_runs.new column_runs.new }
     {
         let counted = self.count_areas();
@@ -158,10 +156,7 @@ impl SettledSheet<'_> {
     // The same of the areas of a plan.
     #[inline(always)]
     fn plan_areas(&self, row_runs: &mut [u64], column_runs: &mut [u64]) -> Result<Plan, Refusal>
-        ensures { let shared = self.now.shared.now in
-            let sheet = sheet_by shared self.now.lists.now in
-            let layout = call.layout (step.sides_in shared) sheet self.now.areas.now in
-            call.Planned (call.room_for sheet layout (room_in row_runs.old) (room_in column_runs.old)) (outcome result)
+        ensures { call.Planned (call.room_for (sheet_in self.now) (layout_in self.now) (room_in row_runs.old) (room_in column_runs.old)) (outcome result)
             row_runs.old column_runs.old row_runs.new column_runs.new }
     {
         if let [range] = self.areas {
@@ -172,9 +167,7 @@ impl SettledSheet<'_> {
 
     // Counts the areas: the plan, within the limit of pages.
     fn counted_plan(&self) -> Result<Plan, Refusal>
-        ensures { let shared = self.now.shared.now in
-            let sheet = sheet_by shared self.now.lists.now in
-            call.Counted (call.within_limit sheet (call.layout (step.sides_in shared) sheet self.now.areas.now)) (outcome result) }
+        ensures { call.Counted (call.within_limit (sheet_in self.now) (layout_in self.now)) (outcome result) }
     {
         let counted = self.count_areas();
         if counted.pages > self.shared.settings.page_limit {
@@ -191,9 +184,8 @@ impl SettledSheet<'_> {
         row_runs: &mut [u64],
         column_runs: &mut [u64],
     ) -> Result<RunCounts, Refusal>
-        ensures { let shared = self.now.shared.now in
-            let sheet = sheet_by shared self.now.lists.now in
-            call.AreaWrote (call.numbered_area (step.sides_in shared) sheet self.now.areas.now number permille row_runs.old column_runs.old) (outcome result)
+        ensures { let of = self.now in
+            call.AreaWrote (call.numbered_area (sides_in of) (sheet_in of) of.areas.now number permille row_runs.old column_runs.old) (outcome result)
             row_runs.old column_runs.old row_runs.new column_runs.new }
     {
         if permille == 0 {

@@ -4,7 +4,8 @@ ghost use Rattle.planner_rules.specs.Steps.{FineAreas, Settled};
 
 use planner_rules::{PrintRange, Shared, SheetLists};
 
-// Each call makes it out of what is shared and borrows that: a function that answered it would have all that is shared copied into each area.
+// Each of the three calls writes it out: a function that made it would say in its contract what each field is, and that the questions were asked,
+// which is longer than the three literals.
 #[derive(Clone, Copy)]
 pub(crate) struct SettledSheet<'a> {
     pub shared: &'a Shared,

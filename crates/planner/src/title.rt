@@ -6,10 +6,9 @@ ghost use Rattle.planner_rules.specs.Titles.{limit_of, title_total};
 ghost use Rattle.planner_rules.specs.Steps.{TitleReady};
 
 use crate::filling::total;
-use crate::memory::in_memory;
 use crate::places::place_of;
 use crate::slots::Measured;
-use planner_rules::{Axis, AxisLists, MergeList, ReadyTitle, Title, Widened};
+use planner_rules::{Axis, AxisLists, ReadyTitle, Title};
 use planner_titles::widened_title;
 
 // The sum of the measured slots in the title.
@@ -36,24 +35,14 @@ pub(crate) fn ready_title(axis: Axis, asked: Title, lists: AxisLists) -> ReadyTi
         lists.entry.merges.firsts.now lists.entry.merges.lasts.now }
     ensures few { length lists.entry.merges.firsts.now < 2 ^ 63 }
 {
-    let merges = MergeList {
-        firsts: in_memory(lists.merges.firsts),
-        ..lists.merges
-    };
-    let Widened {
-        title,
-        ignored,
-        expanded,
-    } = widened_title(axis.limit(), asked, merges);
+    let widened = widened_title(axis.limit(), asked, lists.merges);
     let slots = Measured {
         indexes: lists.slots.indexes,
         sizes: lists.slots.sizes,
     };
     ReadyTitle {
         asked,
-        title,
-        total: title_total(title, slots),
-        ignored,
-        expanded,
+        widened,
+        total: title_total(widened.title, slots),
     }
 }

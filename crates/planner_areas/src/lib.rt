@@ -2,5 +2,7 @@
 #![tactic(auto)]
 
 mod union;
+mod upright;
 
 pub use union::{cells_hold, union_cells};
+pub use upright::is_upright;

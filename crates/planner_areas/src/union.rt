@@ -5,11 +5,12 @@ ghost use Rattle.planner_rules.specs.Union as definition;
 ghost use Rattle.planner_areas.specs.Edges as edges;
 
 use planner_rules::PrintRange;
+use units::{MAX_WORKSHEET_COLUMN, MAX_WORKSHEET_ROW};
 
 // How many rows and columns the grid has.
-const ROWS: u64 = 1_048_576;
+const ROWS: u64 = MAX_WORKSHEET_ROW as u64 + 1;
 
-const COLUMNS: u64 = 16_384;
+const COLUMNS: u64 = MAX_WORKSHEET_COLUMN as u64 + 1;
 
 // The nearest of two edges that is past `from`.
 #[inline(always)]
@@ -115,11 +116,9 @@ pub fn union_cells(ranges: &[PrintRange]) -> u64
 
 // 15: no more cells than the limit lie in at least one area. Without a limit none is counted.
 #[inline(always)]
+#[tactic(auto, unfolding(planner_rules::specs::Union::cells_hold))]
 pub fn cells_hold(limit: Option<u64>, areas: &[PrintRange]) -> bool
     ensures { result ≡ definition.cells_hold limit areas.now }
 {
-    match limit {
-        None => true,
-        Some(most) => union_cells(areas) <= most,
-    }
+    limit.is_none_or(|most| union_cells(areas) <= most)
 }

@@ -9,11 +9,14 @@ ghost use Rattle.planner_rules.specs.Plan as call;
 ghost use Rattle.planner_rules.specs.Asked.{sheet_asked};
 ghost use Rattle.planner_rules.specs.Partition as partition;
 
-use planner_areas::cells_hold;
+use planner_areas::{cells_hold, is_upright};
 use planner_rules::{
-    AxisSetup, MergeList, PrintRange, RUN_NUMBERS, Request, RunCounts, SheetLists, SlotList,
+    AxisLists, AxisSetup, MergeList, PrintRange, RUN_NUMBERS, Request, RunCounts, SheetLists,
 };
 use units::{LARGEST_SIZE, MAX_WORKSHEET_COLUMN, MAX_WORKSHEET_ROW, Refusal};
+
+// The last column as lists have it. Not by `Axis::limit`, which was tried: each proof then first has to say what those calls answered.
+const LAST_COLUMN: u32 = MAX_WORKSHEET_COLUMN as u32;
 
 // How many runs a list of so many numbers has room for.
 pub fn room_in(numbers: usize) -> usize
@@ -72,13 +75,7 @@ fn strictly_rising(indexes: &[u32]) -> bool
 pub fn rising_within(indexes: &[u32], limit: u32) -> bool
     ensures { result ≡ rising_within limit indexes.now }
 {
-    if !strictly_rising(indexes) {
-        return false;
-    }
-    match indexes.last() {
-        Some(last) => *last <= limit,
-        None => true,
-    }
+    strictly_rising(indexes) && indexes.last().is_none_or(|last| *last <= limit)
 }
 
 // The bits that are set in some of these numbers.
@@ -99,9 +96,7 @@ pub fn all_small(sizes: &[u64]) -> bool
 fn all_upright(areas: &[PrintRange]) -> bool
     ensures { result ≡ every_area upright areas.now }
 {
-    areas.iter().all(|range| {
-        (range.first_row <= range.last_row) & (range.first_column <= range.last_column)
-    })
+    areas.iter().all(|range| is_upright(*range))
 }
 
 // 7 of the areas: each last cell is in the grid.
@@ -109,16 +104,18 @@ fn all_inside(areas: &[PrintRange]) -> bool
     ensures { result ≡ every_area inside_grid areas.now }
 {
     areas.iter().all(|range| {
-        (range.last_row <= MAX_WORKSHEET_ROW) & (range.last_column <= MAX_WORKSHEET_COLUMN as u32)
+        (range.last_row <= MAX_WORKSHEET_ROW) & (range.last_column <= LAST_COLUMN)
     })
 }
 
 // 6 of the lists of an axis: equally long, and no first is above its last.
-fn formed(slots: SlotList, merges: MergeList) -> bool
-    ensures { let firsts = merges.entry.firsts.now in
-        let lasts = merges.entry.lasts.now in
-        result ≡ (equally_long slots.entry.indexes.now slots.entry.sizes.now && equally_long firsts lasts && all_ordered firsts lasts) }
+fn formed(lists: AxisLists) -> bool
+    ensures { let slots = lists.entry.slots in
+        let merges = lists.entry.merges in
+        result ≡ (equally_long slots.indexes.now slots.sizes.now && equally_long merges.firsts.now merges.lasts.now
+        && all_ordered merges.firsts.now merges.lasts.now) }
 {
+    let AxisLists { slots, merges, .. } = lists;
     (slots.indexes.len() == slots.sizes.len())
         & (merges.firsts.len() == merges.lasts.len())
         & pairs_ordered(merges)
@@ -129,8 +126,8 @@ fn sheet_formed(request: &Request, lists: &SheetLists) -> bool
     ensures { result ≡ call.formed (sheet_asked request.now lists.now) request.now.areas.now }
 {
     let SheetLists { rows, columns } = *lists;
-    formed(rows.slots, rows.merges)
-        & formed(columns.slots, columns.merges)
+    formed(rows)
+        & formed(columns)
         & (rows.merges.firsts.len() == columns.merges.firsts.len())
         & all_upright(request.areas)
 }
@@ -140,7 +137,7 @@ fn in_grid(request: &Request, lists: &SheetLists) -> bool
     ensures { result ≡ call.in_grid (sheet_asked request.now lists.now) request.now.areas.now }
 {
     all_within(lists.rows.merges.lasts, MAX_WORKSHEET_ROW)
-        & all_within(lists.columns.merges.lasts, MAX_WORKSHEET_COLUMN as u32)
+        & all_within(lists.columns.merges.lasts, LAST_COLUMN)
         & all_inside(request.areas)
 }
 
@@ -152,31 +149,28 @@ fn ask(yes: bool, no: Refusal) -> Result<(), Refusal>
 }
 
 // 6 of one axis.
-fn axis_formed(setup: AxisSetup, slots: SlotList, merges: MergeList) -> bool
-    ensures { result ≡ well_formed setup.first setup.last slots.entry.indexes.now slots.entry.sizes.now
-        merges.entry.firsts.now merges.entry.lasts.now }
+fn axis_formed(setup: AxisSetup, lists: AxisLists) -> bool
+    ensures { let slots = lists.entry.slots in
+        let merges = lists.entry.merges in
+        result ≡ well_formed setup.first setup.last slots.indexes.now slots.sizes.now merges.firsts.now merges.lasts.now }
 {
-    formed(slots, merges) & (setup.first <= setup.last)
+    formed(lists) & (setup.first <= setup.last)
 }
 
 // The questions 6 to 9 of one axis: the first whose answer is no refuses.
-pub fn partition_refusal(
-    limit: u32,
-    setup: AxisSetup,
-    slots: SlotList,
-    merges: MergeList,
-) -> Result<(), Refusal>
-    ensures { partition.no_of result ≡ partition.first_no limit setup slots.entry.indexes.now slots.entry.sizes.now
-        merges.entry.firsts.now merges.entry.lasts.now }
+pub fn partition_refusal(limit: u32, setup: AxisSetup, lists: AxisLists) -> Result<(), Refusal>
+    ensures { let slots = lists.entry.slots in
+        let merges = lists.entry.merges in
+        partition.no_of result ≡ partition.first_no limit setup slots.indexes.now slots.sizes.now merges.firsts.now merges.lasts.now }
 {
-    ask(axis_formed(setup, slots, merges), Refusal::MalformedLists)?;
-    let seven = (setup.last <= limit) & all_within(merges.lasts, limit);
+    ask(axis_formed(setup, lists), Refusal::MalformedLists)?;
+    let seven = (setup.last <= limit) & all_within(lists.merges.lasts, limit);
     ask(seven, Refusal::OutsideGrid)?;
     ask(
-        rising_within(slots.indexes, limit),
+        rising_within(lists.slots.indexes, limit),
         Refusal::IndexesNotRising,
     )?;
-    ask(all_small(slots.sizes), Refusal::SizeOutOfRange)
+    ask(all_small(lists.slots.sizes), Refusal::SizeOutOfRange)
 }
 
 // The questions 4, 6, 7, 15, 8 and 9: the first whose answer is no refuses. Cells are counted only where 4, 6 and 7 are answered with yes.
@@ -184,7 +178,7 @@ pub fn plan_refusal(request: &Request, lists: &SheetLists) -> Result<(), Refusal
     ensures { partition.no_of result ≡ call.first_no (sheet_asked request.now lists.now) request.now.areas.now }
 {
     let areas = request.areas;
-    let four = (1 <= areas.len()) & (areas.len() <= 8);
+    let four = (1..=8).contains(&areas.len());
     ask(four, Refusal::MisplacedRecord)?;
     ask(sheet_formed(request, lists), Refusal::MalformedLists)?;
     ask(in_grid(request, lists), Refusal::OutsideGrid)?;
@@ -193,7 +187,7 @@ pub fn plan_refusal(request: &Request, lists: &SheetLists) -> Result<(), Refusal
     let rows = lists.rows.slots;
     let columns = lists.columns.slots;
     let eight = rising_within(rows.indexes, MAX_WORKSHEET_ROW)
-        & rising_within(columns.indexes, MAX_WORKSHEET_COLUMN as u32);
+        & rising_within(columns.indexes, LAST_COLUMN);
     ask(eight, Refusal::IndexesNotRising)?;
     let nine = all_small(rows.sizes) & all_small(columns.sizes);
     ask(nine, Refusal::SizeOutOfRange)

@@ -25,14 +25,14 @@ use Rattle.planner_rules.specs.Questions.{all_within}
 use Rattle.planner_rules.specs.Titles.{limit_of, widened, title_total}
 use Rattle.planner_rules.specs.declared.runs.Frame.{Frame}
 use Rattle.planner_rules.specs.Runs.{Run, axis_runs}
-use Rattle.planner_rules.specs.Lent.{run_numbers, flat, Room, RoomAt, WrittenAt}
+use Rattle.planner_rules.specs.Lent.{run_numbers, flat, Room, WrittenAt}
 use Rattle.planner_rules.specs.Scale.{Scale, or_else, default_percent, clamped, fixed_scale, fit_scale, fit_passes}
 use Rattle.planner_rules.specs.Pages.{none, or_empty}
 use Rattle.planner_rules.specs.Plan.{AxisInput, Sheet, sheet_of, rows_in, columns_in, Sides, title_of, space_on, looked_at, passes_both, chosen_scale, cut_runs}
 use Rattle.planner_rules.specs.Plan.{page_runs, body_is_empty, AreaLayout, plan_in, counted_at, area_at, area_layout, ReadyFor, Cuttable, within, ready_frame}
 use Rattle.planner_rules.specs.Steps.{TitleReady, Settled, FineArea, Startable, sides_in, ready_from, ready_in, ready_cut, area_from, FewCut, Few}
-use Rattle.planner_rules.specs.Steps.{rows_at, columns_at, Writable, put_at}
-use Rattle.planner_rules.proofs.Laws.{either, part, length_part}
+use Rattle.planner_rules.specs.Steps.{rows_at, columns_at, Writable}
+use Rattle.planner_rules.proofs.Laws.{either, part}
 use Rattle.planner_rules.proofs.TitleLaws.{widened_pair, body_start_le, title_total_le}
 use Rattle.planner_rules.proofs.Lent.{flat-length, put_rest}
 use Rattle.planner_rules.proofs.CutLaws.{cuttable, passes_of, runs_of, cut_of_lem, as_many}
@@ -41,11 +41,9 @@ use Rattle.planner_rules.proofs.CutLaws.{cuttable, passes_of, runs_of, cut_of_le
 
 module _ (limit : ℕ) (asked : Title) (is ss fs ls : List ℕ) (slots : Slots is ss) (inside : all_within limit ls ≡ true) where
   pub title_ready : (w : Widened) → w ≡ widened limit asked fs ls → (n : ℕ) → n ≡ title_total w.title is ss
-      → TitleReady (record { asked = asked; title = w.title; total = n; ignored = w.ignored; expanded = w.expanded }) limit is ss fs ls
+      → TitleReady (record { asked = asked; widened = w; total = n }) limit is ss fs ls
   title_ready w e n total = record {
-    title_is = ap (λ (v : Widened). v.title) e;
-    ignored_is = ap (λ (v : Widened). v.ignored) e;
-    expanded_is = ap (λ (v : Widened). v.expanded) e;
+    widened_is = e;
     total_is = total;
     total_low = rw total (title_total_le w.title is ss slots);
     starts_low = λ first h. body_start_le limit w.title first h
@@ -55,7 +53,8 @@ module _ (limit : ℕ) (asked : Title) (is ss fs ls : List ℕ) (slots : Slots i
 -- ---- an area that is ready
 
 -- an axis with its title, ready to be cut
-pub ready_for : (side : Fixed) (t : ReadyTitle) (a : AxisInput) → t.title ≡ (title_of a).title → t.total ≡ title_total t.title a.indexes a.sizes
+pub ready_for : (side : Fixed) (t : ReadyTitle) (a : AxisInput) → t.widened.title ≡ (title_of a).title
+    → t.total ≡ title_total t.widened.title a.indexes a.sizes
     → t.total ≤ 2 ^ 50 → a.headings ≤ 2 ^ 50 → ReadyFor (ready_from side t a) side.0 a
 unfolding space_on
 ready_for side t a e total low headings =
@@ -106,13 +105,13 @@ module _ (x : Shared) (s : Sheet) (y : Settled x s) (g : PrintRange) where
     pub rows_are : ReadyFor r.rows (sides_in x).height rows
     rows_are =
         let t = y.rows_ready in
-        rw e (ready_for x.sides.height x.rows rows t.title_is t.total_is t.total_low
+        rw e (ready_for x.sides.height x.rows rows (ap (λ (w : Widened). w.title) t.widened_is) t.total_is t.total_low
         (either (λ (n : ℕ). n ≤ 2 ^ 50) x.settings.headings (omega arith) (omega arith)))
 
     pub columns_are : ReadyFor r.columns (sides_in x).width columns
     columns_are =
         let t = y.columns_ready in
-        rw e (ready_for x.sides.width x.columns columns t.title_is t.total_is t.total_low
+        rw e (ready_for x.sides.width x.columns columns (ap (λ (w : Widened). w.title) t.widened_is) t.total_is t.total_low
         (either (λ (n : ℕ). n ≤ 2 ^ 50) x.settings.headings (omega arith) (omega arith)))
 
     pub row_cuttable : Cuttable r.rows s.row_indexes s.row_sizes
@@ -194,15 +193,13 @@ module _ (r : Ready) (side : ℤ) (a : AxisInput) (y : ReadyFor r side a) (p : �
   pub empty_is : (b : Bool) → b ≡ body_is_empty side a p → b ≡ none runs
   empty_is b q = q ∙ ap none (sym same_runs)
 
-  pub part_room : (at : ℕ) (old : List ℕ) → RoomAt (page_runs side a p) at old → Room (or_empty a.first runs) (part at old)
+  pub has_room : (old : List ℕ) → Room (page_runs side a p) old → Room (or_empty a.first runs) old
   unfolding page_runs
-  part_room at old h = rw same_runs (omega (arith, h, length_part at old))
+  has_room old h = rw same_runs h
 
-  -- a part of a list was lent, and came back with the runs at its front
-  pub part_written : (at : ℕ) (old new : List ℕ) → new ≡ written (flat (or_empty a.first runs)) (part at old)
-      → put_mid at (length old - at) old new ≡ put_at (page_runs side a p) at old
+  pub are_written : (old new : List ℕ) → new ≡ written (flat (or_empty a.first runs)) old → new ≡ written (flat (page_runs side a p)) old
   unfolding page_runs
-  part_written at old new w = put_rest at (flat (page_runs side a p)) old new (rw same_runs at w)
+  are_written old new w = rw same_runs at w
 
 -- an area that came to this at a scale
 module _ (x : Shared) (s : Sheet) (g : PrintRange) (z : Scale) (a : AreaPlan) where
@@ -214,25 +211,32 @@ module _ (x : Shared) (s : Sheet) (g : PrintRange) (z : Scale) (a : AreaPlan) wh
     unfolding area_at counted_at
     as_long = rw e (refl, refl)
 
-    pub writable : (row_at column_at : ℕ) (rows columns : List ℕ) → RoomAt laid.rows row_at rows → RoomAt laid.columns column_at columns
-        → Writable x s g a row_at column_at rows columns
+    pub writable : (rows columns : List ℕ) → Room laid.rows rows → Room laid.columns columns → Writable x s g a rows columns
     unfolding area_at counted_at
-    writable row_at column_at rows columns hr hc =
-        subst (λ (b : AreaPlan). Writable x s g b row_at column_at rows columns) (sym e)
+    writable rows columns hr hc =
+        subst (λ (b : AreaPlan). Writable x s g b rows columns) (sym e)
         (record { rows_empty = refl; columns_empty = refl; row_room = hr; column_room = hc })
 
-    pub rows_put : (at : ℕ) (old new : List ℕ) → new ≡ put_at (rows_at x s g a.permille) at old
-        → WrittenAt laid.rows at (a.row_runs * run_numbers) old new
+    pub rows_filled : (old new : List ℕ) → new ≡ written (flat (rows_at x s g a.permille)) old → new ≡ written (flat laid.rows) old
     unfolding area_at counted_at
-    rows_put at old new h = record {
-      count = omega (arith, as_long.0, flat-length laid.rows);
-      list_is = h ∙ ap (λ (b : AreaPlan). put_at (rows_at x s g b.permille) at old) e;
-    }
+    rows_filled old new h = h ∙ ap (λ (b : AreaPlan). written (flat (rows_at x s g b.permille)) old) e
 
-    pub columns_put : (at : ℕ) (old new : List ℕ) → new ≡ put_at (columns_at x s g a.permille) at old
-        → WrittenAt laid.columns at (a.column_runs * run_numbers) old new
+    pub columns_filled : (old new : List ℕ) → new ≡ written (flat (columns_at x s g a.permille)) old → new ≡ written (flat laid.columns) old
     unfolding area_at counted_at
-    columns_put at old new h = record {
-      count = omega (arith, as_long.1, flat-length laid.columns);
-      list_is = h ∙ ap (λ (b : AreaPlan). put_at (columns_at x s g b.permille) at old) e;
-    }
+    columns_filled old new h = h ∙ ap (λ (b : AreaPlan). written (flat (columns_at x s g b.permille)) old) e
+
+    -- a part of each list was lent, and came back with the runs at its front
+    module _ (at : ℕ) (old new : List ℕ) where
+      pub rows_put : new ≡ written (flat (rows_at x s g a.permille)) (part at old)
+          → WrittenAt laid.rows at (a.row_runs * run_numbers) old (put_mid at (length old - at) old new)
+      rows_put h = record {
+        count = omega (arith, as_long.0, flat-length laid.rows);
+        list_is = put_rest at (flat laid.rows) old new (rows_filled (part at old) new h);
+      }
+
+      pub columns_put : new ≡ written (flat (columns_at x s g a.permille)) (part at old)
+          → WrittenAt laid.columns at (a.column_runs * run_numbers) old (put_mid at (length old - at) old new)
+      columns_put h = record {
+        count = omega (arith, as_long.1, flat-length laid.columns);
+        list_is = put_rest at (flat laid.columns) old new (columns_filled (part at old) new h);
+      }

@@ -1,12 +1,10 @@
 -- Laws of one axis of an area, ready to be cut and cut: of `specs/Plan.antt`'s definitions for the private functions. Assumes nothing.
 use mathlib.Core.Path.{◌≡◌, refl, sym, ap, ap₂, ◌∙◌}
-use mathlib.Core.Bool.{Bool, true, false, cond}
 use mathlib.Core.List.{List, [], ◌∷◌}
 use Prim.Native.Nat.{ℕ, ◌+◌, ◌-◌, ◌≤◌, max}
 use native.Mathlib.Omega.{arith}
 use lib.IntN.{ℤ}
-use lib.ListN.{length, take}
-use lib.Seq.{take_all}
+use lib.ListN.{length}
 use borrow.Author.Tests.{ne_eqb}
 use Rattle.planner_rules.specs.declared.titles.Title.{Title}
 use Rattle.planner_rules.specs.declared.planning.Ready.{Ready}
@@ -15,7 +13,7 @@ use Rattle.planner_rules.specs.Slots.{Slots, below}
 use Rattle.planner_rules.specs.Runs.{Run, expansions, tallies}
 use Rattle.planner_rules.specs.Scale.{Space, body_for, frame_for, axis_passes, fit_passes}
 use Rattle.planner_rules.specs.Pages.{none, or_empty, overflowing}
-use Rattle.planner_rules.specs.Plan.{AxisInput, title_of, start_of, body_part, body_of, space_on, looked_at, cut_runs, cut_shifts, page_runs, overflows}
+use Rattle.planner_rules.specs.Plan.{AxisInput, title_of, start_of, body_part, body_of, space_on, cut_runs, cut_shifts, page_runs, overflows}
 use Rattle.planner_rules.specs.Plan.{ReadyFor, within, ready_frame, ready_runs, ready_shifts, ready_overflows, cut_of, cut_from, Cuttable}
 use Rattle.planner_rules.proofs.EndLaws.{below-le}
 use Rattle.planner_rules.proofs.OverflowLaws.{empty_anywhere}
@@ -95,10 +93,3 @@ cut_of_lem r side a y p c e =
     let n = shifts_of r side a y p in
     let o = overflows_of r side a y p in
     e ∙ (λ i. cut_of (rs i) (n i) (o i))
-
--- ---- the runs that are written
-
--- the breaks that are looked at
-pub looked : (fit : Bool) (bs : List ℕ) (n : ℕ) → n ≡ cond fit 0 (length bs) → take n bs ≡ looked_at fit bs
-looked true bs n e = rw e
-looked false bs n e = rw e (take_all (length bs) bs (omega arith))

@@ -8,6 +8,7 @@ use lib.Dec.{leb}
 use lib.ListN.{length, get_or, length-append}
 use borrow.Author.Tests.{leb-true, eqb-true, le-leb, lt-leb}
 use Rattle.units.specs.Outcome.{Outcome, given, refused, and_then}
+use Rattle.planner_rules.specs.declared.titles.Widened.{Widened}
 use Rattle.planner_rules.specs.declared.titles.Axis.TheVariants.{Rows, Columns}
 use Rattle.planner_rules.specs.declared.pages.Plan.{Plan}
 use Rattle.planner_rules.specs.declared.planning.PrintRange.{PrintRange}
@@ -194,15 +195,15 @@ module _ (s : Sheet) (areas : List PrintRange) (y : Yes s areas) where
     titles_few = record {
       ignored = omega (
         arith,
-        rows.ignored_is,
-        columns.ignored_is,
+        ap (λ (w : Widened). w.ignored) rows.widened_is,
+        ap (λ (w : Widened). w.ignored) columns.widened_is,
         ignored_le s.merge_first_rows s.merge_last_rows (limit_of Rows) x.rows.asked,
         ignored_le s.merge_first_columns s.merge_last_columns (limit_of Columns) x.columns.asked,
       );
       expanded = omega (
         arith,
-        rows.expanded_is,
-        columns.expanded_is,
+        ap (λ (w : Widened). w.expanded) rows.widened_is,
+        ap (λ (w : Widened). w.expanded) columns.widened_is,
         few,
         expanded_le s.merge_first_rows s.merge_last_rows (limit_of Rows) x.rows.asked,
         expanded_le s.merge_first_columns s.merge_last_columns (limit_of Columns) x.columns.asked,
@@ -331,7 +332,7 @@ pub plan_value : (x : Shared) (s : Sheet) → Settled x s → (gs : List PrintRa
     → plan_from x all ≡ (layout (sides_in x) (onto x s) gs).plan
 unfolding layout plan_of
 plan_value x s y gs all e =
-    rw (e, y.rows_ready.ignored_is, y.columns_ready.ignored_is, y.rows_ready.expanded_is, y.columns_ready.expanded_is)
+    rw (e, y.rows_ready.widened_is, y.columns_ready.widened_is)
 
 -- ---- one area by its number
 

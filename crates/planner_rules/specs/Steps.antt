@@ -1,6 +1,6 @@
 -- What the private functions of the plan calls hand to each other: what all areas share, an area that is ready, counted areas, and runs that are
 -- written area by area. Assumes nothing.
-use Rattle.std.specs.Prelude.{◌≡◌, Result, Ok, Err, List, [], ◌∷◌, ◌++◌, map, ℕ, ◌+◌, ◌*◌, ◌^◌, ◌≤◌, ◌<◌, max, length, get_or, take, drop}
+use Rattle.std.specs.Prelude.{◌≡◌, Result, Ok, Err, List, [], ◌∷◌, ◌++◌, map, ℕ, ◌+◌, ◌*◌, ◌^◌, ◌≤◌, ◌<◌, max, length, get_or}
 use Rattle.units.specs.Grid.{last_row, last_column}
 use Rattle.units.specs.Outcome.{Outcome, given, refused}
 use Rattle.units.specs.Refusals.{number_of}
@@ -19,11 +19,11 @@ use Rattle.planner_rules.specs.declared.planning.AreaNotes.{AreaNotes}
 use Rattle.planner_rules.specs.declared.planning.CountedArea.{CountedArea}
 use Rattle.planner_rules.specs.declared.planning.CountedAreas.{CountedAreas}
 use Rattle.planner_rules.specs.declared.planning.Shared.{Shared}
-use Rattle.planner_rules.specs.Slots.{Slots, Rising, below, written}
+use Rattle.planner_rules.specs.Slots.{Slots, Rising, below}
 use Rattle.planner_rules.specs.Areas.{no_range, over_areas}
 use Rattle.planner_rules.specs.Titles.{limit_of, widened, body_start, title_total}
 use Rattle.planner_rules.specs.Runs.{Run}
-use Rattle.planner_rules.specs.Lent.{flat, Room, RoomAt}
+use Rattle.planner_rules.specs.Lent.{Room}
 use Rattle.planner_rules.specs.Scale.{Scale}
 use Rattle.planner_rules.specs.Pages.{pages_in}
 use Rattle.planner_rules.specs.Plan.{AxisInput, Sheet, rows_of, columns_of, rows_in, columns_in, Sides}
@@ -43,17 +43,15 @@ sides_in x = sides_of x.sides
 
 -- a title that is ready
 pub record TitleReady (t : ReadyTitle) (limit : ℕ) (is ss fs ls : List ℕ) : Type 0 where
-  pub title_is : t.title ≡ (widened limit t.asked fs ls).title
-  pub ignored_is : t.ignored ≡ (widened limit t.asked fs ls).ignored
-  pub expanded_is : t.expanded ≡ (widened limit t.asked fs ls).expanded
-  pub total_is : t.total ≡ title_total t.title is ss
+  pub widened_is : t.widened ≡ widened limit t.asked fs ls
+  pub total_is : t.total ≡ title_total t.widened.title is ss
   pub total_low : t.total ≤ 2 ^ 50
-  pub starts_low : (first : ℕ) → first ≤ limit → body_start t.title first ≤ limit + 1
+  pub starts_low : (first : ℕ) → first ≤ limit → body_start t.widened.title first ≤ limit + 1
 
 -- both titles' notes can be added up
 pub record TitlesFew (x : Shared) : Type 0 where
-  pub ignored : x.rows.ignored + x.columns.ignored < 2 ^ 64
-  pub expanded : x.rows.expanded + x.columns.expanded < 2 ^ 64
+  pub ignored : x.rows.widened.ignored + x.columns.widened.ignored < 2 ^ 64
+  pub expanded : x.rows.widened.expanded + x.columns.widened.expanded < 2 ^ 64
 
 -- what all areas of a sheet share, once the questions were answered with yes
 pub record Settled (x : Shared) (s : Sheet) : Type 0 where
@@ -93,18 +91,18 @@ IsPrepared (Err r) s areas = asked s areas ≡ refused (number_of r)
 -- an axis of an area that can be made ready
 pub record Startable (is : List ℕ) (t : ReadyTitle) (first : ℕ) : Type 0 where
   pub rising : Rising is
-  pub start_low : body_start t.title first ≤ last_row + 1
+  pub start_low : body_start t.widened.title first ≤ last_row + 1
 
 -- an axis with its title, ready to be cut; its sizes, merges and breaks are not looked at
 abbrev pub ready_from : Fixed → ReadyTitle → AxisInput → Ready
 ready_from side t a = record {
   fit = record {
     page = record { side = side; headings = a.headings; titles = t.total };
-    stretch = record { title = t.title; lo = body_start t.title a.first; hi = a.last };
+    stretch = record { title = t.widened.title; lo = body_start t.widened.title a.first; hi = a.last };
     target = a.target;
   };
-  from = below (body_start t.title a.first) a.indexes;
-  to = max (below (body_start t.title a.first) a.indexes) (below (a.last + 1) a.indexes);
+  from = below (body_start t.widened.title a.first) a.indexes;
+  to = max (below (body_start t.widened.title a.first) a.indexes) (below (a.last + 1) a.indexes);
 }
 
 -- both axes of an area
@@ -191,8 +189,8 @@ plan_from x all = record {
     invalid_margins = x.sides.invalid;
     scale_clamped = all.notes.clamped;
     fit_unreachable = all.notes.unreachable;
-    titles_ignored = x.rows.ignored + x.columns.ignored;
-    titles_expanded = x.rows.expanded + x.columns.expanded;
+    titles_ignored = x.rows.widened.ignored + x.columns.widened.ignored;
+    titles_expanded = x.rows.widened.expanded + x.columns.widened.expanded;
     merge_expansions = all.notes.expansions;
     break_shifts = all.notes.shifts;
     overflowing_runs = all.notes.overflows;
@@ -234,16 +232,12 @@ rows_at x s g p = page_runs (sides_in x).height (rows_in s g) p
 abbrev pub columns_at : Shared → Sheet → PrintRange → ℕ → List Run
 columns_at x s g p = page_runs (sides_in x).width (columns_in s g) p
 
--- an area whose runs can be written from two places on
-pub record Writable (x : Shared) (s : Sheet) (g : PrintRange) (a : AreaPlan) (row_at column_at : ℕ) (rows columns : List ℕ) : Type 0 where
+-- an area whose runs can be written to the fronts of two lists
+pub record Writable (x : Shared) (s : Sheet) (g : PrintRange) (a : AreaPlan) (rows columns : List ℕ) : Type 0 where
   pub rows_empty : a.rows_empty ≡ body_is_empty (sides_in x).height (rows_in s g) a.permille
   pub columns_empty : a.columns_empty ≡ body_is_empty (sides_in x).width (columns_in s g) a.permille
-  pub row_room : RoomAt (rows_at x s g a.permille) row_at rows
-  pub column_room : RoomAt (columns_at x s g a.permille) column_at columns
-
--- runs stand in a list from a place on, which was `old`
-abbrev pub put_at : List Run → ℕ → List ℕ → List ℕ
-put_at rs at old = take at old ++ written (flat rs) (drop at old)
+  pub row_room : Room (rows_at x s g a.permille) rows
+  pub column_room : Room (columns_at x s g a.permille) columns
 
 -- areas whose runs have room
 pub record RoomForAll (ls : List AreaLayout) (rows columns : List ℕ) : Type 0 where

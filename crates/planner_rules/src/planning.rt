@@ -2,11 +2,12 @@
 use crate::pages::{AreaPlan, AreaPlans, PageOrder};
 use crate::runs::Frame;
 use crate::scale::Fit;
-use crate::titles::Title;
+use crate::titles::{Title, Widened};
 use geometry::Margins;
 use units::Fixed;
 
-// How areas are printed. A target is the most pages in a direction, 0 for any number.
+// How areas are printed. A target is the most pages in a direction, 0 for any number. Not an enum of fitting and of a percent: the definition of an
+// axis reads its target whatever `fit` is.
 #[derive(Clone, Copy)]
 pub struct Settings {
     pub paper: Option<u16>,
@@ -23,7 +24,8 @@ pub struct Settings {
     pub cell_limit: Option<u64>,
 }
 
-// An area of the sheet. Not one type with the `Range` of a record, whose columns are u16: each clause on a range would have to name its number.
+// An area of the sheet. Not one type with the `Range` of a record, whose columns are u16 as its bytes are: one of both would be generic over its
+// columns, and would stand below the planner and the records, in `units`, which has no cells.
 #[derive(Clone, Copy, Default)]
 pub struct PrintRange {
     pub first_row: u32,
@@ -59,15 +61,12 @@ pub struct AxisRange {
     pub target: u16,
 }
 
-// A title of the job: as it was asked for, as merges widened it, its total, and its two counts of notes. No `Widened` in it: `widen_title` answers
-// that to a caller, and each clause on a title would name one field more.
+// A title of the job: as it was asked for, as merges widened it, and its total.
 #[derive(Clone, Copy)]
 pub struct ReadyTitle {
     pub asked: Title,
-    pub title: Title,
+    pub widened: Widened,
     pub total: u64,
-    pub ignored: u64,
-    pub expanded: u64,
 }
 
 // An axis of an area that is ready to be cut: what it is fitted by, and where its body stands among the slots.
@@ -130,7 +129,8 @@ pub struct CountedAreas {
     pub notes: AreaNotes,
 }
 
-// The sides of the content, and the notes on paper and margins.
+// The sides of the content, and how many notes there are on paper and on margins: counts of 0 or 1, as a plan has them, for which a bool would be
+// turned back into a count.
 #[derive(Clone, Copy)]
 pub struct ContentSides {
     pub width: Fixed,

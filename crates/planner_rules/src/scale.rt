@@ -2,7 +2,8 @@
 use crate::titles::Title;
 use units::Fixed;
 
-// A scale in thousandths, and its two notes.
+// A scale in thousandths, and how many there are of its two notes: counts of 0 or 1, which are added up over the areas; a bool would be turned back
+// into a count.
 #[derive(Clone, Copy)]
 pub struct ChosenScale {
     pub permille: u16,

@@ -1,7 +1,7 @@
 // What settings come to, before anything is cut: document 01, sections "Paper and content", "Titles" and "Scale".
 #![tactic(auto)]
 
-ghost use Rattle.std.specs.Prelude.{◌≡◌, cond};
+ghost use Rattle.std.specs.Prelude.{◌≡◌};
 ghost use Rattle.planner_rules.specs.Scale.{fixed_scale, meets, middle, scale_of};
 ghost use Rattle.planner_rules.specs.Plan as call;
 
@@ -61,10 +61,10 @@ pub fn axis_range(axis: Axis, settings: Settings, range: PrintRange, title: Titl
 }
 
 // The breaks that are looked at: with fit on, none.
-pub fn looked_at(fit: bool, breaks: usize) -> usize
-    ensures { result ≡ cond fit 0 breaks }
+pub fn looked_at(fit: bool, breaks: &[u32]) -> &[u32]
+    ensures { result.now ≡ call.looked_at fit breaks.now }
 {
-    if fit { 0 } else { breaks }
+    if fit { &[] } else { breaks }
 }
 
 // The content's width and height, with what was noted of paper and margins.

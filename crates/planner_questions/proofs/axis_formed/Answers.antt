@@ -14,7 +14,7 @@ swap false b d e = refl
 pub returns : goal.returns
 returns c =
     let a = c.args in
-    let fs = a.merges.firsts.now in
-    let ls = a.merges.lasts.now in
+    let fs = a.lists.merges.firsts.now in
+    let ls = a.lists.merges.lasts.now in
     rw c.formed.ensures
-    (swap (equally_long a.slots.indexes.now a.slots.sizes.now) (equally_long fs ls) (all_ordered fs ls) (leb a.setup.first a.setup.last))
+    (swap (equally_long a.lists.slots.indexes.now a.lists.slots.sizes.now) (equally_long fs ls) (all_ordered fs ls) (leb a.setup.first a.setup.last))

@@ -1,5 +1,6 @@
 -- A turn writes the runs of the first of the areas that are left.
-use Rattle.std.proofs.Common.{◌≡◌, ℕ, suc, ◌+◌, ◌*◌, ◌≤◌, List, [], ◌∷◌, ◌++◌, ◌⊎◌, inl, inr, map, length, refl, sym, ◌∙◌, arith, rules}
+use borrow.Rule.Slice.PartMut.{put_mid}
+use Rattle.std.proofs.Common.{◌≡◌, ℕ, suc, ◌+◌, ◌-◌, ◌*◌, ◌≤◌, List, [], ◌∷◌, ◌++◌, ◌⊎◌, inl, inr, map, length, refl, sym, ◌∙◌, arith, rules}
 use Rattle.std.specs.Iterator.Adapters.{zip_first, zip_second}
 use Rattle.std.specs.Slice.Iter.{iter_rest}
 use Rattle.std.proofs.lemmas.Slice.Zip.{either_empty_from_Zip}
@@ -12,7 +13,8 @@ use Rattle.planner_rules.specs.Lent.{flat, Room, RoomAt, WrittenAt, run_numbers}
 use Rattle.planner_rules.specs.Pages.{joined}
 use Rattle.planner_rules.specs.Asked.{sheet_by}
 use Rattle.planner_rules.specs.Plan.{Sheet, rows_in, columns_in, chosen_scale, AreaLayout, plan_in, area_layout, layouts_of, row_runs_of, column_runs_of}
-use Rattle.planner_rules.specs.Steps.{sides_in, FineAreas, Writable, put_at, rows_at, columns_at}
+use Rattle.planner_rules.specs.Steps.{sides_in, FineAreas, Writable, rows_at, columns_at}
+use Rattle.planner_rules.proofs.Laws.{part, length_part}
 use Rattle.planner_rules.proofs.Lent.{flat-length, Writing, writing_start, writing_more, writing_room, writing_done}
 use Rattle.planner_rules.proofs.AreaLaws.{as_long, writable, rows_put, columns_put}
 use Rattle.planner.proofs.settled.SettledSheet.write_areas.Goals as goal
@@ -72,24 +74,27 @@ module _ (x : Shared) (s : Sheet) {left gs : List PrintRange} {g : PrintRange} {
           fits (λ l. l.columns) laid others a.column_runs lengths.1 all old at new room v,
         )
 
-    rows_next : Writing all old at (row_runs_of (layouts_of (sides_in x) s left)) new → (new' : List ℕ) → new' ≡ put_at (rows_at x s g a.permille) at new
-        → Writing all old (at + a.row_runs * 4) (row_runs_of others) new'
+    rows_next : Writing all old at (row_runs_of (layouts_of (sides_in x) s left)) new → (new' : List ℕ) → new' ≡ written (flat (rows_at x s g a.permille)) (part at new)
+        → Writing all old (at + a.row_runs * 4) (row_runs_of others) (put_mid at (length new - at) new new')
     unfolding area_layout
     rows_next w new' h =
-        next (λ l. l.rows) laid others a.row_runs lengths.0 all old at new room (rw eg at w) new'
+        next (λ l. l.rows) laid others a.row_runs lengths.0 all old at new room (rw eg at w) _
         (rows_put x s g (chosen_scale s.settings (sides_in x) (rows_in s g) (columns_in s g)) a came_to at new new' h)
 
     columns_next : Writing all old at (column_runs_of (layouts_of (sides_in x) s left)) new → (new' : List ℕ)
-        → new' ≡ put_at (columns_at x s g a.permille) at new → Writing all old (at + a.column_runs * 4) (column_runs_of others) new'
+        → new' ≡ written (flat (columns_at x s g a.permille)) (part at new)
+        → Writing all old (at + a.column_runs * 4) (column_runs_of others) (put_mid at (length new - at) new new')
     unfolding area_layout
     columns_next w new' h =
-        next (λ l. l.columns) laid others a.column_runs lengths.1 all old at new room (rw eg at w) new'
+        next (λ l. l.columns) laid others a.column_runs lengths.1 all old at new room (rw eg at w) _
         (columns_put x s g (chosen_scale s.settings (sides_in x) (rows_in s g) (columns_in s g)) a came_to at new new' h)
 
   can_write : (row_at column_at : ℕ) (rows columns : List ℕ) → RoomAt laid.rows row_at rows → RoomAt laid.columns column_at columns
-      → Writable x s g a row_at column_at rows columns
+      → Writable x s g a (part row_at rows) (part column_at columns)
   unfolding area_layout
-  can_write = writable x s g (chosen_scale s.settings (sides_in x) (rows_in s g) (columns_in s g)) a came_to
+  can_write row_at column_at rows columns hr hc =
+      writable x s g (chosen_scale s.settings (sides_in x) (rows_in s g) (columns_in s g)) a came_to _ _
+      (omega (arith, hr, length_part row_at rows)) (omega (arith, hc, length_part column_at columns))
 
 -- the others are fine too
 others_fine : (g : PrintRange) (gs : List PrintRange) → FineAreas (g ∷ gs) → FineAreas gs

@@ -4,7 +4,6 @@ use Rattle.planner_rules.specs.declared.planning.FinalCut.{FinalCut}
 use Rattle.planner_rules.specs.Scale.{scale_of}
 use Rattle.planner_rules.specs.Asked.{sheet_by}
 use Rattle.planner_rules.specs.Steps.{area_from}
-use Rattle.planner_rules.proofs.CutLaws.{looked}
 use Rattle.planner_rules.proofs.AreaLaws.{counted_is}
 use Rattle.planner.proofs.sheet_area.SheetArea.count_at.Goals as goal
 
@@ -15,11 +14,8 @@ returns-clause-counted c =
     let z = scale_of c.args.scale in
     let r = c.body.ensures in
     let k = c.body-2.ensures in
-    let row_breaks = looked x.settings.fit _ _ c.looked_at-row_kept.ensures in
-    let column_breaks = looked x.settings.fit _ _ c.looked_at-column_kept.ensures in
     let rows = rw (
-      row_breaks,
-      c.in_memory-row_breaks.ensures.same,
+      c.looked_at.ensures,
       r.fit_is,
       r.merges_are.0,
       r.merges_are.1,
@@ -27,8 +23,7 @@ returns-clause-counted c =
       r.slots_are.1,
     ) at c.count_cut-row_cut.ensures.counted in
     let columns = rw (
-      column_breaks,
-      c.in_memory-column_breaks.ensures.same,
+      c.looked_at-2.ensures,
       k.fit_is,
       k.merges_are.0,
       k.merges_are.1,

@@ -12,9 +12,9 @@ use Rattle.planner_rules.specs.Pages.{joined}
 use Rattle.planner_rules.specs.Scale.{Scale}
 use Rattle.planner_rules.specs.Plan.{Sheet, AreaLayout, plan_in, rows_in, columns_in, chosen_scale, area_layout, layout, layouts_of}
 use Rattle.planner_rules.specs.Plan.{row_runs_of, column_runs_of}
-use Rattle.planner_rules.specs.Steps.{sides_in, counted_of, Added, Writable, put_at, rows_at, columns_at}
+use Rattle.planner_rules.specs.Steps.{sides_in, counted_of, Added, Writable, rows_at, columns_at}
 use Rattle.planner_rules.proofs.Lent.{room_runs}
-use Rattle.planner_rules.proofs.AreaLaws.{writable, rows_put, columns_put}
+use Rattle.planner_rules.proofs.AreaLaws.{writable, rows_filled, columns_filled}
 use Rattle.planner_rules.proofs.AreasLaws.{few_none, counted_next}
 use Rattle.planner_rules.proofs.QuestionLaws.{positive}
 use Rattle.planner_rules.proofs.PlanLaws.{refuses_plan, answers_plan, room_refused, room_given, runs_fit_lem, plan_value}
@@ -39,23 +39,22 @@ module _ (x : Shared) (s : Sheet) (g : PrintRange) (k : CountedArea) (e : k ≡ 
   came_to = ap (λ (c : CountedArea). c.area) e
 
   can_write : (rows columns : List ℕ) → length (row_runs_of (laid ∷ [])) ≤ room_in rows
-      → length (column_runs_of (laid ∷ [])) ≤ room_in columns → Writable x s g k.area 0 0 rows columns
+      → length (column_runs_of (laid ∷ [])) ≤ room_in columns → Writable x s g k.area rows columns
   unfolding area_layout
   can_write rows columns hr hc =
-      writable x s g scale k.area came_to 0 0 rows columns
-      (omega (arith, room_runs laid.rows rows (rw (alone laid.rows) at hr)))
-      (omega (arith, room_runs laid.columns columns (rw (alone laid.columns) at hc)))
+      writable x s g scale k.area came_to rows columns (room_runs laid.rows rows (rw (alone laid.rows) at hr))
+      (room_runs laid.columns columns (rw (alone laid.columns) at hc))
 
-  rows_written : (old new : List ℕ) → new ≡ put_at (rows_at x s g k.area.permille) 0 old → new ≡ written (flat (row_runs_of (laid ∷ []))) old
+  rows_written : (old new : List ℕ) → new ≡ written (flat (rows_at x s g k.area.permille)) old → new ≡ written (flat (row_runs_of (laid ∷ []))) old
   unfolding area_layout
   rows_written old new h =
-      (rows_put x s g scale k.area came_to 0 old new h).list_is ∙ ap (λ (rs : List Run). written (flat rs) old) (sym (alone laid.rows))
+      rows_filled x s g scale k.area came_to old new h ∙ ap (λ (rs : List Run). written (flat rs) old) (sym (alone laid.rows))
 
-  columns_written : (old new : List ℕ) → new ≡ put_at (columns_at x s g k.area.permille) 0 old
+  columns_written : (old new : List ℕ) → new ≡ written (flat (columns_at x s g k.area.permille)) old
       → new ≡ written (flat (column_runs_of (laid ∷ []))) old
   unfolding area_layout
   columns_written old new h =
-      (columns_put x s g scale k.area came_to 0 old new h).list_is ∙ ap (λ (rs : List Run). written (flat rs) old) (sym (alone laid.columns))
+      columns_filled x s g scale k.area came_to old new h ∙ ap (λ (rs : List Run). written (flat rs) old) (sym (alone laid.columns))
 
 pub add_area-requires-clause-few_all : goal.add_area-requires-clause-few_all
 add_area-requires-clause-few_all c = (rw c.no_areas-counted.ensures few_none, c.count-one.ensures.few)

@@ -4,11 +4,12 @@ use Rattle.units.specs.Outcome.{Outcome, given, refused}
 use Rattle.planner_rules.specs.declared.planning.PrintRange.{PrintRange}
 use Rattle.planner_rules.specs.declared.planning.CountedArea.{CountedArea}
 use Rattle.planner_rules.specs.declared.planning.Shared.{Shared}
-use Rattle.planner_rules.specs.Lent.{room_in}
+use Rattle.planner_rules.specs.Slots.{written}
+use Rattle.planner_rules.specs.Lent.{room_in, flat}
 use Rattle.planner_rules.specs.Plan.{Sheet, AreaLayout, plan_in, rows_in, columns_in, counted_at, area_at, scale_at, area_room, AreaWrote}
 use Rattle.planner_rules.specs.Asked.{sheet_by}
-use Rattle.planner_rules.specs.Steps.{sides_in, Writable, put_at, rows_at, columns_at}
-use Rattle.planner_rules.proofs.AreaLaws.{as_long, writable, rows_put, columns_put}
+use Rattle.planner_rules.specs.Steps.{sides_in, Writable, rows_at, columns_at}
+use Rattle.planner_rules.proofs.AreaLaws.{as_long, writable, rows_filled, columns_filled}
 use Rattle.planner_rules.proofs.Lent.{room_runs}
 use Rattle.planner_rules.proofs.PlanLaws.{refuses_area, answers_area, runs_held}
 use Rattle.planner_rules.proofs.QuestionLaws.{both}
@@ -49,18 +50,17 @@ module _ (x : Shared) (s : Sheet) (g : PrintRange) (p : ℕ) (k : CountedArea) (
     columns_fit : length laid.columns ≤ room_in columns
     columns_fit = omega (arith, long, leb-true k.area.column_runs (room_in columns) halves.1)
 
-    can_write : Writable x s g k.area 0 0 rows columns
+    can_write : Writable x s g k.area rows columns
     can_write =
-        writable x s g (scale_at p) k.area came_to 0 0 rows columns (omega (arith, room_runs laid.rows rows rows_fit))
-        (omega (arith, room_runs laid.columns columns columns_fit))
+        writable x s g (scale_at p) k.area came_to rows columns (room_runs laid.rows rows rows_fit) (room_runs laid.columns columns columns_fit)
 
-    answers : (rows' columns' : List ℕ) → rows' ≡ put_at (rows_at x s g k.area.permille) 0 rows
-        → columns' ≡ put_at (columns_at x s g k.area.permille) 0 columns
+    answers : (rows' columns' : List ℕ) → rows' ≡ written (flat (rows_at x s g k.area.permille)) rows
+        → columns' ≡ written (flat (columns_at x s g k.area.permille)) columns
         → AreaWrote room (given (record { rows = k.area.row_runs; columns = k.area.column_runs })) rows columns rows' columns'
     answers rows' columns' put puts =
         answers_area _ laid _ (runs_held laid (room_in rows) (room_in columns) rows_fit columns_fit)
         (λ i. record { rows = sym long.0 i; columns = sym long.1 i }) rows columns _ _
-        (rows_put x s g (scale_at p) k.area came_to 0 rows _ put).list_is (columns_put x s g (scale_at p) k.area came_to 0 columns _ puts).list_is
+        (rows_filled x s g (scale_at p) k.area came_to rows _ put) (columns_filled x s g (scale_at p) k.area came_to columns _ puts)
 
 pub returns-then-not-runs_held : goal.returns-then-not-runs_held
 returns-then-not-runs_held c =
