@@ -4,7 +4,7 @@ ghost use Rattle.units.specs.Refusals.{outcome};
 ghost use Rattle.job_report.specs.Lines as section;
 
 use crate::text::Text;
-use planner_rules::{Notes, Page, Plan};
+use planner_rules::{NoteNumbers, Notes, Page, Plan};
 use units::Refusal;
 
 // The first area's permille; 0 where there is no area.
@@ -35,17 +35,7 @@ impl Text<'_> {
         requires { self.old.at + 195 ≤ length self.old.out.now }
         ensures { section.TextPut (section.notes_line notes) self.old self.new }
     {
-        let list = [
-            notes.unknown_paper,
-            notes.invalid_margins,
-            notes.scale_clamped,
-            notes.fit_unreachable,
-            notes.titles_ignored,
-            notes.titles_expanded,
-            notes.merge_expansions,
-            notes.break_shifts,
-            notes.overflowing_runs,
-        ];
+        let list = NoteNumbers::from(notes);
         self.line(b"notes", &list);
     }
 

@@ -75,17 +75,6 @@ pub fn margin_setting(margins: Option<MarginBits>) -> Option<Margins>
     margins.map(inches_of)
 }
 
-// No `From`: neither type is of this crate.
-fn order_for(order: Option<u8>) -> PageOrder
-    ensures { result ≡ section.order_for order }
-{
-    if over_then_down(order) {
-        PageOrder::OverThenDown
-    } else {
-        PageOrder::DownThenOver
-    }
-}
-
 // The settings as the planner takes them.
 impl From<&JobSettings> for Settings {
     ghost from_gives = { λ read settings. settings ≡ section.settings_for read.now };
@@ -99,7 +88,7 @@ impl From<&JobSettings> for Settings {
             fit: fit_on(read.fit, read.fit_width, read.fit_height),
             fit_width: read.fit_width,
             fit_height: read.fit_height,
-            order: order_for(read.order),
+            order: PageOrder::from(over_then_down(read.order)),
             headings: read.headings,
             page_limit: page_limit(read.page_limit),
             cell_limit: read.cell_limit,

@@ -9,9 +9,8 @@
 // digits for each field. After it each area has 2 rows empty, columns empty, and 16 row runs, column runs; what is not there is 0.
 use crate::fields::{Fault, Fields};
 use crate::lent;
-use crate::plans::page_order;
 use crate::text::numbered_page;
-use planner_rules::{AreaPlan, AreaPlans, Notes, Plan, RunLists};
+use planner_rules::{AreaPlan, AreaPlans, Notes, PageOrder, Plan, RunLists};
 use std::alloc::Global;
 use std::io::{self, Write};
 
@@ -48,7 +47,8 @@ pub(crate) struct PageCase {
 
 impl PageCase {
     pub(crate) fn read(alloc: Global, fields: &mut Fields) -> Result<Self, Fault> {
-        let order = page_order(fields.next()?);
+        let over_then_down: bool = fields.next()?;
+        let order = PageOrder::from(over_then_down);
         let (row_others, column_others) = (fields.next()?, fields.next()?);
         let (row_numbers, column_numbers) = (fields.next()?, fields.next()?);
         let areas_read = fields.next()?;

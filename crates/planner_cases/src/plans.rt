@@ -151,7 +151,7 @@ impl Asked {
             fit: flags.fit,
             fit_width,
             fit_height,
-            order: page_order(flags.over_then_down),
+            order: PageOrder::from(flags.over_then_down),
             headings: flags.headings,
             page_limit,
             cell_limit,
@@ -162,15 +162,6 @@ impl Asked {
             column_title,
         };
         Ok((asked, lengths))
-    }
-}
-
-// Beside `order_from` of `yuzhbani_answers`: that one takes a caller's number, and its crate is the calls' for other languages.
-pub(crate) fn page_order(over_then_down: bool) -> PageOrder {
-    if over_then_down {
-        PageOrder::OverThenDown
-    } else {
-        PageOrder::DownThenOver
     }
 }
 

@@ -2,7 +2,9 @@
 // unreachable, the runs of rows and of columns, and whether the rows and the columns are empty. A page is `page`, the vertical and the
 // horizontal number, and both runs, with first, last, size, empty mark and manual mark.
 use planner_pages::page_numbered;
-use planner_rules::{AreaPlan, Notes, Page, PageRun, Plan, RunLists, Tally, Title, Widened};
+use planner_rules::{
+    AreaPlan, NoteNumbers, Notes, Page, PageRun, Plan, RunLists, Tally, Title, Widened,
+};
 use std::fmt;
 use units::Refusal;
 
@@ -92,12 +94,10 @@ struct NotesText(Notes);
 
 impl fmt::Display for NotesText {
     fn fmt<W: fmt::Write>(&self, f: &mut fmt::Formatter<W>) -> fmt::Result {
-        let n = &self.0;
-        write!(f, " {} {}", n.unknown_paper, n.invalid_margins)?;
-        write!(f, " {} {}", n.scale_clamped, n.fit_unreachable)?;
-        write!(f, " {} {}", n.titles_ignored, n.titles_expanded)?;
-        write!(f, " {} {}", n.merge_expansions, n.break_shifts)?;
-        write!(f, " {}", n.overflowing_runs)
+        for number in NoteNumbers::from(self.0) {
+            write!(f, " {number}")?;
+        }
+        Ok(())
     }
 }
 

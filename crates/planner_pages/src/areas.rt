@@ -4,34 +4,30 @@ ghost use Rattle.planner_rules.specs.Pages as section;
 
 use planner_rules::{AreaPlan, RunCounts, Spot};
 
-// Whether an area has more pages than so many: by division, for the product of its run counts may be too large for a number.
+// Whether an area has more pages than so many; the product of its run counts may be too large for a number.
 pub(crate) fn has_more(area: AreaPlan, before: usize) -> bool
     ensures { result ≡ ltb before (section.pages_in area) }
 {
-    if area.row_runs == 0 {
-        return false;
-    }
-    before / area.row_runs < area.column_runs
+    area.row_runs
+        .checked_mul(area.column_runs)
+        .is_none_or(|pages| before < pages)
 }
 
-// The spot of the page that has so many pages before it; past the last area where there is none, and then how many are left.
-pub(crate) fn walk(areas: &[AreaPlan], before: usize) -> Spot
+// The spot of the page that has so many pages before it; where there is none, how many are left past the last area.
+pub(crate) fn walk(areas: &[AreaPlan], before: usize) -> Result<Spot, usize>
     ensures { result ≡ section.walk_from 0 before areas.now }
 {
     let mut rest = before;
     for (i, area) in areas.iter().enumerate() {
         if has_more(*area, rest) {
-            return Spot {
+            return Ok(Spot {
                 area: i,
                 before: rest,
-            };
+            });
         }
         rest -= area.row_runs * area.column_runs;
     }
-    Spot {
-        area: areas.len(),
-        before: rest,
-    }
+    Err(rest)
 }
 
 // 11: two lists with room for so many runs hold the runs of all areas. By what is left of the room, for a sum may be too large for a number.

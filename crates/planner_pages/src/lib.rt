@@ -3,10 +3,12 @@
 
 mod areas;
 
-ghost use Rattle.std.specs.Prelude.{◌≡◌, ◌+◌, ◌≤◌, ◌<◌, length};
+ghost use Rattle.std.specs.Prelude.{◌≡◌, suc, ◌+◌, ◌≤◌, ◌<◌, length};
+ghost use Rattle.units.specs.Outcome.{given};
 ghost use Rattle.units.specs.Refusals.{outcome};
 ghost use Rattle.planner_rules.specs.Areas.{over_areas};
 ghost use Rattle.planner_rules.specs.Lent.{room_in};
+ghost use Rattle.planner_rules.specs.Pages.{numbered, areas_pages};
 ghost use Rattle.planner_rules.specs.Pages as section;
 
 use crate::areas::{has_more, runs_fit, runs_of, walk};
@@ -104,20 +106,11 @@ fn spot_page(plan: &Plan, spot: Spot, runs: RunLists<'_>) -> Page
 pub fn page_spot(plan: &Plan, number: u64) -> Option<Spot>
     ensures { result ≡ section.spot_of plan.now number }
 {
-    if number == 0 {
-        return None;
-    }
-    let before = number - 1;
+    let before = number.checked_sub(1)?;
     if before >= plan.pages {
         return None;
     }
-    let areas = plan.areas.as_slice();
-    let spot = walk(areas, before as usize);
-    if spot.area < areas.len() {
-        Some(spot)
-    } else {
-        None
-    }
+    walk(plan.areas.as_slice(), before as usize).ok()
 }
 
 // The page of an area with a number among its own, over lists that hold its runs at the front.
@@ -136,10 +129,7 @@ pub fn area_page(
     if !runs_held(counts, rooms_in(runs.rows.len(), runs.columns.len())) {
         return Err(Refusal::ListTooShort);
     }
-    if number == 0 {
-        return Err(Refusal::NoSuchNumber);
-    }
-    let before = (number - 1) as usize;
+    let before = number.checked_sub(1).ok_or(Refusal::NoSuchNumber)? as usize;
     if !has_more(area, before) {
         return Err(Refusal::NoSuchNumber);
     }
@@ -153,9 +143,7 @@ pub fn page_numbered(plan: &Plan, number: u64, runs: RunLists<'_>) -> Result<Pag
     if !holds_runs(plan, runs) {
         return Err(Refusal::ListTooShort);
     }
-    let Some(spot) = page_spot(plan, number) else {
-        return Err(Refusal::NoSuchNumber);
-    };
+    let spot = page_spot(plan, number).ok_or(Refusal::NoSuchNumber)?;
     Ok(spot_page(plan, spot, runs))
 }
 
@@ -164,10 +152,9 @@ fn page_after(before: usize, plan: &Plan, runs: RunLists<'_>) -> Page
     requires rows_fit { section.row_runs plan.now.areas.items ≤ room_in runs.rows.now }
     requires columns_fit { section.column_runs plan.now.areas.items ≤ room_in runs.columns.now }
     requires before_bound { before < over_areas section.pages_in plan.now.areas.items }
-    ensures { result ≡ section.page_after plan.now runs.entry.rows.now runs.entry.columns.now before }
+    ensures { numbered (areas_pages plan.now.order plan.now.areas.items runs.entry.rows.now runs.entry.columns.now) (suc before) ≡ given result }
 {
-    let areas = plan.areas.as_slice();
-    let spot = walk(areas, before);
+    let spot = walk(plan.areas.as_slice(), before).unwrap();
     spot_page(plan, spot, runs)
 }
 
@@ -175,12 +162,10 @@ fn page_after(before: usize, plan: &Plan, runs: RunLists<'_>) -> Page
 fn page_count(plan: &Plan) -> u64
     ensures { result ≡ section.page_count plan.now }
 {
-    let areas = plan.areas.as_slice();
-    let spot = walk(areas, plan.pages as usize);
-    if spot.area < areas.len() {
-        return plan.pages;
+    match walk(plan.areas.as_slice(), plan.pages as usize) {
+        Ok(_) => plan.pages,
+        Err(left) => plan.pages - left as u64,
     }
-    plan.pages - spot.before as u64
 }
 
 // What `list_pages` answers where so many pages have room.
@@ -197,16 +182,6 @@ fn listing(room: usize, plan: &Plan, runs: RunLists<'_>) -> Result<u64, Refusal>
     Ok(count)
 }
 
-// How many pages are written.
-fn count_in(answer: Result<u64, Refusal>) -> usize
-    ensures { result ≡ section.count_in (outcome answer) }
-{
-    match answer {
-        Ok(n) => n as usize,
-        Err(_) => 0,
-    }
-}
-
 // Writes the pages of a plan, in order, to the front of a lent list, over the lists of runs that were lent to the plan. It answers how many,
 // or refuses and writes nothing.
 pub fn list_pages(pages: &mut [Page], plan: &Plan, runs: RunLists<'_>) -> Result<u64, Refusal>
@@ -216,11 +191,10 @@ pub fn list_pages(pages: &mut [Page], plan: &Plan, runs: RunLists<'_>) -> Result
         let listed = section.list_pages plan.now rows columns (length old) in
         (outcome result ≡ listed) × (pages.new ≡ section.pages_lent listed (section.pages_of plan.now rows columns) old) }
 {
-    let answer = listing(pages.len(), plan, runs);
-    let count = count_in(answer);
+    let count = listing(pages.len(), plan, runs)?;
     // By number: the invariant of a loop over `iter_mut` does not see what was written, which was tried.
-    for i in 0..count {
+    for i in 0..count as usize {
         pages[i] = page_after(i, plan, runs);
     }
-    answer
+    Ok(count)
 }

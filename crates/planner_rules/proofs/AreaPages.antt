@@ -1,5 +1,5 @@
 -- Laws of the pages of several areas: how many there are, and which page has a number. Assumes nothing.
-use mathlib.Core.Path.{◌≡◌, refl, sym, ap, ◌∙◌}
+use mathlib.Core.Path.{◌≡◌, refl, sym, ap, subst, ◌∙◌}
 use mathlib.Core.Bool.{true, false, and-false}
 use mathlib.Core.List.{List, [], ◌∷◌, ◌++◌}
 use Prim.Native.Nat.{ℕ, zero, suc, ◌+◌, ◌-◌, ◌*◌, ◌≤◌, ◌<◌}
@@ -7,13 +7,13 @@ use native.Mathlib.Numerals.{add-one}
 use native.Mathlib.Omega.{arith}
 use lib.Dec.{leb}
 use lib.ListN.{length, get_or, take, drop, length-append, drop_of_length-le}
-use lib.Seq.{drop-drop, drop-cons, take_all}
+use lib.Seq.{drop-drop, drop-cons}
 use borrow.Author.Tests.{lt-ltb, le-ltb, le-leb, lt-leb}
 use Rattle.units.specs.Outcome.{given, refused}
 use Rattle.planner_rules.specs.declared.pages.PageOrder.{PageOrder}
 use Rattle.planner_rules.specs.declared.pages.AreaPlan.{AreaPlan}
 use Rattle.planner_rules.specs.declared.pages.Spot.{Spot}
-use Rattle.std.specs.Prelude.{Some, None}
+use Rattle.std.specs.Prelude.{Some, None, Result, Ok, Err}
 use Rattle.planner_rules.specs.Lent.{run_numbers}
 use Rattle.planner_rules.specs.Areas.{no_plan, over_areas}
 use Rattle.planner_rules.specs.Pages.{page_at, numbered, pages_in, area_pages, after_runs, areas_pages, row_runs, column_runs, area_page_after}
@@ -118,49 +118,49 @@ module _ (f : AreaPlan → ℕ) where
 
 -- ---- where the walk over the areas ends
 
--- after so many of the areas
-record Walked (k before : ℕ) (areas : List AreaPlan) (s : Spot) (steps : ℕ) : Type 0 where
+-- at the page that has so many before it, after so many of the areas
+record Found (k before : ℕ) (areas : List AreaPlan) (s : Spot) (steps : ℕ) : Type 0 where
   at_area : s.area ≡ k + steps
-  among : steps ≤ length areas
+  among : steps < length areas
   passed : over_areas pages_in (take steps areas) + s.before ≡ before
-  in_area : steps < length areas → s.before < pages_in (get_or areas steps no_plan)
-  found : steps < length areas → spot_from k before areas ≡ Some s
-  missing : length areas ≤ steps → spot_from k before areas ≡ None
+  in_area : s.before < pages_in (get_or areas steps no_plan)
+  found : spot_from k before areas ≡ Some s
+
+-- past the last area, with n left
+pub record Past (k before : ℕ) (areas : List AreaPlan) (n : ℕ) : Type 0 where
+  pub passed : over_areas pages_in areas + n ≡ before
+  pub missing : spot_from k before areas ≡ None
+
+abbrev Walked : ℕ → ℕ → List AreaPlan → Result Spot ℕ → Type 0
+Walked k before areas (Ok s) = (steps : ℕ) × Found k before areas s steps
+Walked k before areas (Err n) = Past k before areas n
 
 spot_on : (k before : ℕ) (a : AreaPlan) (areas : List AreaPlan) → pages_in a ≤ before
     → spot_from k before (a ∷ areas) ≡ spot_from (k + 1) (before - pages_in a) areas
 unfolding spot_from
 spot_on k before a areas h = rw (le-ltb before (pages_in a) h)
 
-walked : (k before : ℕ) (areas : List AreaPlan) → (steps : ℕ) × Walked k before areas (walk_from k before areas) steps
-unfolding walk_from spot_from over_areas
-walked k before [] = (
-  0,
+further : (k before : ℕ) (a : AreaPlan) (areas : List AreaPlan) → pages_in a ≤ before → (end : Result Spot ℕ)
+    → Walked (k + 1) (before - pages_in a) areas end → Walked k before (a ∷ areas) end
+unfolding over_areas
+further k before a areas h (Ok s) (steps, w) = (
+  suc steps,
   record {
-    at_area = omega arith;
-    among = omega arith;
-    passed = omega arith;
-    in_area = λ h. absurd (omega arith);
-    found = λ h. absurd (omega arith);
-    missing = λ h. refl;
+    at_area = omega (arith, w.at_area);
+    among = omega (arith, w.among);
+    passed = omega (arith, w.passed);
+    in_area = w.in_area;
+    found = spot_on k before a areas h ∙ w.found;
   },
 )
+further k before a areas h (Err n) w = record { passed = omega (arith, w.passed); missing = spot_on k before a areas h ∙ w.missing }
+
+walked : (k before : ℕ) (areas : List AreaPlan) → Walked k before areas (walk_from k before areas)
+unfolding walk_from spot_from over_areas
+walked k before [] = record { passed = omega arith; missing = refl }
 walked k before (a ∷ areas) =
     split (pages_in a) before
-    (λ h.
-    let rest = walked (k + 1) (before - pages_in a) areas in
-    let w = rest.1 in
-    rw (le-ltb before (pages_in a) h) (
-      suc rest.0,
-      record {
-        at_area = omega (arith, w.at_area);
-        among = omega (arith, w.among);
-        passed = omega (arith, w.passed);
-        in_area = λ l. w.in_area (omega arith);
-        found = λ l. spot_on k before a areas h ∙ w.found (omega arith);
-        missing = λ l. spot_on k before a areas h ∙ w.missing (omega arith);
-      },
-    ))
+    (λ h. rw (le-ltb before (pages_in a) h) (further k before a areas h _ (walked (k + 1) (before - pages_in a) areas)))
     (λ h.
     rw (lt-ltb before (pages_in a) h) (
       0,
@@ -168,76 +168,69 @@ walked k before (a ∷ areas) =
         at_area = omega arith;
         among = omega arith;
         passed = omega arith;
-        in_area = λ l. h;
-        found = λ l. rw (lt-ltb before (pages_in a) h);
-        missing = λ l. absurd (omega arith);
+        in_area = h;
+        found = rw (lt-ltb before (pages_in a) h);
       },
     ))
 
--- where it ends, from the first area on
-pub record Ends (before : ℕ) (areas : List AreaPlan) : Type 0 where
-  pub passed : over_areas pages_in (take (walk_from 0 before areas).area areas) + (walk_from 0 before areas).before ≡ before
-  pub among : (walk_from 0 before areas).area ≤ length areas
-  pub in_area : (walk_from 0 before areas).area < length areas → Stands areas (walk_from 0 before areas)
-  pub found : (walk_from 0 before areas).area < length areas → spot_from 0 before areas ≡ Some (walk_from 0 before areas)
-  pub missing : length areas ≤ (walk_from 0 before areas).area → spot_from 0 before areas ≡ None
+-- the page where it ends, from the first area on
+pub record Ends (before : ℕ) (areas : List AreaPlan) (s : Spot) : Type 0 where
+  pub passed : over_areas pages_in (take s.area areas) + s.before ≡ before
+  pub stands : Stands areas s
+  pub found : spot_from 0 before areas ≡ Some s
 
-pub walk_ends : (before : ℕ) (areas : List AreaPlan) → Ends before areas
-walk_ends before areas =
-    let s = walk_from 0 before areas in
-    let end = walked 0 before areas in
-    let w = end.1 in
-    let e : end.0 ≡ s.area = omega (arith, w.at_area) in
-    record {
-      passed = rw e at w.passed;
-      among = omega (arith, w.among);
-      in_area = λ h. (h, rw e at (w.in_area (omega arith)));
-      found = λ h. w.found (omega arith);
-      missing = λ h. w.missing (omega arith);
-    }
+module _ (before : ℕ) (areas : List AreaPlan) where
+  pub walk_ends : (s : Spot) → walk_from 0 before areas ≡ Ok s → Ends before areas s
+  walk_ends s q =
+      let end : (steps : ℕ) × Found 0 before areas s steps = subst (Walked 0 before areas) q (walked 0 before areas) in
+      let w = end.1 in
+      let e : end.0 ≡ s.area = omega (arith, w.at_area) in
+      record {
+        passed = rw e at w.passed;
+        stands = (rw e at w.among, rw e at w.in_area);
+        found = w.found;
+      }
 
--- past the last area all pages were taken off
-pub walk_all : (before : ℕ) (areas : List AreaPlan) → length areas ≤ (walk_from 0 before areas).area
-    → over_areas pages_in areas + (walk_from 0 before areas).before ≡ before
-walk_all before areas h = rw (take_all (walk_from 0 before areas).area areas h) at (walk_ends before areas).passed
+  pub walk_past : (n : ℕ) → walk_from 0 before areas ≡ Err n → Past 0 before areas n
+  walk_past n q = subst (Walked 0 before areas) q (walked 0 before areas)
 
--- where there is a page it is in an area
-pub walk_in : (before : ℕ) (areas : List AreaPlan) → before < over_areas pages_in areas → (walk_from 0 before areas).area < length areas
-walk_in before areas h = split (length areas) (walk_from 0 before areas).area (λ l. absurd (omega (arith, walk_all before areas l))) (λ l. l)
+  -- where there is no page all pages were taken off
+  pub walk_all : (n : ℕ) → walk_from 0 before areas ≡ Err n → over_areas pages_in areas ≤ before
+  walk_all n q = omega (arith, (walk_past n q).passed)
 
--- and then there are more pages than so many
-pub walk_more : (before : ℕ) (areas : List AreaPlan) → (walk_from 0 before areas).area < length areas → before < over_areas pages_in areas
-walk_more before areas h =
-    let w = walk_ends before areas in
-    omega (arith, w.passed, (w.in_area h).1, over_within pages_in areas (walk_from 0 before areas).area h)
+  -- where there is one there are more pages than so many
+  pub walk_more : (s : Spot) → walk_from 0 before areas ≡ Ok s → before < over_areas pages_in areas
+  walk_more s q =
+      let w = walk_ends s q in
+      omega (arith, w.passed, w.stands.1, over_within pages_in areas s.area w.stands.0)
 
 module _ (order : PageOrder) (areas : List AreaPlan) (rows columns : List ℕ) (before : ℕ) where
   -- the page where the walk ends has so many before it
-  pub walk_page : (walk_from 0 before areas).area < length areas
-      → numbered (areas_pages order areas rows columns) (suc before) ≡ given (spot_page order areas rows columns (walk_from 0 before areas))
-  walk_page h =
-      let s = walk_from 0 before areas in
-      let w = walk_ends before areas in
-      let inside = (w.in_area h).1 in
+  pub walk_page : (s : Spot) → walk_from 0 before areas ≡ Ok s
+      → numbered (areas_pages order areas rows columns) (suc before) ≡ given (spot_page order areas rows columns s)
+  walk_page s q =
+      let w = walk_ends before areas s q in
+      let inside = w.stands.1 in
       let e : suc before ≡ over_areas pages_in (take s.area areas) + suc s.before = omega (arith, w.passed) in
       ap (numbered (areas_pages order areas rows columns)) e
-      ∙ page_in order areas rows columns s.area (suc s.before) h (omega arith) (omega (arith, inside))
+      ∙ page_in order areas rows columns s.area (suc s.before) w.stands.0 (omega arith) (omega (arith, inside))
       ∙ area_page_is order (get_or areas s.area no_plan) (after_runs (row_runs (take s.area areas)) rows)
       (after_runs (column_runs (take s.area areas)) columns) s.before inside
 
-  pub walk_none : length areas ≤ (walk_from 0 before areas).area → numbered (areas_pages order areas rows columns) (suc before) ≡ refused 14
-  walk_none h =
-      numbered_past (areas_pages order areas rows columns) (suc before) (omega (arith, areas_length order areas rows columns, walk_all before areas h))
+  pub walk_none : (n : ℕ) → walk_from 0 before areas ≡ Err n → numbered (areas_pages order areas rows columns) (suc before) ≡ refused 14
+  walk_none n q =
+      numbered_past (areas_pages order areas rows columns) (suc before)
+      (omega (arith, areas_length order areas rows columns, walk_all before areas n q))
 
 -- ---- the walk, area by area
 
 module _ (all : List AreaPlan) (asked k before : ℕ) (w : walk_from k before (drop k all) ≡ walk_from 0 asked all) where
-  pub walk_end : length all ≤ k → record { area = k; before = before } ≡ walk_from 0 asked all
+  pub walk_end : length all ≤ k → Err before ≡ walk_from 0 asked all
   unfolding walk_from
   walk_end h = rw (drop_of_length-le all h) at w
 
   module _ (a : AreaPlan) (h : k < length all) (e : get_or all k no_plan ≡ a) where
-    pub walk_here : before < pages_in a → record { area = k; before = before } ≡ walk_from 0 asked all
+    pub walk_here : before < pages_in a → Ok (record { area = k; before = before }) ≡ walk_from 0 asked all
     unfolding walk_from
     walk_here g = rw (drop-cons all k no_plan h, e, lt-ltb before (pages_in a) g) at w
 

@@ -1,7 +1,6 @@
 -- Laws of the whole list of pages: how many there are, what stands in the lent list, and that the list and the page by number agree. Assumes nothing.
 use mathlib.Core.Path.{◌≡◌, refl, sym, ap, ◌∙◌}
 use mathlib.Core.Bool.{Bool, true, false}
-use mathlib.Core.WellFounded.{Acc, WellFounded}
 use mathlib.Core.List.{List, [], ◌∷◌, ◌++◌}
 use Prim.Native.Nat.{ℕ, zero, suc, ◌+◌, ◌-◌, ◌≤◌, ◌<◌, min, zero-le}
 use native.Mathlib.Nat.{le_refl}
@@ -11,6 +10,7 @@ use lib.Dec.{leb}
 use lib.ListN.{length, take, drop, set, length-take}
 use lib.Seq.{take-length}
 use borrow.Author.Tests.{le-leb, lt-leb, leb-true}
+use Rattle.std.specs.Prelude.{Ok, Err}
 use Rattle.units.specs.Outcome.{Outcome, given, refused}
 use Rattle.planner_rules.specs.declared.pages.AreaPlan.{AreaPlan}
 use Rattle.planner_rules.specs.declared.pages.Page.{Page}
@@ -20,9 +20,9 @@ use Rattle.planner_rules.specs.Questions.{ask}
 use Rattle.planner_rules.specs.Areas.{over_areas}
 use Rattle.planner_rules.specs.Lent.{room_in}
 use Rattle.planner_rules.specs.Pages.{pages_in, areas_pages, pages_of, row_runs, column_runs, holds_runs, numbered, page_numbered, list_pages, pages_lent}
-use Rattle.planner_rules.specs.Pages.{count_in, page_count, walk_from, page_after}
+use Rattle.planner_rules.specs.Pages.{page_count, walk_from}
 use Rattle.planner_rules.proofs.PageLaws.{tag, value_or, numbered_first, numbered_take}
-use Rattle.planner_rules.proofs.AreaPages.{areas_length, walk_all, walk_in, walk_more, walk_page}
+use Rattle.planner_rules.proofs.AreaPages.{areas_length, walk_past, walk_more}
 use Rattle.planner_rules.proofs.PagesCode.{rooms_of}
 
 -- ---- how many pages a plan has
@@ -31,15 +31,12 @@ module _ (p : Plan) where
   abbrev areas : List AreaPlan
   areas = p.areas.items
 
-  -- where the walk ends that takes off as many pages as the plan says
-  abbrev end : Spot
-  end = walk_from 0 p.pages areas
+  -- by where the walk ends that takes off as many pages as the plan says
+  pub count_within : (s : Spot) → walk_from 0 p.pages areas ≡ Ok s → p.pages ≡ page_count p
+  count_within s q = omega (arith, walk_more p.pages areas s q)
 
-  pub count_within : end.area < length areas → p.pages ≡ page_count p
-  count_within h = omega (arith, walk_more p.pages areas h)
-
-  pub count_left : length areas ≤ end.area → (end.before ≤ p.pages) × (p.pages - end.before ≡ page_count p)
-  count_left h = let all = walk_all p.pages areas h in (omega (arith, all), omega (arith, all))
+  pub count_left : (n : ℕ) → walk_from 0 p.pages areas ≡ Err n → (n ≤ p.pages) × (p.pages - n ≡ page_count p)
+  count_left n q = let all = (walk_past p.pages areas n q).passed in (omega (arith, all), omega (arith, all))
 
   pub list_length : (rows columns : List ℕ) → length (pages_of p rows columns) ≡ page_count p
   unfolding pages_of
@@ -84,15 +81,12 @@ module _ {A : Type 0} where
       (i + 1) xs ++ drop (i + 1) ys
   filled_more i xs ys x e h = rw add-one (filled_suc i xs ys x e h)
 
--- an order by a measure ends
-acc_of : {X : Type 0} (μ : X → ℕ) (k : ℕ) (x : X) → μ x < k → Acc (λ a b. μ a < μ b) x
-acc_of μ zero x h = absurd (omega arith)
-acc_of μ (suc k) x h = Acc.intro x (λ y hy. acc_of μ k y (omega arith))
-
-pub measured : {X : Type 0} (μ : X → ℕ) → WellFounded {α = X} (λ a b. μ a < μ b)
-measured μ = record { apply = λ x. acc_of μ (suc (μ x)) x (omega arith) }
-
 -- ---- what the questions say of the count
+
+-- how many pages are written
+abbrev pub count_in : Outcome ℕ → ℕ
+count_in (given n) = n
+count_in (refused n) = 0
 
 abbrev two : Bool → Bool → ℕ → Outcome ℕ
 two b d n = ask 11 b (ask 13 d (given n))
@@ -131,7 +125,7 @@ module _ (p : Plan) (rows columns : List ℕ) (room : ℕ) where
   unfolding list_pages
   count_pages_of = at_most (holds_runs p rows columns) fit (length pages) (length pages) (λ _. le_refl (length pages))
 
-  -- what `page_after` relies on for the page that has i pages before it
+  -- what `page_after` of `planner_pages` relies on for the page that has i pages before it
   pub page_asked : (i : ℕ) → i < count
       → (row_runs p.areas.items ≤ room_in rows) × ((column_runs p.areas.items ≤ room_in columns) × (i < over_areas pages_in p.areas.items))
   unfolding list_pages
@@ -142,13 +136,11 @@ module _ (p : Plan) (rows columns : List ℕ) (room : ℕ) where
       (rooms.0, (rooms.1, omega (arith, low, list_length p rows columns)))
 
   -- that page is the next of the list
-  pub page_next : (i : ℕ) → i < count → numbered pages (suc i) ≡ given (page_after p rows columns i)
-  unfolding pages_of page_after
+  pub page_next : (i : ℕ) → i < count → numbered pages (suc i) ≡ numbered (areas_pages p.order p.areas.items rows columns) (suc i)
+  unfolding pages_of
   page_next i h =
-      let areas = p.areas.items in
       let within : suc i ≤ p.pages = omega (arith, count_pages_of, list_length p rows columns) in
-      numbered_take p.pages (areas_pages p.order areas rows columns) (suc i) within
-      ∙ walk_page p.order areas rows columns i (walk_in i areas (page_asked i h).1.1)
+      numbered_take p.pages (areas_pages p.order p.areas.items rows columns) (suc i) within
 
 -- when all are written
 pub pages_lent_lem : (p : Plan) (rows columns : List ℕ) (ys : List Page)

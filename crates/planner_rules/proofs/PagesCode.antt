@@ -1,17 +1,17 @@
 -- Laws of `specs/Pages.antt`'s definitions, for the functions of crate `planner_pages`. Assumes nothing.
-use mathlib.Core.Path.{◌≡◌, sym, ap, subst, ◌∙◌}
+use mathlib.Core.Path.{◌≡◌, refl, sym, ap, subst, ◌∙◌}
 use mathlib.Core.Bool.{Bool, true, false, and-false}
 use mathlib.Core.List.{List}
 use Prim.Native.Nat.{ℕ, suc, ◌+◌, ◌-◌, ◌*◌, ◌/◌, ◌≤◌, ◌<◌}
 use native.Mathlib.Nat.{div-lt_iff_lt-mul}
 use native.Mathlib.Omega.{arith}
 use lib.Dec.{leb, ltb}
-use lib.ListN.{length, get_or}
+use lib.ListN.{get_or}
 use lib.Seq.{get_or-drop}
 use borrow.Author.Tests.{lt-ltb, le-ltb, le-leb, lt-leb, leb-true}
 use Rattle.units.specs.Outcome.{given, refused}
 use Rattle.planner_rules.specs.declared.pages.AreaPlan.{AreaPlan}
-use Rattle.std.specs.Prelude.{Option, Some, None}
+use Rattle.std.specs.Prelude.{Option, Some, None, Result, Ok, Err}
 use Rattle.planner_rules.specs.declared.pages.PageOrder.{PageOrder}
 use Rattle.planner_rules.specs.declared.pages.PageRun.{PageRun}
 use Rattle.planner_rules.specs.declared.pages.Place.{Place}
@@ -23,7 +23,7 @@ use Rattle.planner_rules.specs.Pages.{runs_held, holds_runs, numbered, page_numb
 use Rattle.planner_rules.specs.Pages.{area_page_after, walk_from, Stands, spot_page}
 use Rattle.planner_rules.proofs.QuestionLaws.{both}
 use Rattle.planner_rules.proofs.PageLaws.{numbered_zero, numbered_take, numbered_take_past}
-use Rattle.planner_rules.proofs.AreaPages.{area_page_is, area_page_none, walk_ends, walk_page, walk_none}
+use Rattle.planner_rules.proofs.AreaPages.{area_page_is, area_page_none, walk_ends, walk_past, walk_page, walk_none}
 use Rattle.planner_rules.proofs.Laws.{split}
 
 -- ---- the place of a page
@@ -86,7 +86,7 @@ module _ (p : Plan) (n : ℕ) where
   abbrev areas : List AreaPlan
   areas = p.areas.items
 
-  abbrev end : Spot
+  abbrev end : Result Spot ℕ
   end = walk_from 0 (n - 1) areas
 
   pub spot_zero : n ≡ 0 → None ≡ spot_of p n
@@ -102,11 +102,11 @@ module _ (p : Plan) (n : ℕ) where
     unfolding spot_of
     spot_in_lem = rw (le-leb 1 n low, le-leb n p.pages high)
 
-    pub spot_found : end.area < length areas → Some end ≡ spot_of p n
-    spot_found h = sym ((walk_ends (n - 1) areas).found h) ∙ spot_in_lem
+    pub spot_found : (s : Spot) → end ≡ Ok s → Some s ≡ spot_of p n
+    spot_found s q = sym (walk_ends (n - 1) areas s q).found ∙ spot_in_lem
 
-    pub spot_missing : length areas ≤ end.area → None ≡ spot_of p n
-    spot_missing h = sym ((walk_ends (n - 1) areas).missing h) ∙ spot_in_lem
+    pub spot_missing : (m : ℕ) → end ≡ Err m → None ≡ spot_of p n
+    spot_missing m q = sym (walk_past (n - 1) areas m q).missing ∙ spot_in_lem
 
 -- ---- one page of a plan by its number
 
@@ -131,43 +131,39 @@ record Answers (p : Plan) (rows columns : List ℕ) (n : ℕ) (f : Option Spot) 
   found : (s : Spot) → f ≡ Some s → Answered p rows columns n s
   missing : f ≡ None → numbered (pages_of p rows columns) n ≡ refused 14
 
-abbrev is_at : Option Spot → ℕ
-is_at (Some s) = 1
-is_at None = 0
-
-abbrev spot_in : Spot → Option Spot → Spot
-spot_in d (Some s) = s
-spot_in d None = d
-
 module _ (p : Plan) (rows columns : List ℕ) (n : ℕ) where
   abbrev there : Option Spot → Type 0
   there = Answers p rows columns n
 
   none : numbered (pages_of p rows columns) n ≡ refused 14 → there None
-  none e = record { found = λ s q. let z : ◌≡◌ {A = ℕ} 0 1 = ap is_at q in absurd (omega arith); missing = λ q. e }
+  none e = record { found = λ s q. absurd (cc); missing = λ q. e }
 
-  one : Answered p rows columns n (end p n) → there (Some (end p n))
-  one h = record {
-    found = λ s q. subst (Answered p rows columns n) (ap (spot_in (end p n)) q) h;
-    missing = λ q. let z : ◌≡◌ {A = ℕ} 1 0 = ap is_at q in absurd (omega arith);
-  }
+  one : (s : Spot) → Answered p rows columns n s → there (Some s)
+  one s h = record { found = λ t q. subst (Answered p rows columns n) (cc) h; missing = λ q. absurd (cc) }
+
+  module _ (low : 1 ≤ n) (high : n ≤ p.pages) where
+    same : numbered (pages_of p rows columns) n ≡ numbered (areas_pages p.order (areas p n) rows columns) (suc (n - 1))
+    unfolding pages_of
+    same =
+        let all = areas_pages p.order (areas p n) rows columns in
+        let e : suc (n - 1) ≡ n = omega arith in
+        numbered_take p.pages all n high ∙ ap (numbered all) (sym e)
+
+    ended : (r : Result Spot ℕ) → end p n ≡ r → there (spot_of p n)
+    ended (Ok s) q =
+        subst there (spot_found p n low high s q)
+        (one s ((walk_ends (n - 1) (areas p n) s q).stands, same ∙ walk_page p.order (areas p n) rows columns (n - 1) s q))
+    ended (Err m) q = subst there (spot_missing p n low high m q) (none (same ∙ walk_none p.order (areas p n) rows columns (n - 1) m q))
 
   answers : there (spot_of p n)
   unfolding pages_of
   answers =
-      let all = areas_pages p.order (areas p n) rows columns in
       split 1 n
       (λ low.
-      split n p.pages
+      split n p.pages (λ high. ended low high (end p n) refl)
       (λ high.
-      let e : suc (n - 1) ≡ n = omega arith in
-      let same = numbered_take p.pages all n high ∙ ap (numbered all) (sym e) in
-      split (length (areas p n)) (end p n).area
-      (λ h. subst there (spot_missing p n low high h) (none (same ∙ walk_none p.order (areas p n) rows columns (n - 1) h)))
-      (λ h.
-      subst there (spot_found p n low high h)
-      (one ((walk_ends (n - 1) (areas p n)).in_area h, same ∙ walk_page p.order (areas p n) rows columns (n - 1) h))))
-      (λ high. subst there (spot_past p n high) (none (numbered_take_past p.pages all n high))))
+      subst there (spot_past p n high)
+      (none (numbered_take_past p.pages (areas_pages p.order (areas p n) rows columns) n high))))
       (λ low. let e : n ≡ 0 = omega arith in subst there (spot_zero p n e) (none (rw e (numbered_zero (pages_of p rows columns)))))
 
   pub page_few : holds_runs p rows columns ≡ false → refused 11 ≡ page_numbered p rows columns n

@@ -1,10 +1,11 @@
 -- Document 01, section "Pages", and document 02, T-02: the pages of each area, one area after another. Assumes nothing.
 use Rattle.std.specs.Prelude.{Bool, true, false, cond, ◌&&◌, List, [], ◌∷◌, ◌++◌, map, ℕ, zero, suc, ◌+◌, ◌-◌, ◌*◌, ◌/◌, ◌%◌, ◌<◌, min, leb, ltb}
-use Rattle.std.specs.Prelude.{length, get_or, take, drop, Option, Some, None}
+use Rattle.std.specs.Prelude.{length, get_or, take, drop, Option, Some, None, Result, Ok, Err}
 use Rattle.units.specs.Outcome.{Outcome, given, refused}
 use Rattle.planner_rules.specs.declared.titles.Title.{Title}
 use Rattle.planner_rules.specs.declared.pages.PageOrder.{PageOrder}
 use Rattle.planner_rules.specs.declared.pages.PageOrder.TheVariants.{DownThenOver, OverThenDown}
+use Rattle.planner_rules.specs.declared.pages.Notes.{Notes}
 use Rattle.planner_rules.specs.declared.pages.PageRun.{PageRun}
 use Rattle.planner_rules.specs.declared.pages.Page.{Page}
 use Rattle.planner_rules.specs.declared.pages.Place.{Place}
@@ -40,7 +41,33 @@ unfoldable pub overflowing : Space → Title → ℕ → Bool → List Run → �
 overflowing s t p empty [] = 0
 overflowing s t p empty (r ∷ rs) = cond (fits_side s p (printed s t empty r.first r.size)) 0 1 + overflowing s t p empty rs
 
+-- ---- notes
+
+-- the nine notes as numbers, in order
+abbrev pub note_numbers : Notes → List ℕ
+note_numbers n =
+    n.unknown_paper ∷ n.invalid_margins ∷ n.scale_clamped ∷ n.fit_unreachable ∷ n.titles_ignored ∷ n.titles_expanded ∷ n.merge_expansions
+    ∷ n.break_shifts ∷ n.overflowing_runs ∷ []
+
+-- the notes that nine numbers stand for
+abbrev pub notes_from : List ℕ → Notes
+notes_from ns = record {
+  unknown_paper = get_or ns 0 0;
+  invalid_margins = get_or ns 1 0;
+  scale_clamped = get_or ns 2 0;
+  fit_unreachable = get_or ns 3 0;
+  titles_ignored = get_or ns 4 0;
+  titles_expanded = get_or ns 5 0;
+  merge_expansions = get_or ns 6 0;
+  break_shifts = get_or ns 7 0;
+  overflowing_runs = get_or ns 8 0;
+}
+
 -- ---- pages
+
+-- the order of pages, by whether it is over then down
+abbrev pub order_by : Bool → PageOrder
+order_by over_then_down = cond over_then_down OverThenDown DownThenOver
 
 -- an index as a page has it: a number that no u32 holds, which no plan writes, counts as the largest that one holds
 abbrev pub index_of : ℕ → ℕ
@@ -177,11 +204,6 @@ area_numbered order a rows columns n = ask 11 (holds_area a rows columns) (numbe
 
 -- ---- for the private functions
 
--- how many pages are written
-abbrev pub count_in : Outcome ℕ → ℕ
-count_in (given n) = n
-count_in (refused n) = 0
-
 -- how many pages a plan has, where no count goes past the places that the runs make
 abbrev pub page_count : Plan → ℕ
 page_count p = min p.pages (over_areas pages_in p.areas.items)
@@ -197,11 +219,12 @@ area_page_after order a rows columns before =
     let place = place_of order a.row_runs a.column_runs before in
     page_at rows columns a place.vertical place.horizontal
 
--- the spot where a walk over the areas ends that takes off the pages of each that has no more than are left; past the last where there is no page
--- with so many before it. The areas' first is the k-th, from 0
-unfoldable pub walk_from : ℕ → ℕ → List AreaPlan → Spot
-walk_from k before [] = record { area = k; before = before }
-walk_from k before (a ∷ areas) = cond (ltb before (pages_in a)) (record { area = k; before = before }) (walk_from (k + 1) (before - pages_in a) areas)
+-- a walk over the areas that takes off the pages of each that has no more than are left: the spot of the page that has so many before it, or, where
+-- there is none, how many are left past the last area. The areas' first is the k-th, from 0
+unfoldable pub walk_from : ℕ → ℕ → List AreaPlan → Result Spot ℕ
+walk_from k before [] = Err before
+walk_from k before (a ∷ areas) =
+    cond (ltb before (pages_in a)) (Ok (record { area = k; before = before })) (walk_from (k + 1) (before - pages_in a) areas)
 
 -- a spot is that of a page of the areas
 abbrev pub Stands : List AreaPlan → Spot → Type 0
@@ -212,8 +235,3 @@ abbrev pub spot_page : PageOrder → List AreaPlan → List ℕ → List ℕ →
 spot_page order areas rows columns s =
     area_page_after order (get_or areas s.area no_plan) (after_runs (row_runs (take s.area areas)) rows)
     (after_runs (column_runs (take s.area areas)) columns) s.before
-
--- the page of a plan that has so many pages before it
-unfoldable pub page_after : Plan → List ℕ → List ℕ → ℕ → Page
-unfolding walk_from
-page_after p rows columns before = spot_page p.order p.areas.items rows columns (walk_from 0 before p.areas.items)

@@ -10,7 +10,9 @@ mod scale;
 mod titles;
 
 pub use lists::{AxisLists, MERGE_PART, MergeList, MergeTest, RunLists, SheetLists, SlotList};
-pub use pages::{AreaPlan, AreaPlans, Notes, Page, PageOrder, PageRun, Place, Plan, Spot};
+pub use pages::{
+    AreaPlan, AreaPlans, NoteNumbers, Notes, Page, PageOrder, PageRun, Place, Plan, Spot,
+};
 pub use partition::AxisSetup;
 pub use planning::{
     AreaNotes, AxisRange, ContentSides, CountedArea, CountedAreas, FinalCut, Frames, PrintRange,

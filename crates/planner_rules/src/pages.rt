@@ -1,10 +1,26 @@
 // Pages: document 01, section "Pages".
+ghost use Rattle.std.specs.Prelude.{◌≡◌};
+ghost use Rattle.planner_rules.specs.Pages as section;
+
 use arrayvec::ArrayVec;
 
 #[derive(Clone, Copy)]
 pub enum PageOrder {
     DownThenOver,
     OverThenDown,
+}
+
+// Whether pages go over, then down.
+impl From<bool> for PageOrder {
+    ghost from_gives = { λ over_then_down order. order ≡ section.order_by over_then_down };
+
+    fn from(over_then_down: bool) -> PageOrder {
+        if over_then_down {
+            PageOrder::OverThenDown
+        } else {
+            PageOrder::DownThenOver
+        }
+    }
 }
 
 // How often each of the nine things happened that a reader of the plan is told.
@@ -21,8 +37,47 @@ pub struct Notes {
     pub overflowing_runs: u64,
 }
 
+// The notes as numbers, in document 01's order.
+pub type NoteNumbers = [u64; 9];
+
+impl From<Notes> for NoteNumbers {
+    ghost from_gives = { λ notes numbers. numbers ≡ section.note_numbers notes };
+
+    fn from(notes: Notes) -> NoteNumbers {
+        [
+            notes.unknown_paper,
+            notes.invalid_margins,
+            notes.scale_clamped,
+            notes.fit_unreachable,
+            notes.titles_ignored,
+            notes.titles_expanded,
+            notes.merge_expansions,
+            notes.break_shifts,
+            notes.overflowing_runs,
+        ]
+    }
+}
+
+impl From<NoteNumbers> for Notes {
+    ghost from_gives = { λ numbers notes. notes ≡ section.notes_from numbers };
+
+    fn from(numbers: NoteNumbers) -> Notes {
+        Notes {
+            unknown_paper: numbers[0],
+            invalid_margins: numbers[1],
+            scale_clamped: numbers[2],
+            fit_unreachable: numbers[3],
+            titles_ignored: numbers[4],
+            titles_expanded: numbers[5],
+            merge_expansions: numbers[6],
+            break_shifts: numbers[7],
+            overflowing_runs: numbers[8],
+        }
+    }
+}
+
 // What an area came to: its scale, 1 where no permille fits it, how many runs of rows and of columns its pages are made of, and whether its
-// bodies are empty.
+// bodies are empty. The 1 is a `u64`, not a `bool`: it is a count of notes, which the notes of a plan add up, and a host hands it back as a number.
 #[derive(Clone, Copy, Default)]
 pub struct AreaPlan {
     pub permille: u16,

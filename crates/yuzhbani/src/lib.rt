@@ -65,8 +65,7 @@ pub extern "C" fn yuzhbani_count(bytes: &[u8], numbers: &mut [u64; 60]) -> u8
     put_planning(planning, numbers)
 }
 
-// Puts how many runs were written, or nothing, and answers 0, or the number of the refusal. No one function for this, `put_block` and
-// `put_page`: each puts numbers of its own, and a closure for them is longer than the arm.
+// Puts how many runs were written, or nothing, and answers 0, or the number of the refusal.
 fn put_counts(writing: Result<RunCounts, Refusal>, counts: &mut [u64; 2]) -> u8
     ensures value { result ≡ answer_to (outcome writing) }
     ensures counts_after { counts.new

@@ -1,11 +1,11 @@
 -- The numbers of a plan stand for the plan, and what the code makes of numbers and of answers. Assumes nothing.
 use mathlib.Core.Path.{◌≡◌, refl}
 use mathlib.Core.Bool.{Bool, true, false}
-use mathlib.Core.List.{List, [], ◌∷◌}
-use Prim.Native.Nat.{ℕ, ◌+◌, ◌*◌, ◌≤◌, ◌<◌, min}
-use native.Mathlib.Numerals.{add-one}
+use mathlib.Core.List.{List, [], ◌∷◌, ◌++◌}
+use Prim.Native.Nat.{ℕ, zero, suc, ◌+◌, ◌*◌, ◌≤◌, ◌<◌, min}
 use native.Mathlib.Omega.{arith}
 use lib.ListN.{length, take, replicate}
+use borrow.Rule.Slice.PartMut.{put_mid}
 use mir.Val.{bool_byte}
 use Rattle.planner_rules.specs.declared.pages.Page.{Page}
 use Rattle.std.specs.Prelude.{Result, Ok}
@@ -16,7 +16,10 @@ use Rattle.planner_rules.specs.declared.pages.PageOrder.TheVariants.{DownThenOve
 use Rattle.planner_rules.specs.declared.pages.AreaPlan.{AreaPlan}
 use Rattle.planner_rules.specs.declared.pages.Plan.{Plan}
 use Rattle.yuzhbani_answers.specs.Numbers.{bit, area_at, eight_areas, order_number, is_set, order_from, plan_numbers, page_numbers, area_from}
-use Rattle.yuzhbani_answers.specs.Numbers.{areas_from, plan_from, area_put, areas_put, head_put, AreaBack, AllBack}
+use Rattle.planner_rules.specs.Pages.{note_numbers}
+use Rattle.planner_rules.proofs.Laws.{split}
+use Rattle.yuzhbani_answers.specs.Numbers.{area_numbers, numbers_up_to}
+use Rattle.yuzhbani_answers.specs.Numbers.{areas_from, plan_from, AreaBack, AllBack}
 use Rattle.yuzhbani_answers.specs.Answers.{PageHanded}
 
 bit_back : (b : Bool) → is_set (bit b) ≡ b
@@ -65,18 +68,51 @@ plan_back p few back =
     ) (held p.areas.items few) in
     λ i. record { areas = record { items = areas i }; pages = p.pages; order = order_back p.order i; notes = p.notes }
 
--- ---- numbers that are put, one after another
+-- ---- numbers that are put, area after area
 
--- the front and the eight areas, put into sixty places, are the numbers of the plan
-pub all_put : (p : Plan) → areas_put p.areas.items 8 (head_put p (replicate 60 0)) ≡ plan_numbers p
-unfolding plan_numbers areas_put area_put head_put
-all_put p = refl
+module _ (p : Plan) where
+  -- the front
+  pub front_put : (order : ℕ) → order ≡ order_number p.order
+      → put_mid 3 9 ((length p.areas.items ∷ p.pages ∷ order ∷ []) ++ replicate 57 0) (note_numbers p.notes) ≡ numbers_up_to p 0
+  unfolding numbers_up_to plan_numbers
+  front_put order e = rw e refl
 
--- one area more
-pub more_put : (as' : List AreaPlan) (k : ℕ) (ns : List ℕ)
-    → area_put (area_at as' k) (12 + 6 * k) (areas_put as' k ns) ≡ areas_put as' (k + 1) ns
-unfolding areas_put
-more_put as' k ns = rw (add-one)
+  -- one area more
+  pub area_put : (k : ℕ) → k < 8 → put_mid (12 + 6 * k) 6 (numbers_up_to p k) (area_numbers (area_at p.areas.items k)) ≡ numbers_up_to p (k + 1)
+  unfolding numbers_up_to plan_numbers
+  area_put zero h = refl
+  area_put (suc zero) h = refl
+  area_put (suc (suc zero)) h = refl
+  area_put (suc (suc (suc zero))) h = refl
+  area_put (suc (suc (suc (suc zero)))) h = refl
+  area_put (suc (suc (suc (suc (suc zero))))) h = refl
+  area_put (suc (suc (suc (suc (suc (suc zero)))))) h = refl
+  area_put (suc (suc (suc (suc (suc (suc (suc zero))))))) h = refl
+  area_put (suc (suc (suc (suc (suc (suc (suc (suc k)))))))) h = absurd (omega arith)
+
+-- with the last area all are put, since the numbers of those that are not there are zeros
+pub all_put : (p : Plan) (as' : List AreaPlan) → p.areas.items ≡ as' → length as' ≤ 8 → numbers_up_to p (length as') ≡ plan_numbers p
+unfolding numbers_up_to plan_numbers
+all_put p [] e h = rw e refl
+all_put p (a ∷ []) e h = rw e refl
+all_put p (a ∷ b ∷ []) e h = rw e refl
+all_put p (a ∷ b ∷ c ∷ []) e h = rw e refl
+all_put p (a ∷ b ∷ c ∷ d ∷ []) e h = rw e refl
+all_put p (a ∷ b ∷ c ∷ d ∷ f ∷ []) e h = rw e refl
+all_put p (a ∷ b ∷ c ∷ d ∷ f ∷ g ∷ []) e h = rw e refl
+all_put p (a ∷ b ∷ c ∷ d ∷ f ∷ g ∷ i ∷ []) e h = rw e refl
+all_put p (a ∷ b ∷ c ∷ d ∷ f ∷ g ∷ i ∷ j ∷ []) e h = rw e refl
+all_put p (a ∷ b ∷ c ∷ d ∷ f ∷ g ∷ i ∷ j ∷ k ∷ as') e h = absurd (omega arith)
+
+-- an area that is not there is had back too
+none_back : (as' : List AreaPlan) (k : ℕ) → length as' ≤ k → AreaBack (area_at as' k)
+unfolding area_from
+none_back [] k h = refl
+none_back (a ∷ as') zero h = absurd (omega arith)
+none_back (a ∷ as') (suc k) h = none_back as' k (omega arith)
+
+pub all_back : (as' : List AreaPlan) → AllBack as' (length as') → AllBack as' 8
+all_back as' back k h = split (length as') k (λ l. none_back as' k l) (λ l. back k l)
 
 -- how the machine writes a mark
 pub as_bit : (b : Bool) → bool_byte b ≡ bit b

@@ -1,5 +1,5 @@
 -- A plan and a page as numbers, for a caller in another language. Assumes nothing.
-use Rattle.std.specs.Prelude.{◌≡◌, Bool, cond, List, [], ◌∷◌, ◌++◌, ℕ, zero, suc, ◌+◌, ◌*◌, ◌<◌, min, ltb, length, get_or, set, take}
+use Rattle.std.specs.Prelude.{◌≡◌, Bool, cond, List, [], ◌∷◌, ◌++◌, ℕ, zero, suc, ◌+◌, ◌-◌, ◌*◌, ◌<◌, min, ltb, length, get_or, take, replicate}
 use Rattle.units.specs.Outcome.{Outcome, given, refused}
 use Rattle.planner_rules.specs.declared.pages.PageOrder.{PageOrder}
 use Rattle.planner_rules.specs.declared.pages.PageOrder.TheVariants.{DownThenOver, OverThenDown}
@@ -8,6 +8,7 @@ use Rattle.planner_rules.specs.declared.pages.AreaPlan.{AreaPlan}
 use Rattle.arrayvec.specs.ArrayVec.{ArrayVec}
 use Rattle.planner_rules.specs.declared.pages.Plan.{Plan}
 use Rattle.planner_rules.specs.Areas.{no_plan}
+use Rattle.planner_rules.specs.Pages.{note_numbers}
 
 -- ---- to numbers
 
@@ -40,10 +41,7 @@ eight_areas as' = area_at as' 0 ∷ area_at as' 1 ∷ area_at as' 2 ∷ area_at 
 -- how many areas there are, pages, order, the nine notes in order, and the eight areas
 unfoldable pub plan_numbers : Plan → List ℕ
 plan_numbers p =
-    length p.areas.items ∷ p.pages ∷ order_number p.order
-    ∷ p.notes.unknown_paper ∷ p.notes.invalid_margins ∷ p.notes.scale_clamped ∷ p.notes.fit_unreachable ∷ p.notes.titles_ignored
-    ∷ p.notes.titles_expanded ∷ p.notes.merge_expansions ∷ p.notes.break_shifts ∷ p.notes.overflowing_runs
-    ∷ areas_numbers (eight_areas p.areas.items)
+    length p.areas.items ∷ p.pages ∷ order_number p.order ∷ (note_numbers p.notes ++ areas_numbers (eight_areas p.areas.items))
 
 -- "A page has its vertical and horizontal run numbers from 0 and both runs", rows first; "A run has first, last, size, empty-body mark, manual-break mark."
 unfoldable pub page_numbers : Page → List ℕ
@@ -106,24 +104,10 @@ told (suc n) ns = refused (suc n)
 
 -- ---- for the private functions
 
--- numbers with those of an area in their places, from one on
-unfoldable pub area_put : AreaPlan → ℕ → List ℕ → List ℕ
-area_put a at ns =
-    set (set (set (set (set (set ns at a.permille) (at + 1) a.unreachable) (at + 2) a.row_runs) (at + 3) a.column_runs)
-    (at + 4) (bit a.rows_empty)) (at + 5) (bit a.columns_empty)
-
--- numbers with those of so many areas in their places, area k from 12 + 6 k on
-unfoldable pub areas_put : List AreaPlan → ℕ → List ℕ → List ℕ
-areas_put as' zero ns = ns
-areas_put as' (suc k) ns = area_put (area_at as' k) (12 + 6 * k) (areas_put as' k ns)
-
--- numbers with those of a plan in their places that stand before the areas
-unfoldable pub head_put : Plan → List ℕ → List ℕ
-head_put p ns =
-    set (set (set (set (set (set (set (set (set (set (set (set ns 0 (length p.areas.items)) 1 p.pages) 2 (order_number p.order))
-    3 p.notes.unknown_paper) 4 p.notes.invalid_margins) 5 p.notes.scale_clamped) 6 p.notes.fit_unreachable)
-    7 p.notes.titles_ignored) 8 p.notes.titles_expanded) 9 p.notes.merge_expansions) 10 p.notes.break_shifts)
-    11 p.notes.overflowing_runs
+-- the numbers of a plan up to those of the area that has so many before it, and zeros
+unfoldable pub numbers_up_to : Plan → ℕ → List ℕ
+unfolding plan_numbers
+numbers_up_to p k = take (12 + 6 * k) (plan_numbers p) ++ replicate (48 - 6 * k) 0
 
 -- an area is had back from its numbers
 abbrev pub AreaBack : AreaPlan → Type 0

@@ -1,5 +1,5 @@
 -- From each area on the walk ends where it ends from the first on.
-use Rattle.std.proofs.Common.{◌≡◌, length, refl, sym, ◌∙◌, arith, ltb-true, ltb-false}
+use Rattle.std.proofs.Common.{refl, sym, ◌∙◌, arith, ltb-true, ltb-false}
 use Rattle.planner_rules.proofs.AreaPages.{walk_end, walk_here, walk_on}
 use Rattle.planner_pages.proofs.areas.walk.Goals as goal
 
@@ -21,5 +21,4 @@ loop-i-preserved c =
 pub returns : goal.returns
 returns c =
     let l = c.loop-i in
-    let end : l.i ≡ length c.args.areas.now = omega (arith, l.invariant.within) in
-    rw (← end) (walk_end c.args.areas.now c.args.before l.i l.rest l.invariant.ends (omega arith))
+    walk_end c.args.areas.now c.args.before l.i l.rest l.invariant.ends (omega arith)
