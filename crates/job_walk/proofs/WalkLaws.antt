@@ -8,7 +8,7 @@ use native.Mathlib.Nat.{lt_of_not-le}
 use native.Mathlib.Omega.{arith}
 use lib.Dec.{ltb, eqb}
 use lib.ListN.{length, take, drop, length-map}
-use lib.Seq.{drop-nil, take_all}
+use lib.Seq.{take_all}
 use Rattle.std.proofs.lemmas.List.{append-nil, take-append-le}
 use borrow.Author.Tests.{eq-eqb, ne_eqb, eqb-true, lt-ltb, le-ltb}
 use Rattle.arrayvec.specs.ArrayVec.{ArrayVec}
@@ -134,69 +134,54 @@ module _ (s : List ℕ) {f : Option Head} (e : f ≡ before (step s)) where
 
 -- ---- the loop that looks for a record
 
--- the record with the mark k that has n of them before it
-abbrev pub looked : ℕ → ℕ → List ℕ → Option Record
-looked k n s = first_of (drop n (in_place k (records s)))
-
-first_after : (n : ℕ) → (n ≡ 0 → ⊥) → (r : Record) (rs : List Record) → first_of (drop (n - 1) rs) ≡ first_of (drop n (r ∷ rs))
-first_after zero z r rs = absurd (z refl)
-first_after (suc n) z r rs = let j : suc n - 1 ≡ n = omega arith in ap (λ (i : ℕ). first_of (drop i rs)) j
+-- the first record with the mark k
+abbrev pub looked : ℕ → List ℕ → Option Record
+looked k s = first_of (in_place k (records s))
 
 -- h is the next record in s, and x its rank: none comes, or it is the one, or the look goes on after it
-pub record Seen (k n : ℕ) (s : List ℕ) (h : Head) (x : ℕ) : Type 0 where
+pub record Seen (k : ℕ) (s : List ℕ) (h : Head) (x : ℕ) : Type 0 where
   pub used : Used s h.bytes
-  pub past : k < x → None ≡ looked k n s
-  pub here : x ≡ k → n ≡ 0 → Some h.found ≡ looked k n s
-  pub after : x ≡ k → (n ≡ 0 → ⊥) → looked k (n - 1) (take (length s - h.bytes) (drop h.bytes s)) ≡ looked k n s
-  pub on : x ≤ k → (x ≡ k → ⊥) → looked k n (take (length s - h.bytes) (drop h.bytes s)) ≡ looked k n s
+  pub past : k < x → None ≡ looked k s
+  pub here : x ≡ k → Some h.found ≡ looked k s
+  pub on : x ≤ k → (x ≡ k → ⊥) → looked k (take (length s - h.bytes) (drop h.bytes s)) ≡ looked k s
 
-module _ (k n : ℕ) (s : List ℕ) {f : Option Head} (e : f ≡ before (step s)) where
-  pub look_end : f ≡ None → None ≡ looked k n s
+module _ (k : ℕ) (s : List ℕ) {f : Option Head} (e : f ≡ before (step s)) where
+  pub look_end : f ≡ None → None ≡ looked k s
   unfolding in_place
-  look_end h = rw (walk_end s e h, drop-nil n)
+  look_end h = rw (walk_end s e h)
 
-  pub look_next : {h : Head} {x : ℕ} → f ≡ Some h → x ≡ rank h.found → Seen k n s h x
+  pub look_next : {h : Head} {x : ℕ} → f ≡ Some h → x ≡ rank h.found → Seen k s h x
   unfolding in_place
   look_next {h} {x} j i = record {
     used = walk_used s e j;
-    past = λ l. rw (walk_on s e j, lt-ltb k (rank h.found) (omega arith), drop-nil n);
-    here = λ l z. rw (walk_on s e j, le-ltb k (rank h.found) (omega arith), eq-eqb (rank h.found) k (sym i ∙ l), z);
-    after = λ l z.
-        rw (walk_on s e j, le-ltb k (rank h.found) (omega arith), eq-eqb (rank h.found) k (sym i ∙ l))
-        (first_after n z h.found (in_place k (records (take (length s - h.bytes) (drop h.bytes s)))));
+    past = λ l. rw (walk_on s e j, lt-ltb k (rank h.found) (omega arith));
+    here = λ l. rw (walk_on s e j, le-ltb k (rank h.found) (omega arith), eq-eqb (rank h.found) k (sym i ∙ l));
     on = λ l q. rw (walk_on s e j, le-ltb k (rank h.found) (omega arith), ne_eqb (rank h.found) k (λ u. q (i ∙ u)));
   }
 
 -- ---- the record that was found
 
-found_none : {X : Type 0} (n : ℕ) (r : Record) → first_of (drop n []) ≡ Some r → X
-found_none n r h =
-    let i : None ≡ Some r = rw (drop-nil n) at h in
-    let z : ◌≡◌ {A = ℕ} 0 1 = cc in
-    absurd (omega arith)
-
-looked_rank : (k n : ℕ) (rs : List Record) (r : Record) → first_of (drop n (in_place k rs)) ≡ Some r → rank r ≡ k
+looked_rank : (k : ℕ) (rs : List Record) (r : Record) → first_of (in_place k rs) ≡ Some r → rank r ≡ k
 unfolding in_place
-looked_rank k n [] r h = found_none n r h
-looked_rank k n (q ∷ qs) r h = go (ltb k (rank q)) (eqb (rank q) k) refl n h (λ m. looked_rank k m qs r)
+looked_rank k [] r h = absurd (cc)
+looked_rank k (q ∷ qs) r h = go (ltb k (rank q)) (eqb (rank q) k) refl h (looked_rank k qs r)
   where
-    go : (a b : Bool) → eqb (rank q) k ≡ b → (n : ℕ) → first_of (drop n (cond a [] (cond b (q ∷ in_place k qs) (in_place k qs)))) ≡ Some r
-        → ((m : ℕ) → first_of (drop m (in_place k qs)) ≡ Some r → rank r ≡ k) → rank r ≡ k
-    go true b i n h later = found_none n r h
-    go false true i zero h later = let j : q ≡ r = cc in ap rank (sym j) ∙ eqb-true (rank q) k i
-    go false true i (suc n) h later = later n h
-    go false false i n h later = later n h
+    go : (a b : Bool) → eqb (rank q) k ≡ b → first_of (cond a [] (cond b (q ∷ in_place k qs) (in_place k qs))) ≡ Some r
+        → (first_of (in_place k qs) ≡ Some r → rank r ≡ k) → rank r ≡ k
+    go true b i h later = absurd (cc)
+    go false true i h later = let j : q ≡ r = cc in ap rank (sym j) ∙ eqb-true (rank q) k i
+    go false false i h later = later h
 
 -- f is the first of the records l, which have the mark k, or that there is none
 pub record Looked (k : ℕ) (l : List Record) (f : Option Record) : Type 0 where
   pub is : f ≡ first_of l
   pub ranked : (r : Record) → f ≡ Some r → rank r ≡ k
 
-pub looked_in_place : (k n : ℕ) (s : List ℕ) {f : Option Record} → f ≡ looked k n s → Looked k (drop n (in_place k (records s))) f
-looked_in_place k n s e = record { is = e; ranked = λ r h. looked_rank k n (records s) r (sym e ∙ h) }
+pub looked_in_place : (k : ℕ) (s : List ℕ) {f : Option Record} → f ≡ looked k s → Looked k (in_place k (records s)) f
+looked_in_place k s e = record { is = e; ranked = λ r h. looked_rank k (records s) r (sym e ∙ h) }
 
-pub looked_marked : (k : ℕ) (job : SortedJob) {f : Option Record} → f ≡ looked k 0 job.bytes.now → Looked k (marked k (records job.bytes.now)) f
-looked_marked k job e = record { is = e ∙ ap first_of (marked_in_place k job); ranked = (looked_in_place k 0 job.bytes.now e).ranked }
+pub looked_marked : (k : ℕ) (job : SortedJob) {f : Option Record} → f ≡ looked k job.bytes.now → Looked k (marked k (records job.bytes.now)) f
+looked_marked k job e = record { is = e ∙ ap first_of (marked_in_place k job); ranked = (looked_in_place k job.bytes.now e).ranked }
 
 module _ {k : ℕ} {l : List Record} {f : Option Record} (w : Looked k l f) where
   -- what is made of the records, where there is none and where there is one

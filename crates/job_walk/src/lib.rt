@@ -1,9 +1,9 @@
-// The records of a job one by one, those that are looked for by their mark, the limit of cells and the areas: document 01, section "Jobs".
+// The records of a job one by one, those that are looked for by their mark, the limits and the areas: document 01, section "Jobs".
 #![tactic(auto)]
 
-ghost use Rattle.std.specs.Prelude.{◌≡◌, take, drop};
+ghost use Rattle.std.specs.Prelude.{◌≡◌, take};
 ghost use Rattle.job_records.specs.Marks.{place};
-ghost use Rattle.job_records.specs.Records.{step, records, UC, AR};
+ghost use Rattle.job_records.specs.Records.{step, records, AR};
 ghost use Rattle.job_walk.specs.Walk as walk;
 ghost use Rattle.job_walk.specs.Areas as section;
 
@@ -23,35 +23,31 @@ pub fn next_record(s: &[u8]) -> Option<Head>
     Some(head)
 }
 
-// The record with a mark that has so many of them before it, if it is there. The first record with a later mark ends the search.
-pub fn find_record(bytes: &[u8], wanted: Mark, before: usize) -> Option<Record>
-    ensures { result ≡ walk.first_of (drop before (walk.in_place (place wanted) (records bytes.now))) }
+// The first record with a mark, if there is one. The first record with a later mark ends the search.
+pub fn find_record(bytes: &[u8], wanted: Mark) -> Option<Record>
+    ensures { result ≡ walk.first_of (walk.in_place (place wanted) (records bytes.now)) }
 {
     let mut s = bytes;
-    let mut left = before;
     while let Some(head) = next_record(s) {
         let mark = head.found.mark();
         if mark > wanted {
-            return None;
+            break;
         }
         if mark == wanted {
-            if left == 0 {
-                return Some(head.found);
-            }
-            left -= 1;
+            return Some(head.found);
         }
         s = &s[head.bytes..];
     }
     None
 }
 
-// A limit is the only record of its type: a reader for any kind would take the kind as a closure, and say in it what this says.
-pub fn cell_limit_of(bytes: &[u8]) -> Option<u64>
-    ensures { result ≡ section.cell_limit_from (walk.in_place UC (records bytes.now)) }
+// The limit of pages or of cells, by its mark; of any other mark there is none.
+pub fn limit_of(bytes: &[u8], wanted: Mark) -> Option<u64>
+    ensures { result ≡ section.limit_in (place wanted) (walk.in_place (place wanted) (records bytes.now)) }
 {
-    match find_record(bytes, Mark::CellLimit, 0)? {
-        Record::Cells(most) => Some(most),
-        _ => unreachable!(),
+    match find_record(bytes, wanted)? {
+        Record::Limit(most) | Record::Cells(most) => Some(most),
+        _ => None,
     }
 }
 
@@ -62,11 +58,8 @@ pub fn areas_of(bytes: &[u8]) -> JobAreas
     let mut areas = JobAreas::new();
     let mut s = bytes;
     while let Some(head) = next_record(s) {
-        if head.found.mark() > Mark::Area {
-            return areas;
-        }
-        if areas.is_full() {
-            return areas;
+        if head.found.mark() > Mark::Area || areas.is_full() {
+            break;
         }
         if let Record::Area(cells) = head.found {
             areas.push(cells);

@@ -8,16 +8,17 @@ use Rattle.job_records.specs.declared.marks.Mark.TheVariants.{Area}
 use Rattle.job_records.proofs.MarkLaws.{later_place, no_later_place}
 use Rattle.job_walk.proofs.WalkLaws.{walk_used, area_end, area_past, area_here, area_on, collected, collected_eight}
 use Rattle.job_walk.proofs.areas_of.Goals as goal
-use Rattle.job_walk.proofs.areas_of.Goals.{in-Area, in_default-found}
+use Rattle.job_walk.proofs.areas_of.Goals.{in-Area, in_default-found, then-gt-via-then-gt, then-gt-via-else-gt+then-is_full}
 
 pub returns-then-gt : goal.returns-then-gt
 returns-then-gt c =
     let l = c.loop-head in
-    let past = later_place c.mark.result Area (sym c.gt.ensures ∙ c.if-gt.true) in
-    collected _ _ _ l.invariant.1 l.invariant.0 (area_past l.s.now c.next_record.ensures c.in-Some.is (omega (arith, past, ap place c.mark.ensures)))
-
-pub returns-then-is_full : goal.returns-then-is_full
-returns-then-is_full c = collected_eight _ _ _ c.loop-head.invariant.1 (eqb-true _ 8 (sym c.is_full.ensures.value ∙ c.if-is_full.true))
+    elim c.then-gt.branch [
+      | then-gt-via-then-gt w ↦
+          let past = later_place c.mark.result Area (sym c.gt.ensures ∙ w.if-gt.true) in
+          collected _ _ _ l.invariant.1 l.invariant.0 (area_past l.s.now c.next_record.ensures c.in-Some.is (omega (arith, past, ap place c.mark.ensures)))
+      | then-gt-via-else-gt+then-is_full w ↦ collected_eight _ _ _ l.invariant.1 (eqb-true _ 8 (sym w.is_full.ensures.value ∙ w.if-is_full.true))
+    ]
 
 pub slice_bounds-s-count : goal.slice_bounds-s-count
 slice_bounds-s-count c = (walk_used c.loop-head.s.now c.next_record.ensures c.in-Some.is).within
@@ -45,7 +46,7 @@ loop-head-preserved c =
           rw w.areas-is (l.invariant.0, ap (λ (rs : List Range). l.areas.items ++ rs) same ∙ l.invariant.1)
     ]
 
-pub returns : goal.returns
-returns c =
+pub returns-in_default : goal.returns-in_default
+returns-in_default c =
     let l = c.loop-head in
     collected _ _ _ l.invariant.1 l.invariant.0 (area_end l.s.now c.next_record.ensures c.in_default.is)

@@ -2,48 +2,33 @@
 use Rattle.std.proofs.Common.{sym, ap, ◌∙◌, arith}
 use Rattle.job_records.specs.Marks.{place}
 use Rattle.job_records.proofs.MarkLaws.{same_place, other_place, later_place, no_later_place}
-use Rattle.job_walk.proofs.WalkLaws.{look_end, look_next}
+use Rattle.job_walk.proofs.WalkLaws.{walk_used, look_end, look_next}
 use Rattle.job_walk.proofs.find_record.Goals as goal
-use Rattle.job_walk.proofs.find_record.Goals.{then-eq+else-left-eq0, else-eq}
 
-pub returns-then-gt : goal.returns-then-gt
-returns-then-gt c =
-    let n = look_next (place c.args.wanted) c.loop-head.left c.loop-head.s.now c.next_record.ensures c.in-Some.is (ap place c.mark-mark.ensures) in
-    n.past (later_place _ _ (sym c.gt.ensures ∙ c.if-gt.true)) ∙ c.loop-head.invariant
-
-pub returns-then-left-eq0 : goal.returns-then-left-eq0
-returns-then-left-eq0 c =
-    let n = look_next (place c.args.wanted) c.loop-head.left c.loop-head.s.now c.next_record.ensures c.in-Some.is (ap place c.mark-mark.ensures) in
-    n.here (same_place c.mark-mark.result c.args.wanted (sym c.eq.ensures ∙ c.if-eq.true)) c.if-left-eq0.true ∙ c.loop-head.invariant
+pub returns-then-eq : goal.returns-then-eq
+returns-then-eq c =
+    let n = look_next (place c.args.wanted) c.loop-head.s.now c.next_record.ensures c.in-Some.is (ap place c.mark-mark.ensures) in
+    n.here (same_place c.mark-mark.result c.args.wanted (sym c.eq.ensures ∙ c.if-eq.true)) ∙ c.loop-head.invariant
 
 pub slice_bounds-s-count : goal.slice_bounds-s-count
-slice_bounds-s-count c =
-    let n = look_next (place c.args.wanted) c.loop-head.left c.loop-head.s.now c.next_record.ensures c.in-Some.is (ap place c.mark-mark.ensures) in
-    n.used.within
+slice_bounds-s-count c = (walk_used c.loop-head.s.now c.next_record.ensures c.in-Some.is).within
 
 pub slice_bounds-s-start : goal.slice_bounds-s-start
-slice_bounds-s-start c =
-    let n = look_next (place c.args.wanted) c.loop-head.left c.loop-head.s.now c.next_record.ensures c.in-Some.is (ap place c.mark-mark.ensures) in
-    omega (arith, n.used.within)
+slice_bounds-s-start c = omega (arith, (walk_used c.loop-head.s.now c.next_record.ensures c.in-Some.is).within)
 
 pub loop-head-smaller : goal.loop-head-smaller
-loop-head-smaller c =
-    let n = look_next (place c.args.wanted) c.loop-head.left c.loop-head.s.now c.next_record.ensures c.in-Some.is (ap place c.mark-mark.ensures) in
-    n.used.less
+loop-head-smaller c = (walk_used c.loop-head.s.now c.next_record.ensures c.in-Some.is).less
 
 pub loop-head-preserved : goal.loop-head-preserved
 loop-head-preserved c =
-    let n = look_next (place c.args.wanted) c.loop-head.left c.loop-head.s.now c.next_record.ensures c.in-Some.is (ap place c.mark-mark.ensures) in
-    elim c.if-eq.branch [
-      | then-eq+else-left-eq0 w ↦
-          rw w.left-is
-          (n.after (same_place c.mark-mark.result c.args.wanted (sym c.eq.ensures ∙ w.if-eq.true)) w.if-left-eq0.false ∙ c.loop-head.invariant)
-      | else-eq w ↦
-          rw w.left-is
-          (n.on (no_later_place _ _ (sym c.gt.ensures ∙ c.if-gt.false))
-          (other_place c.mark-mark.result c.args.wanted (sym c.eq.ensures ∙ w.if-eq.false)) ∙ c.loop-head.invariant)
-    ]
+    let n = look_next (place c.args.wanted) c.loop-head.s.now c.next_record.ensures c.in-Some.is (ap place c.mark-mark.ensures) in
+    n.on (no_later_place _ _ (sym c.gt.ensures ∙ c.if-gt.false)) (other_place c.mark-mark.result c.args.wanted (sym c.eq.ensures ∙ c.if-eq.false))
+    ∙ c.loop-head.invariant
 
-pub returns : goal.returns
-returns c =
-    look_end (place c.args.wanted) c.loop-head.left c.loop-head.s.now c.next_record.ensures c.in_default.is ∙ c.loop-head.invariant
+pub returns-then-gt : goal.returns-then-gt
+returns-then-gt c =
+    let n = look_next (place c.args.wanted) c.loop-head.s.now c.next_record.ensures c.in-Some.is (ap place c.mark-mark.ensures) in
+    n.past (later_place _ _ (sym c.gt.ensures ∙ c.if-gt.true)) ∙ c.loop-head.invariant
+
+pub returns-in_default : goal.returns-in_default
+returns-in_default c = look_end (place c.args.wanted) c.loop-head.s.now c.next_record.ensures c.in_default.is ∙ c.loop-head.invariant
