@@ -12,7 +12,7 @@ ghost use Rattle.job_questions.specs.Pass.{start, advanced, after, surveyed, ans
 
 use job_records::{Mark, Range, Record, Slot, read_record};
 use job_settings::areas_for;
-use job_walk::{SortedJob, areas_of, cell_limit_of};
+use job_walk::{SortedJob, areas_of, limit_of};
 use planner_areas::cells_hold;
 use std::ops::BitAnd;
 use units::{LARGEST_SIZE, MAX_WORKSHEET_COLUMN, MAX_WORKSHEET_ROW, Refusal};
@@ -249,7 +249,7 @@ fn cells_ok(job: SortedJob<'_>) -> bool
     requires { length (marked AR (records job.bytes.now)) ≤ 8 }
     ensures { result ≡ question15 job.entry.bytes.now }
 {
-    let limit = cell_limit_of(job.bytes);
+    let limit = limit_of(job.bytes, Mark::CellLimit);
     let Some(_) = limit else {
         return true;
     };

@@ -2,7 +2,7 @@
 use mathlib.Core.Path.{◌≡◌, refl, sym, ap, ◌∙◌}
 use mathlib.Core.Bool.{Bool, true, false, not, cond}
 use mathlib.Core.List.{List, [], ◌∷◌, ◌++◌, map}
-use Prim.Native.Nat.{ℕ, zero, suc, ◌-◌, ◌≤◌, ◌<◌}
+use Prim.Native.Nat.{ℕ, ◌-◌, ◌≤◌, ◌<◌}
 use native.Mathlib.Decide.{dec_le}
 use native.Mathlib.Nat.{lt_of_not-le}
 use native.Mathlib.Omega.{arith}
@@ -18,13 +18,13 @@ use Rattle.job_records.specs.declared.records.Record.TheVariants.{Area}
 use Rattle.job_records.specs.declared.records.Head.{Head}
 use Rattle.std.specs.Prelude.{Option, Some, None}
 use Rattle.job_records.proofs.MarkLaws.{some_place}
-use Rattle.job_records.specs.Records.{AR, mark_before, head_record, step_outcome, step, rank, is_end, goes_on, records, marked}
+use Rattle.job_records.specs.Records.{AR, mark_before, step, rank, is_end, goes_on, records, marked}
 use Rattle.job_walk.specs.Areas.{range_from, areas_from}
 use Rattle.job_walk.specs.declared.sorted.SortedJob.{SortedJob}
 use Rattle.job_records.specs.Marks.{place}
 use Rattle.job_walk.specs.Walk.{before, first_of, in_place, Sorted}
 use Rattle.job_walk.proofs.Arms.{only_area}
-use Rattle.job_records.proofs.RecordLaws.{records_more, records_stop, step_is, step_used, part, length_part}
+use Rattle.job_records.proofs.RecordLaws.{records_more, records_stop, step_used, part, length_part}
 
 -- ---- marks that never fall
 
@@ -60,24 +60,7 @@ marked_in_place k job = is_in_place (place job.first) k (records job.bytes.now) 
 
 -- ---- the next record
 
-module _ (s : List ℕ) (f : Option Head) (o : step_outcome f ≡ head_record s) where
-  at_head : f ≡ step s
-  at_head = step_is s f o
-
-  pub next_nothing : f ≡ None → None ≡ before (step s)
-  unfolding before
-  next_nothing k = sym (ap before (sym at_head ∙ k))
-
-  module _ {h : Head} {x : ℕ} (k : f ≡ Some h) (i : x ≡ rank h.found) where
-    pub next_end : x ≡ 20 → None ≡ before (step s)
-    unfolding before
-    next_end j = rw (← at_head, k, eq-eqb (rank h.found) 20 (sym i ∙ j))
-
-    pub next_kind : (x ≡ 20 → ⊥) → Some h ≡ before (step s)
-    unfolding before
-    next_kind j = rw (← at_head, k, ne_eqb (rank h.found) 20 (λ q. j (i ∙ q)))
-
--- what it tells of a step
+-- what the next record tells of a step
 stops : (f : Option Head) → before f ≡ None → goes_on f ≡ false
 unfolding before goes_on
 stops None k = refl
@@ -85,15 +68,15 @@ stops (Some h) k = go (is_end h.found) k
   where
     go : (b : Bool) → cond b None (Some h) ≡ None → not b ≡ false
     go true k = refl
-    go false k = let z : ◌≡◌ {A = ℕ} 0 1 = cc in absurd (omega arith)
+    go false k = absurd (cc)
 
 goes : (f : Option Head) (h : Head) → before f ≡ Some h → (f ≡ Some h) × (is_end h.found ≡ false)
 unfolding before
-goes None h k = let z : ◌≡◌ {A = ℕ} 0 1 = cc in absurd (omega arith)
+goes None h k = absurd (cc)
 goes (Some g) h k = go (is_end g.found) refl k
   where
     go : (b : Bool) → is_end g.found ≡ b → cond b None (Some g) ≡ Some h → (Some g ≡ Some h) × (is_end h.found ≡ false)
-    go true i k = let z : ◌≡◌ {A = ℕ} 0 1 = cc in absurd (omega arith)
+    go true i k = absurd (cc)
     go false i k =
         let j : g ≡ h = cc in
         (k, ap (λ (x : Head). is_end x.found) (sym j) ∙ i)
@@ -190,13 +173,13 @@ module _ {k : ℕ} {l : List Record} {f : Option Record} (w : Looked k l f) wher
     where
       go : (l : List Record) → first_of l ≡ None → v ≡ g l
       go [] h = sym p
-      go (r ∷ l) h = let z : ◌≡◌ {A = ℕ} 0 1 = cc in absurd (omega arith)
+      go (r ∷ l) h = absurd (cc)
 
   pub from_one : {X : Type 0} (g : List Record → X) {v : X} {r q : Record} → f ≡ Some r → r ≡ q → ((t : List Record) → g (q ∷ t) ≡ v) → v ≡ g l
   from_one {X} g {v} {r} {q} h i p = go l (sym w.is ∙ h)
     where
       go : (l : List Record) → first_of l ≡ Some r → v ≡ g l
-      go [] h = let z : ◌≡◌ {A = ℕ} 0 1 = cc in absurd (omega arith)
+      go [] h = absurd (cc)
       go (o ∷ t) h = let j : o ≡ q = cc in sym (ap (λ (y : Record). g (y ∷ t)) j ∙ p t)
 
 -- ---- the loop that collects the areas

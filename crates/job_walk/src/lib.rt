@@ -12,15 +12,11 @@ mod sorted;
 use job_records::{Head, JobAreas, Mark, Record, read_record};
 pub use sorted::SortedJob;
 
-// The next record before the EN, or none. By `filter`, a proof would first have to open what its closure answered: the arms are plainer.
+// The next record before the EN, or none.
 pub fn next_record(s: &[u8]) -> Option<Head>
     ensures { result ≡ walk.before (step s.now) }
 {
-    let head = read_record(s)?;
-    if head.found.mark() == Mark::End {
-        return None;
-    }
-    Some(head)
+    read_record(s).filter(|head| head.found.mark() != Mark::End)
 }
 
 // The first record with a mark, if there is one. The first record with a later mark ends the search.
