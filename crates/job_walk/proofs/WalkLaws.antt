@@ -121,26 +121,19 @@ module _ (s : List ℕ) {f : Option Head} (e : f ≡ before (step s)) where
 abbrev pub looked : ℕ → List ℕ → Option Record
 looked k s = first_of (in_place k (records s))
 
--- h is the next record in s, and x its rank: none comes, or it is the one, or the look goes on after it
-pub record Seen (k : ℕ) (s : List ℕ) (h : Head) (x : ℕ) : Type 0 where
-  pub used : Used s h.bytes
-  pub past : k < x → None ≡ looked k s
-  pub here : x ≡ k → Some h.found ≡ looked k s
-  pub on : x ≤ k → (x ≡ k → ⊥) → looked k (take (length s - h.bytes) (drop h.bytes s)) ≡ looked k s
+-- r is the next of some records, and x its rank: none comes, or it is the one, or the look goes on after it
+pub record Seen (k : ℕ) (r : Record) (rs : List Record) (x : ℕ) : Type 0 where
+  pub past : k < x → None ≡ first_of (in_place k (r ∷ rs))
+  pub here : x ≡ k → Some r ≡ first_of (in_place k (r ∷ rs))
+  pub on : x ≤ k → (x ≡ k → ⊥) → first_of (in_place k rs) ≡ first_of (in_place k (r ∷ rs))
 
-module _ (k : ℕ) (s : List ℕ) {f : Option Head} (e : f ≡ before (step s)) where
-  pub look_end : f ≡ None → None ≡ looked k s
-  unfolding in_place
-  look_end h = rw (walk_end s e h)
-
-  pub look_next : {h : Head} {x : ℕ} → f ≡ Some h → x ≡ rank h.found → Seen k s h x
-  unfolding in_place
-  look_next {h} {x} j i = record {
-    used = walk_used s e j;
-    past = λ l. rw (walk_on s e j, lt-ltb k (rank h.found) (omega arith));
-    here = λ l. rw (walk_on s e j, le-ltb k (rank h.found) (omega arith), eq-eqb (rank h.found) k (sym i ∙ l));
-    on = λ l q. rw (walk_on s e j, le-ltb k (rank h.found) (omega arith), ne_eqb (rank h.found) k (λ u. q (i ∙ u)));
-  }
+pub look_next : (k : ℕ) (r : Record) (rs : List Record) {x : ℕ} → x ≡ rank r → Seen k r rs x
+unfolding in_place
+look_next k r rs i = record {
+  past = λ l. rw (lt-ltb k (rank r) (omega arith));
+  here = λ l. rw (le-ltb k (rank r) (omega arith), eq-eqb (rank r) k (sym i ∙ l));
+  on = λ l q. rw (le-ltb k (rank r) (omega arith), ne_eqb (rank r) k (λ u. q (i ∙ u)));
+}
 
 -- ---- the record that was found
 
@@ -184,27 +177,21 @@ module _ {k : ℕ} {l : List Record} {f : Option Record} (w : Looked k l f) wher
 
 -- ---- the loop that collects the areas
 
--- the areas from some bytes on
-abbrev pub ranges_left : List ℕ → List Range
-ranges_left s = map range_from (in_place AR (records s))
+-- the areas of some records
+abbrev pub ranges_left : List Record → List Range
+ranges_left rs = map range_from (in_place AR rs)
 
-module _ (s : List ℕ) {f : Option Head} (e : f ≡ before (step s)) where
-  pub area_end : f ≡ None → ranges_left s ≡ []
-  unfolding in_place
-  area_end h = rw (walk_end s e h)
+pub area_past : (r : Record) (rs : List Record) → AR < rank r → ranges_left (r ∷ rs) ≡ []
+unfolding in_place
+area_past r rs l = rw (lt-ltb AR (rank r) l)
 
-  module _ {h : Head} (k : f ≡ Some h) where
-    pub area_past : AR < rank h.found → ranges_left s ≡ []
-    unfolding in_place
-    area_past l = rw (walk_on s e k, lt-ltb AR (rank h.found) l)
+pub area_here : (r : Record) (rs : List Record) (a : Range) → r ≡ Area a → ranges_left (r ∷ rs) ≡ a ∷ ranges_left rs
+unfolding in_place
+area_here r rs a i = rw i
 
-    pub area_here : (a : Range) → h.found ≡ Area a → ranges_left s ≡ a ∷ ranges_left (take (length s - h.bytes) (drop h.bytes s))
-    unfolding in_place
-    area_here a i = rw (walk_on s e k, i)
-
-    pub area_on : rank h.found ≤ AR → ((a : Range) → h.found ≡ Area a → ⊥) → ranges_left (take (length s - h.bytes) (drop h.bytes s)) ≡ ranges_left s
-    unfolding in_place
-    area_on l q = rw (walk_on s e k, le-ltb AR (rank h.found) l, ne_eqb (rank h.found) AR (λ i. only_area h.found i q))
+pub area_on : (r : Record) (rs : List Record) → rank r ≤ AR → ((a : Range) → r ≡ Area a → ⊥) → ranges_left rs ≡ ranges_left (r ∷ rs)
+unfolding in_place
+area_on r rs l q = rw (le-ltb AR (rank r) l, ne_eqb (rank r) AR (λ i. only_area r i q))
 
 -- those that were collected are the first eight, where no more are left or they are eight
 pub collected : (xs left all : List Range) → xs ++ left ≡ all → length xs ≤ 8 → left ≡ [] → xs ≡ take 8 all

@@ -2,6 +2,7 @@
 #![tactic(auto)]
 
 ghost use Rattle.std.specs.Prelude.{◌≡◌, take};
+ghost use Rattle.std.specs.Iterator.{YieldsFirst, item_count};
 ghost use Rattle.job_records.specs.Marks.{place};
 ghost use Rattle.job_records.specs.Records.{step, records, AR};
 ghost use Rattle.job_walk.specs.Walk as walk;
@@ -19,20 +20,39 @@ pub fn next_record(s: &[u8]) -> Option<Head>
     read_record(s).filter(|head| head.found.mark() != Mark::End)
 }
 
+// The records of a job before the EN.
+#[derive(Clone, Copy)]
+pub struct Records<'a> {
+    pub rest: &'a [u8],
+}
+
+impl<'a> Iterator for Records<'a> {
+    type Item = Record;
+
+    ghost next_gives = { YieldsFirst walk.left };
+
+    ghost remaining = { item_count walk.left };
+
+    #[inline(always)]
+    fn next(&mut self) -> Option<Record> {
+        let head = next_record(self.rest)?;
+        self.rest = &self.rest[head.bytes..];
+        Some(head.found)
+    }
+}
+
 // The first record with a mark, if there is one. The first record with a later mark ends the search.
 pub fn find_record(bytes: &[u8], wanted: Mark) -> Option<Record>
     ensures { result ≡ walk.first_of (walk.in_place (place wanted) (records bytes.now)) }
 {
-    let mut s = bytes;
-    while let Some(head) = next_record(s) {
-        let mark = head.found.mark();
+    for found in (Records { rest: bytes }) {
+        let mark = found.mark();
         if mark > wanted {
             break;
         }
         if mark == wanted {
-            return Some(head.found);
+            return Some(found);
         }
-        s = &s[head.bytes..];
     }
     None
 }
@@ -52,15 +72,13 @@ pub fn areas_of(bytes: &[u8]) -> JobAreas
     ensures { result.items ≡ take 8 (section.areas_from (walk.in_place AR (records bytes.now))).items }
 {
     let mut areas = JobAreas::new();
-    let mut s = bytes;
-    while let Some(head) = next_record(s) {
-        if head.found.mark() > Mark::Area || areas.is_full() {
+    for found in (Records { rest: bytes }) {
+        if found.mark() > Mark::Area || areas.is_full() {
             break;
         }
-        if let Record::Area(cells) = head.found {
+        if let Record::Area(cells) = found {
             areas.push(cells);
         }
-        s = &s[head.bytes..];
     }
     areas
 }
