@@ -282,7 +282,7 @@ fn first_no(bytes: &[u8], equally_long: bool, t: State) -> Result<(), Refusal>
     Ok(())
 }
 
-// Questions 1 to 3, and what is carried past the records.
+// Questions 1 to 3, and what is carried past the records. Not by `Records`: they end alike at an EN and at a broken record, and here it is asked which.
 fn survey_job(bytes: &[u8]) -> Result<State, Refusal>
     ensures { result ≡ surveyed bytes.now }
 {
