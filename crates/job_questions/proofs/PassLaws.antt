@@ -3,18 +3,17 @@ use mathlib.Core.Path.{◌≡◌, refl, sym, ap, ◌∙◌}
 use mathlib.Core.Bool.{Bool, true, false, true≢false, cond, not, ◌&&◌, ◌||◌}
 use mathlib.Core.List.{List, [], ◌∷◌, ◌++◌}
 use Prim.Native.Nat.{ℕ, ◌+◌, ◌-◌, ◌≤◌, ◌<◌}
-use native.Mathlib.Decide.{dec_le}
-use native.Mathlib.Nat.{zero-add, add-zero, lt_of_not-le}
+use native.Mathlib.Nat.{zero-add, add-zero}
 use native.Mathlib.Omega.{arith}
 use lib.Dec.{ltb, eqb}
 use lib.ListN.{length, take, drop}
-use borrow.Author.Tests.{le-leb, lt-leb, lt-ltb, ltb-true, eq-eqb, ne_eqb, eqb-true}
+use borrow.Author.Tests.{le-leb, lt-leb, ltb-true, eq-eqb, ne_eqb, eqb-true}
 use Rattle.units.specs.Outcome.{given, refused}
 use Rattle.job_records.specs.declared.records.Record.{Record}
 use Rattle.job_records.specs.declared.records.Record.TheVariants.{Paper, Landscape, Margin, Scale, Wide, High, Fit, Order, Headings, Limit, Cells, Area}
 use Rattle.job_records.specs.declared.records.Record.TheVariants.{TitleRows, TitleColumns, Row, Column, Merged, RowBreak, ColumnBreak, End}
 use Rattle.job_records.specs.declared.records.Head.{Head}
-use Rattle.std.specs.Prelude.{Option, Some, None, Result, Ok, Err, IsErrAnd}
+use Rattle.std.specs.Prelude.{leb, Option, Some, None, is_some, Result, Ok, Err, IsErrAnd}
 use Rattle.units.specs.declared.refusal.Refusal.{Refusal}
 use Rattle.units.specs.declared.refusal.Refusal.TheVariants.{TooManyBytes, BrokenRecord, EndNotLast}
 use Rattle.units.specs.declared.refusal.Refusal.TheVariants as no
@@ -28,7 +27,7 @@ use Rattle.job_walk.specs.Walk.{Sorted}
 use Rattle.job_questions.specs.Verdict.{asked, every, repeats, follows, ordered, flag_ok, not_reversed, in_grid, sized, rising}
 use Rattle.job_questions.specs.Verdict.{question1, question2, question3, question4, question5, question6, question7, question8, question9}
 use Rattle.job_questions.specs.Verdict.{question15, in_order, questions, items_of, verdict_lent}
-use Rattle.job_questions.specs.Pass.{beyond, placed, rows_after, columns_after, one_more, counted}
+use Rattle.job_questions.specs.Pass.{placed, rows_after, columns_after, one_more, counted}
 use Rattle.job_questions.specs.Pass.{start, advanced, after, surveyed, first_no, answer, rank_in}
 use Rattle.planner_rules.specs.Partition.{no_of}
 use Rattle.planner_rules.proofs.QuestionLaws.{both}
@@ -93,6 +92,16 @@ module _ {A : Type 0} (v : A) (more : List (ℕ × Bool)) where
 
 -- ---- the number that a state and the records still to come give
 
+-- whether slots with these indexes rise on, where n is the least that may come next
+abbrev rising_on : ℕ → Option ℕ → List ℕ → Bool
+rising_on top None is = false
+rising_on top (Some n) is = rising top n is
+
+rising_none : (top : ℕ) (n : Option ℕ) → is_some n ≡ rising_on top n []
+unfolding rising
+rising_none top None = refl
+rising_none top (Some n) = refl
+
 module _ (even cells : Bool) where
   unfoldable pub number : State → List Record → ℕ
   number t rs =
@@ -102,35 +111,30 @@ module _ (even cells : Bool) where
       ∷ (6, even && (t.fine.first && every not_reversed rs))
       ∷ (7, t.fine.grid && every in_grid rs)
       ∷ (15, cells)
-      ∷ (8, (ltb t.rows beyond && rising last_row t.rows (values RW 0 rs)) && (ltb t.columns beyond && rising last_column t.columns (values CL 0 rs)))
+      ∷ (8, rising_on last_row t.rows (values RW 0 rs) && rising_on last_column t.columns (values CL 0 rs))
       ∷ (9, t.fine.size && every sized rs)
       ∷ [])
 
   pub number_end : (t : State) → answer even cells t ≡ number t []
-  unfolding answer number ordered every rising marked
-  number_end t = simp (and-true, add-zero)
+  unfolding answer number ordered every marked
+  number_end t = simp (and-true, add-zero, rising_none last_row t.rows, rising_none last_column t.columns)
 
 -- a slot more of an axis
-placed_more : (top n i : ℕ) (is : List ℕ) → top + 1 < beyond
-    → ltb n beyond && rising top n (i ∷ is) ≡ ltb (placed top n i) beyond && rising top (placed top n i) is
+placed_more : (top : ℕ) (n : Option ℕ) (i : ℕ) (is : List ℕ) → rising_on top n (i ∷ is) ≡ rising_on top (placed top n i) is
 unfolding rising
-placed_more top n i is h =
-    elim (dec_le n i) [
-      | no k ↦ rw (lt-leb n i (lt_of_not-le k)) (and-false (ltb n beyond))
-      | yes k ↦
-          elim (dec_le i top) [
-            | no l ↦ rw (le-leb n i k, lt-leb i top (lt_of_not-le l)) (and-false (ltb n beyond))
-            | yes l ↦ rw (le-leb n i k, le-leb i top l, lt-ltb n beyond (omega arith), lt-ltb (i + 1) beyond (omega arith))
-          ]
-    ]
+placed_more top None i is = refl
+placed_more top (Some n) i is = go (leb n i) (leb i top)
+  where
+    go : (a b : Bool) → a && (b && rising top (i + 1) is) ≡ rising_on top (cond (a && b) (Some (i + 1)) None) is
+    go true true = refl
+    go true false = refl
+    go false b = refl
 
 -- a record more: of another kind than an axis' slots, it leaves that axis as it is
-axes_step : (a b : ℕ) (r : Record) (rs : List Record)
-    → (ltb a beyond && rising last_row a (values RW 0 (r ∷ rs)) ≡ ltb (rows_after a (asked r)) beyond && rising last_row (rows_after a (asked r))
-    (values RW 0 rs))
-    × (ltb b beyond && rising last_column b (values CL 0 (r ∷ rs)) ≡ ltb (columns_after b (asked r)) beyond && rising last_column (columns_after b (asked r))
-    (values CL 0 rs))
-unfolding rising marked
+axes_step : (a b : Option ℕ) (r : Record) (rs : List Record)
+    → (rising_on last_row a (values RW 0 (r ∷ rs)) ≡ rising_on last_row (rows_after a (asked r)) (values RW 0 rs))
+    × (rising_on last_column b (values CL 0 (r ∷ rs)) ≡ rising_on last_column (columns_after b (asked r)) (values CL 0 rs))
+unfolding marked
 axes_step a b (Paper x) rs = (refl, refl)
 axes_step a b Landscape rs = (refl, refl)
 axes_step a b (Margin m) rs = (refl, refl)
@@ -145,8 +149,8 @@ axes_step a b (Cells x) rs = (refl, refl)
 axes_step a b (Area x) rs = (refl, refl)
 axes_step a b (TitleRows f l) rs = (refl, refl)
 axes_step a b (TitleColumns f l) rs = (refl, refl)
-axes_step a b (Row s) rs = (placed_more last_row a s.index (values RW 0 rs) (omega arith), refl)
-axes_step a b (Column s) rs = (refl, placed_more last_column b s.index (values CL 0 rs) (omega arith))
+axes_step a b (Row s) rs = (placed_more last_row a s.index (values RW 0 rs), refl)
+axes_step a b (Column s) rs = (refl, placed_more last_column b s.index (values CL 0 rs))
 axes_step a b (Merged m) rs = (refl, refl)
 axes_step a b (RowBreak c) rs = (refl, refl)
 axes_step a b (ColumnBreak c) rs = (refl, refl)
@@ -345,7 +349,7 @@ module _ {A : Type 0} (v : A) (qs : List (ℕ × Bool)) (s : List ℕ) (f : Resu
     where
       go : (a b c : Bool) → Err n ≡ cond a (cond b (cond c (Ok (after start (records s))) (Err EndNotLast)) (Err BrokenRecord)) (Err TooManyBytes)
           → refused (number_of n) ≡ in_order ((1, a) ∷ (2, b) ∷ (3, c) ∷ qs) v
-      go true true true h = let z : ◌≡◌ {A = ℕ} 0 1 = cc in absurd (omega arith)
+      go true true true h = absurd (cc)
       go true true false h = let i : n ≡ EndNotLast = cc in ap (λ (m : Refusal). refused (number_of m)) i
       go true false c h = let i : n ≡ BrokenRecord = cc in ap (λ (m : Refusal). refused (number_of m)) i
       go false b c h = let i : n ≡ TooManyBytes = cc in ap (λ (m : Refusal). refused (number_of m)) i
@@ -359,9 +363,9 @@ module _ {A : Type 0} (v : A) (qs : List (ℕ × Bool)) (s : List ℕ) (f : Resu
       go : (a b c : Bool) → Ok t ≡ cond a (cond b (cond c (Ok (after start (records s))) (Err EndNotLast)) (Err BrokenRecord)) (Err TooManyBytes)
           → (in_order qs v ≡ in_order ((1, a) ∷ (2, b) ∷ (3, c) ∷ qs) v) × (t ≡ after start (records s))
       go true true true h = (refl, cc)
-      go true true false h = let z : ◌≡◌ {A = ℕ} 0 1 = cc in absurd (omega arith)
-      go true false c h = let z : ◌≡◌ {A = ℕ} 0 1 = cc in absurd (omega arith)
-      go false b c h = let z : ◌≡◌ {A = ℕ} 0 1 = cc in absurd (omega arith)
+      go true true false h = absurd (cc)
+      go true false c h = absurd (cc)
+      go false b c h = absurd (cc)
 
 -- the questions from 4 on
 abbrev later : Bool → List ℕ → List (ℕ × Bool)

@@ -1,5 +1,5 @@
 -- What one pass over the records carries from record to record, for the private functions of `src/lib.rt`. Assumes nothing.
-use Rattle.std.specs.Prelude.{ℕ, ◌+◌, ◌<◌, ◌^◌, Bool, true, cond, ◌&&◌, List, [], ◌∷◌, leb, ltb, eqb, Option, Some, None, Result, Ok, Err}
+use Rattle.std.specs.Prelude.{ℕ, ◌+◌, ◌<◌, ◌^◌, Bool, true, cond, ◌&&◌, List, [], ◌∷◌, leb, eqb, Option, Some, None, is_some, Result, Ok, Err}
 use Rattle.job_records.specs.Records.{AR, RW, CL, MR, BR, BC, rank, mark_before, records}
 use Rattle.units.specs.Grid.{last_row, last_column}
 use Rattle.planner_rules.specs.Areas.{one_to_eight}
@@ -23,16 +23,13 @@ fine a = record { flag = flag_ok a; first = not_reversed a; grid = in_grid a; si
 abbrev pub both_fine : Fine → Fine → Fine
 both_fine a b = record { flag = a.flag && b.flag; first = a.first && b.first; grid = a.grid && b.grid; size = a.size && b.size }
 
--- above every index: what no slot may follow
-abbrev pub beyond : ℕ
-beyond = 4294967296
-
--- 8 of one axis: the least index that may come next, after a slot with the index i
-abbrev pub placed : ℕ → ℕ → ℕ → ℕ
-placed top next i = cond (leb next i && leb i top) (i + 1) beyond
+-- 8 of one axis: the least index that may come next, after a slot with the index i; none where a slot did not rise in the grid
+abbrev pub placed : ℕ → Option ℕ → ℕ → Option ℕ
+placed top None i = None
+placed top (Some n) i = cond (leb n i && leb i top) (Some (i + 1)) None
 
 -- the next row that may come, after a record
-abbrev pub rows_after : ℕ → Asked → ℕ
+abbrev pub rows_after : Option ℕ → Asked → Option ℕ
 rows_after n (Flag x) = n
 rows_after n (Rectangle r) = n
 rows_after n (InRows s) = placed last_row n s.index
@@ -40,7 +37,7 @@ rows_after n (InColumns s) = n
 rows_after n Other = n
 
 -- the next column that may come, after a record
-abbrev pub columns_after : ℕ → Asked → ℕ
+abbrev pub columns_after : Option ℕ → Asked → Option ℕ
 columns_after n (Flag x) = n
 columns_after n (Rectangle r) = n
 columns_after n (InRows s) = n
@@ -82,8 +79,8 @@ start = record {
   last = None;
   ordered = true;
   fine = record { flag = true; first = true; grid = true; size = true };
-  rows = 0;
-  columns = 0;
+  rows = Some 0;
+  columns = Some 0;
   items = record { areas = 0; rows = 0; columns = 0; merges = 0; row_breaks = 0; column_breaks = 0 };
 }
 
@@ -122,6 +119,6 @@ answer equally_long cells t =
     ∷ (6, equally_long && t.fine.first)
     ∷ (7, t.fine.grid)
     ∷ (15, cells)
-    ∷ (8, ltb t.rows beyond && ltb t.columns beyond)
+    ∷ (8, is_some t.rows && is_some t.columns)
     ∷ (9, t.fine.size)
     ∷ [])

@@ -8,7 +8,7 @@ use Rattle.job_records.specs.Records.{UC, AR, RW, CL, MR, BR, BC, rank, step, en
 use Rattle.planner_rules.specs.Areas.{one_to_eight}
 use Rattle.planner_rules.specs.Union.{cells_hold}
 use Rattle.job_settings.specs.Meaning.{areas_for}
-use Rattle.job_walk.specs.Areas.{cell_limit_from, areas_from}
+use Rattle.job_walk.specs.Areas.{limit_from, areas_from}
 use Rattle.job_records.specs.declared.records.Range.{Range}
 use Rattle.job_records.specs.declared.records.Record.{Record}
 use Rattle.job_records.specs.declared.records.Record.TheVariants.{Paper, Landscape, Margin, Scale, Wide, High, Fit, Order, Headings, Limit, Cells, Area}
@@ -148,7 +148,7 @@ question7 s = every in_grid (records s)
 
 -- "15 when the union exceeds UC, asked after 7"
 abbrev pub question15 : List ℕ → Bool
-question15 s = cells_hold (cell_limit_from (marked UC (records s))) (areas_for (areas_from (marked AR (records s))).items)
+question15 s = cells_hold (limit_from (marked UC (records s))) (areas_for (areas_from (marked AR (records s))).items)
 
 -- "8. Slot indexes strictly rising and inside the grid?"
 abbrev pub question8 : List ℕ → Bool

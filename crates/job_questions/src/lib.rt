@@ -6,13 +6,13 @@ ghost use Rattle.job_records.specs.Records.{rank, AR, records, marked};
 ghost use Rattle.job_questions.specs.Verdict.{asked, follows, firsts_ok, grid_ok, size_ok, question15, repeats, verdict_lent, verdict};
 ghost use Rattle.job_records.specs.Marks.{place};
 ghost use Rattle.units.specs.Refusals.{outcome};
-ghost use Rattle.job_questions.specs.Pass.{fine, both_fine, placed, rows_after, columns_after, counted, Few, rank_in};
+ghost use Rattle.job_questions.specs.Pass.{fine, both_fine, placed, counted, Few, rank_in};
 ghost use Rattle.planner_rules.specs.Partition.{no_of};
 ghost use Rattle.job_questions.specs.Pass.{start, advanced, after, surveyed, answer};
 
 use job_records::{Mark, Range, Record, Slot, read_record};
 use job_settings::{areas_for, range_for};
-use job_walk::{SortedJob, areas_of, cell_limit_of};
+use job_walk::{SortedJob, areas_of, limit_of};
 use planner_areas::{cells_hold, is_upright};
 use std::ops::BitAnd;
 use units::{LARGEST_SIZE, MAX_WORKSHEET_COLUMN, MAX_WORKSHEET_ROW, Refusal};
@@ -22,9 +22,6 @@ pub const MOST_BYTES: usize = 60_000;
 
 // The most areas of a job.
 pub const MOST_AREAS: usize = 8;
-
-// Above every index: what no slot may follow.
-const BEYOND: u64 = 0x1_0000_0000;
 
 // How many records repeat of each kind.
 #[derive(Clone, Copy, Default)]
@@ -56,14 +53,14 @@ pub(crate) struct Fine {
     pub size: bool,
 }
 
-// What the pass carries from record to record. Of an axis it is the least index that may come next, or `BEYOND`.
+// What the pass carries from record to record. Of an axis it is the least index that may come next, or none where the slots did not rise in the grid.
 #[derive(Clone, Copy)]
 pub(crate) struct State {
     pub last: Option<Mark>,
     pub ordered: bool,
     pub fine: Fine,
-    pub rows: u64,
-    pub columns: u64,
+    pub rows: Option<u32>,
+    pub columns: Option<u32>,
     pub items: Items,
 }
 
@@ -118,7 +115,7 @@ fn grid_ok(a: Range) -> bool
 fn size_ok(size: i64) -> bool
     ensures { result ≡ size_ok size }
 {
-    (0 <= size) & (size <= LARGEST_SIZE as i64)
+    (0..=LARGEST_SIZE as i64).contains(&size)
 }
 
 // What is asked of nothing.
@@ -151,33 +148,14 @@ fn fine_of(what: Asked) -> Fine
 }
 
 // 8 of an axis after a slot with this index, in a grid whose last index is `last`.
-fn place(last: u32, next: u64, index: u32) -> u64
+fn place(last: u32, next: Option<u32>, index: u32) -> Option<u32>
+    requires { last < 4294967295 }
     ensures { result ≡ placed last next index }
 {
-    let i = index as u64;
-    if (next <= i) & (index <= last) {
-        i + 1
+    if (next?..=last).contains(&index) {
+        Some(index + 1)
     } else {
-        BEYOND
-    }
-}
-
-// Of each axis the slots are a case of their own, and so are its definitions: one function for both would ask again which axis a record is of.
-fn rows_after(next: u64, what: Asked) -> u64
-    ensures { result ≡ rows_after next what }
-{
-    match what {
-        Asked::InRows(s) => place(MAX_WORKSHEET_ROW, next, s.index),
-        _ => next,
-    }
-}
-
-fn columns_after(next: u64, what: Asked) -> u64
-    ensures { result ≡ columns_after next what }
-{
-    match what {
-        Asked::InColumns(s) => place(MAX_WORKSHEET_COLUMN as u32, next, s.index),
-        _ => next,
+        None
     }
 }
 
@@ -218,13 +196,23 @@ fn advance(t: State, found: Record) -> State
 {
     let mark = found.mark();
     let what = asked_of(found);
-    State {
+    let next = State {
         last: Some(mark),
         ordered: t.ordered & follows_on(t.last, mark),
         fine: t.fine & fine_of(what),
-        rows: rows_after(t.rows, what),
-        columns: columns_after(t.columns, what),
         items: count(t.items, mark),
+        ..t
+    };
+    match what {
+        Asked::InRows(slot) => State {
+            rows: place(MAX_WORKSHEET_ROW, t.rows, slot.index),
+            ..next
+        },
+        Asked::InColumns(slot) => State {
+            columns: place(MAX_WORKSHEET_COLUMN as u32, t.columns, slot.index),
+            ..next
+        },
+        _ => next,
     }
 }
 
@@ -237,8 +225,8 @@ impl Default for State {
             last: None,
             ordered: true,
             fine: FINE,
-            rows: 0,
-            columns: 0,
+            rows: Some(0),
+            columns: Some(0),
             items: Items::default(),
         }
     }
@@ -249,7 +237,7 @@ fn cells_ok(job: SortedJob<'_>) -> bool
     requires { length (marked AR (records job.bytes.now)) ≤ 8 }
     ensures { result ≡ question15 job.entry.bytes.now }
 {
-    let limit = cell_limit_of(job.bytes);
+    let limit = limit_of(job.bytes, Mark::CellLimit);
     let Some(_) = limit else {
         return true;
     };
@@ -264,7 +252,7 @@ fn first_no(bytes: &[u8], equally_long: bool, t: State) -> Result<(), Refusal>
     ensures { no_of result ≡ answer equally_long (question15 bytes.now) t }
 {
     let areas = t.items.areas;
-    if !(t.ordered & ((1 <= areas) & (areas <= MOST_AREAS))) {
+    if !(t.ordered & (1..=MOST_AREAS).contains(&areas)) {
         return Err(Refusal::MisplacedRecord);
     }
     if !t.fine.flag {
@@ -281,7 +269,7 @@ fn first_no(bytes: &[u8], equally_long: bool, t: State) -> Result<(), Refusal>
         first: Mark::Paper,
     };
     let held = cells_ok(job);
-    let rising = (t.rows < BEYOND) & (t.columns < BEYOND);
+    let rising = t.rows.is_some() & t.columns.is_some();
     if !held {
         return Err(Refusal::TooManyCells);
     }
@@ -294,7 +282,7 @@ fn first_no(bytes: &[u8], equally_long: bool, t: State) -> Result<(), Refusal>
     Ok(())
 }
 
-// Questions 1 to 3, and what is carried past the records.
+// Questions 1 to 3, and what is carried past the records. Not by `Records`: they end alike at an EN and at a broken record, and here it is asked which.
 fn survey_job(bytes: &[u8]) -> Result<State, Refusal>
     ensures { result ≡ surveyed bytes.now }
 {

@@ -6,7 +6,7 @@ use Rattle.job_records.specs.Records.{PC, LA, MG, SC, FW, FH, FT, OD, HD, LP, UC
 use Rattle.job_records.specs.declared.records.Record.{Record}
 use Rattle.units.specs.declared.margins.Margins.{Margins}
 use Rattle.job_settings.specs.declared.JobSettings.{JobSettings}
-use Rattle.job_walk.specs.Areas.{cell_limit_from, areas_from}
+use Rattle.job_walk.specs.Areas.{limit_from, areas_from}
 
 -- ---- a setting, from the records with its mark: but for AR, there is one at most
 
@@ -31,11 +31,6 @@ abbrev pub flag_from : List Record → Option ℕ
 flag_from [] = None
 flag_from (r ∷ rs) = Some (field 0 r)
 
--- "LP page limit u64"
-abbrev pub limit_from : List Record → Option ℕ
-limit_from [] = None
-limit_from (r ∷ rs) = Some (field 0 r)
-
 -- "A title is absent or a pair first, last.": "TR two u32; TC two u16"
 abbrev pub title_from : List Record → Title
 title_from [] = title.Absent
@@ -54,7 +49,7 @@ settings_of rs = record {
   order = flag_from (marked OD rs);
   headings = is_there (marked HD rs);
   page_limit = limit_from (marked LP rs);
-  cell_limit = cell_limit_from (marked UC rs);
+  cell_limit = limit_from (marked UC rs);
   areas = areas_from (marked AR rs);
   row_title = title_from (marked TR rs);
   column_title = title_from (marked TC rs);

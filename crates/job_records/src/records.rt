@@ -26,7 +26,7 @@ pub struct Slot {
     pub index: u32,
 }
 
-// A merged rectangle.
+// A merged rectangle. A struct of one field: document 01 has the cases of a record hold structs (range, slot, merge).
 #[derive(Clone, Copy)]
 pub struct Merge {
     pub cells: Range,

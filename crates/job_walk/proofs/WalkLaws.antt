@@ -2,13 +2,13 @@
 use mathlib.Core.Path.{◌≡◌, refl, sym, ap, ◌∙◌}
 use mathlib.Core.Bool.{Bool, true, false, not, cond}
 use mathlib.Core.List.{List, [], ◌∷◌, ◌++◌, map}
-use Prim.Native.Nat.{ℕ, zero, suc, ◌-◌, ◌≤◌, ◌<◌}
+use Prim.Native.Nat.{ℕ, ◌-◌, ◌≤◌, ◌<◌}
 use native.Mathlib.Decide.{dec_le}
 use native.Mathlib.Nat.{lt_of_not-le}
 use native.Mathlib.Omega.{arith}
 use lib.Dec.{ltb, eqb}
 use lib.ListN.{length, take, drop, length-map}
-use lib.Seq.{drop-nil, take_all}
+use lib.Seq.{take_all}
 use Rattle.std.proofs.lemmas.List.{append-nil, take-append-le}
 use borrow.Author.Tests.{eq-eqb, ne_eqb, eqb-true, lt-ltb, le-ltb}
 use Rattle.arrayvec.specs.ArrayVec.{ArrayVec}
@@ -18,13 +18,13 @@ use Rattle.job_records.specs.declared.records.Record.TheVariants.{Area}
 use Rattle.job_records.specs.declared.records.Head.{Head}
 use Rattle.std.specs.Prelude.{Option, Some, None}
 use Rattle.job_records.proofs.MarkLaws.{some_place}
-use Rattle.job_records.specs.Records.{AR, mark_before, head_record, step_outcome, step, rank, is_end, goes_on, records, marked}
+use Rattle.job_records.specs.Records.{AR, mark_before, step, rank, is_end, goes_on, records, marked}
 use Rattle.job_walk.specs.Areas.{range_from, areas_from}
 use Rattle.job_walk.specs.declared.sorted.SortedJob.{SortedJob}
 use Rattle.job_records.specs.Marks.{place}
 use Rattle.job_walk.specs.Walk.{before, first_of, in_place, Sorted}
 use Rattle.job_walk.proofs.Arms.{only_area}
-use Rattle.job_records.proofs.RecordLaws.{records_more, records_stop, step_is, step_used, part, length_part}
+use Rattle.job_records.proofs.RecordLaws.{records_more, records_stop, step_used, part, length_part}
 
 -- ---- marks that never fall
 
@@ -60,24 +60,7 @@ marked_in_place k job = is_in_place (place job.first) k (records job.bytes.now) 
 
 -- ---- the next record
 
-module _ (s : List ℕ) (f : Option Head) (o : step_outcome f ≡ head_record s) where
-  at_head : f ≡ step s
-  at_head = step_is s f o
-
-  pub next_nothing : f ≡ None → None ≡ before (step s)
-  unfolding before
-  next_nothing k = sym (ap before (sym at_head ∙ k))
-
-  module _ {h : Head} {x : ℕ} (k : f ≡ Some h) (i : x ≡ rank h.found) where
-    pub next_end : x ≡ 20 → None ≡ before (step s)
-    unfolding before
-    next_end j = rw (← at_head, k, eq-eqb (rank h.found) 20 (sym i ∙ j))
-
-    pub next_kind : (x ≡ 20 → ⊥) → Some h ≡ before (step s)
-    unfolding before
-    next_kind j = rw (← at_head, k, ne_eqb (rank h.found) 20 (λ q. j (i ∙ q)))
-
--- what it tells of a step
+-- what the next record tells of a step
 stops : (f : Option Head) → before f ≡ None → goes_on f ≡ false
 unfolding before goes_on
 stops None k = refl
@@ -85,15 +68,15 @@ stops (Some h) k = go (is_end h.found) k
   where
     go : (b : Bool) → cond b None (Some h) ≡ None → not b ≡ false
     go true k = refl
-    go false k = let z : ◌≡◌ {A = ℕ} 0 1 = cc in absurd (omega arith)
+    go false k = absurd (cc)
 
 goes : (f : Option Head) (h : Head) → before f ≡ Some h → (f ≡ Some h) × (is_end h.found ≡ false)
 unfolding before
-goes None h k = let z : ◌≡◌ {A = ℕ} 0 1 = cc in absurd (omega arith)
+goes None h k = absurd (cc)
 goes (Some g) h k = go (is_end g.found) refl k
   where
     go : (b : Bool) → is_end g.found ≡ b → cond b None (Some g) ≡ Some h → (Some g ≡ Some h) × (is_end h.found ≡ false)
-    go true i k = let z : ◌≡◌ {A = ℕ} 0 1 = cc in absurd (omega arith)
+    go true i k = absurd (cc)
     go false i k =
         let j : g ≡ h = cc in
         (k, ap (λ (x : Head). is_end x.found) (sym j) ∙ i)
@@ -134,69 +117,47 @@ module _ (s : List ℕ) {f : Option Head} (e : f ≡ before (step s)) where
 
 -- ---- the loop that looks for a record
 
--- the record with the mark k that has n of them before it
-abbrev pub looked : ℕ → ℕ → List ℕ → Option Record
-looked k n s = first_of (drop n (in_place k (records s)))
+-- the first record with the mark k
+abbrev pub looked : ℕ → List ℕ → Option Record
+looked k s = first_of (in_place k (records s))
 
-first_after : (n : ℕ) → (n ≡ 0 → ⊥) → (r : Record) (rs : List Record) → first_of (drop (n - 1) rs) ≡ first_of (drop n (r ∷ rs))
-first_after zero z r rs = absurd (z refl)
-first_after (suc n) z r rs = let j : suc n - 1 ≡ n = omega arith in ap (λ (i : ℕ). first_of (drop i rs)) j
+-- r is the next of some records, and x its rank: none comes, or it is the one, or the look goes on after it
+pub record Seen (k : ℕ) (r : Record) (rs : List Record) (x : ℕ) : Type 0 where
+  pub past : k < x → None ≡ first_of (in_place k (r ∷ rs))
+  pub here : x ≡ k → Some r ≡ first_of (in_place k (r ∷ rs))
+  pub on : x ≤ k → (x ≡ k → ⊥) → first_of (in_place k rs) ≡ first_of (in_place k (r ∷ rs))
 
--- h is the next record in s, and x its rank: none comes, or it is the one, or the look goes on after it
-pub record Seen (k n : ℕ) (s : List ℕ) (h : Head) (x : ℕ) : Type 0 where
-  pub used : Used s h.bytes
-  pub past : k < x → None ≡ looked k n s
-  pub here : x ≡ k → n ≡ 0 → Some h.found ≡ looked k n s
-  pub after : x ≡ k → (n ≡ 0 → ⊥) → looked k (n - 1) (take (length s - h.bytes) (drop h.bytes s)) ≡ looked k n s
-  pub on : x ≤ k → (x ≡ k → ⊥) → looked k n (take (length s - h.bytes) (drop h.bytes s)) ≡ looked k n s
-
-module _ (k n : ℕ) (s : List ℕ) {f : Option Head} (e : f ≡ before (step s)) where
-  pub look_end : f ≡ None → None ≡ looked k n s
-  unfolding in_place
-  look_end h = rw (walk_end s e h, drop-nil n)
-
-  pub look_next : {h : Head} {x : ℕ} → f ≡ Some h → x ≡ rank h.found → Seen k n s h x
-  unfolding in_place
-  look_next {h} {x} j i = record {
-    used = walk_used s e j;
-    past = λ l. rw (walk_on s e j, lt-ltb k (rank h.found) (omega arith), drop-nil n);
-    here = λ l z. rw (walk_on s e j, le-ltb k (rank h.found) (omega arith), eq-eqb (rank h.found) k (sym i ∙ l), z);
-    after = λ l z.
-        rw (walk_on s e j, le-ltb k (rank h.found) (omega arith), eq-eqb (rank h.found) k (sym i ∙ l))
-        (first_after n z h.found (in_place k (records (take (length s - h.bytes) (drop h.bytes s)))));
-    on = λ l q. rw (walk_on s e j, le-ltb k (rank h.found) (omega arith), ne_eqb (rank h.found) k (λ u. q (i ∙ u)));
-  }
+pub look_next : (k : ℕ) (r : Record) (rs : List Record) {x : ℕ} → x ≡ rank r → Seen k r rs x
+unfolding in_place
+look_next k r rs i = record {
+  past = λ l. rw (lt-ltb k (rank r) (omega arith));
+  here = λ l. rw (le-ltb k (rank r) (omega arith), eq-eqb (rank r) k (sym i ∙ l));
+  on = λ l q. rw (le-ltb k (rank r) (omega arith), ne_eqb (rank r) k (λ u. q (i ∙ u)));
+}
 
 -- ---- the record that was found
 
-found_none : {X : Type 0} (n : ℕ) (r : Record) → first_of (drop n []) ≡ Some r → X
-found_none n r h =
-    let i : None ≡ Some r = rw (drop-nil n) at h in
-    let z : ◌≡◌ {A = ℕ} 0 1 = cc in
-    absurd (omega arith)
-
-looked_rank : (k n : ℕ) (rs : List Record) (r : Record) → first_of (drop n (in_place k rs)) ≡ Some r → rank r ≡ k
+looked_rank : (k : ℕ) (rs : List Record) (r : Record) → first_of (in_place k rs) ≡ Some r → rank r ≡ k
 unfolding in_place
-looked_rank k n [] r h = found_none n r h
-looked_rank k n (q ∷ qs) r h = go (ltb k (rank q)) (eqb (rank q) k) refl n h (λ m. looked_rank k m qs r)
+looked_rank k [] r h = absurd (cc)
+looked_rank k (q ∷ qs) r h = go (ltb k (rank q)) (eqb (rank q) k) refl h (looked_rank k qs r)
   where
-    go : (a b : Bool) → eqb (rank q) k ≡ b → (n : ℕ) → first_of (drop n (cond a [] (cond b (q ∷ in_place k qs) (in_place k qs)))) ≡ Some r
-        → ((m : ℕ) → first_of (drop m (in_place k qs)) ≡ Some r → rank r ≡ k) → rank r ≡ k
-    go true b i n h later = found_none n r h
-    go false true i zero h later = let j : q ≡ r = cc in ap rank (sym j) ∙ eqb-true (rank q) k i
-    go false true i (suc n) h later = later n h
-    go false false i n h later = later n h
+    go : (a b : Bool) → eqb (rank q) k ≡ b → first_of (cond a [] (cond b (q ∷ in_place k qs) (in_place k qs))) ≡ Some r
+        → (first_of (in_place k qs) ≡ Some r → rank r ≡ k) → rank r ≡ k
+    go true b i h later = absurd (cc)
+    go false true i h later = let j : q ≡ r = cc in ap rank (sym j) ∙ eqb-true (rank q) k i
+    go false false i h later = later h
 
 -- f is the first of the records l, which have the mark k, or that there is none
 pub record Looked (k : ℕ) (l : List Record) (f : Option Record) : Type 0 where
   pub is : f ≡ first_of l
   pub ranked : (r : Record) → f ≡ Some r → rank r ≡ k
 
-pub looked_in_place : (k n : ℕ) (s : List ℕ) {f : Option Record} → f ≡ looked k n s → Looked k (drop n (in_place k (records s))) f
-looked_in_place k n s e = record { is = e; ranked = λ r h. looked_rank k n (records s) r (sym e ∙ h) }
+pub looked_in_place : (k : ℕ) (s : List ℕ) {f : Option Record} → f ≡ looked k s → Looked k (in_place k (records s)) f
+looked_in_place k s e = record { is = e; ranked = λ r h. looked_rank k (records s) r (sym e ∙ h) }
 
-pub looked_marked : (k : ℕ) (job : SortedJob) {f : Option Record} → f ≡ looked k 0 job.bytes.now → Looked k (marked k (records job.bytes.now)) f
-looked_marked k job e = record { is = e ∙ ap first_of (marked_in_place k job); ranked = (looked_in_place k 0 job.bytes.now e).ranked }
+pub looked_marked : (k : ℕ) (job : SortedJob) {f : Option Record} → f ≡ looked k job.bytes.now → Looked k (marked k (records job.bytes.now)) f
+looked_marked k job e = record { is = e ∙ ap first_of (marked_in_place k job); ranked = (looked_in_place k job.bytes.now e).ranked }
 
 module _ {k : ℕ} {l : List Record} {f : Option Record} (w : Looked k l f) where
   -- what is made of the records, where there is none and where there is one
@@ -205,38 +166,32 @@ module _ {k : ℕ} {l : List Record} {f : Option Record} (w : Looked k l f) wher
     where
       go : (l : List Record) → first_of l ≡ None → v ≡ g l
       go [] h = sym p
-      go (r ∷ l) h = let z : ◌≡◌ {A = ℕ} 0 1 = cc in absurd (omega arith)
+      go (r ∷ l) h = absurd (cc)
 
   pub from_one : {X : Type 0} (g : List Record → X) {v : X} {r q : Record} → f ≡ Some r → r ≡ q → ((t : List Record) → g (q ∷ t) ≡ v) → v ≡ g l
   from_one {X} g {v} {r} {q} h i p = go l (sym w.is ∙ h)
     where
       go : (l : List Record) → first_of l ≡ Some r → v ≡ g l
-      go [] h = let z : ◌≡◌ {A = ℕ} 0 1 = cc in absurd (omega arith)
+      go [] h = absurd (cc)
       go (o ∷ t) h = let j : o ≡ q = cc in sym (ap (λ (y : Record). g (y ∷ t)) j ∙ p t)
 
 -- ---- the loop that collects the areas
 
--- the areas from some bytes on
-abbrev pub ranges_left : List ℕ → List Range
-ranges_left s = map range_from (in_place AR (records s))
+-- the areas of some records
+abbrev pub ranges_left : List Record → List Range
+ranges_left rs = map range_from (in_place AR rs)
 
-module _ (s : List ℕ) {f : Option Head} (e : f ≡ before (step s)) where
-  pub area_end : f ≡ None → ranges_left s ≡ []
-  unfolding in_place
-  area_end h = rw (walk_end s e h)
+pub area_past : (r : Record) (rs : List Record) → AR < rank r → ranges_left (r ∷ rs) ≡ []
+unfolding in_place
+area_past r rs l = rw (lt-ltb AR (rank r) l)
 
-  module _ {h : Head} (k : f ≡ Some h) where
-    pub area_past : AR < rank h.found → ranges_left s ≡ []
-    unfolding in_place
-    area_past l = rw (walk_on s e k, lt-ltb AR (rank h.found) l)
+pub area_here : (r : Record) (rs : List Record) (a : Range) → r ≡ Area a → ranges_left (r ∷ rs) ≡ a ∷ ranges_left rs
+unfolding in_place
+area_here r rs a i = rw i
 
-    pub area_here : (a : Range) → h.found ≡ Area a → ranges_left s ≡ a ∷ ranges_left (take (length s - h.bytes) (drop h.bytes s))
-    unfolding in_place
-    area_here a i = rw (walk_on s e k, i)
-
-    pub area_on : rank h.found ≤ AR → ((a : Range) → h.found ≡ Area a → ⊥) → ranges_left (take (length s - h.bytes) (drop h.bytes s)) ≡ ranges_left s
-    unfolding in_place
-    area_on l q = rw (walk_on s e k, le-ltb AR (rank h.found) l, ne_eqb (rank h.found) AR (λ i. only_area h.found i q))
+pub area_on : (r : Record) (rs : List Record) → rank r ≤ AR → ((a : Range) → r ≡ Area a → ⊥) → ranges_left rs ≡ ranges_left (r ∷ rs)
+unfolding in_place
+area_on r rs l q = rw (le-ltb AR (rank r) l, ne_eqb (rank r) AR (λ i. only_area r i q))
 
 -- those that were collected are the first eight, where no more are left or they are eight
 pub collected : (xs left all : List Range) → xs ++ left ≡ all → length xs ≤ 8 → left ≡ [] → xs ≡ take 8 all

@@ -1,14 +1,22 @@
--- The areas of a job and the limit of their cells, from the records with their marks (document 02, T-02). Assumes nothing.
-use Rattle.std.specs.Prelude.{List, [], ◌∷◌, map, ℕ, Option, Some, None}
+-- The areas of a job, and the limits of its pages and of their cells, from the records with their marks (document 02, T-02). Assumes nothing.
+use Rattle.std.specs.Prelude.{List, [], ◌∷◌, map, ℕ, Bool, cond, ◌||◌, eqb, Option, Some, None}
 use Rattle.arrayvec.specs.ArrayVec.{ArrayVec}
-use Rattle.job_records.specs.Records.{field}
+use Rattle.job_records.specs.Records.{LP, UC, field}
 use Rattle.job_records.specs.declared.records.Range.{Range}
 use Rattle.job_records.specs.declared.records.Record.{Record}
 
--- "UC, u64 ..; absent means no limit"
-abbrev pub cell_limit_from : List Record → Option ℕ
-cell_limit_from [] = None
-cell_limit_from (r ∷ rs) = Some (field 0 r)
+-- "LP page limit u64"; "UC, u64 ..; absent means no limit"
+abbrev pub limit_from : List Record → Option ℕ
+limit_from [] = None
+limit_from (r ∷ rs) = Some (field 0 r)
+
+-- the marks of limits
+abbrev pub is_limit : ℕ → Bool
+is_limit k = eqb k LP || eqb k UC
+
+-- the limit in the records with the mark k, which is none where the mark is no limit's
+abbrev pub limit_in : ℕ → List Record → Option ℕ
+limit_in k rs = cond (is_limit k) (limit_from rs) None
 
 -- "AR range u32, u16, u32, u16 as first row, first column, last row, last column"
 abbrev pub range_from : Record → Range

@@ -1,3 +1,3 @@
--- What the contracts of `job_walk` cite: how the records are walked, and the areas and their limit.
+-- What the contracts of `job_walk` cite: how the records are walked, and the areas and the limits.
 pub mod Walk
 pub mod Areas

@@ -2,14 +2,19 @@
 use Rattle.std.specs.Prelude.{cond, List, [], ◌∷◌, ℕ, ◌≤◌, eqb, ltb, Option, Some, None}
 use mathlib.Core.HLevel.{×_prop, Unit-prop}
 use native.Mathlib.Bridge.{le_prop}
-use Rattle.job_records.specs.Records.{rank, is_end}
+use Rattle.job_records.specs.Records.{rank, is_end, records}
 use Rattle.job_records.specs.declared.records.Record.{Record}
 use Rattle.job_records.specs.declared.records.Head.{Head}
+use Rattle.job_walk.specs.declared.Records.{Records}
 
 -- the record before the EN that a step found
 unfoldable pub before : Option Head → Option Head
 before None = None
 before (Some h) = cond (is_end h.found) None (Some h)
+
+-- the records that are still to come
+abbrev pub left : Records → List Record
+left r = records r.rest.now
 
 -- the first of some records
 abbrev pub first_of : List Record → Option Record

@@ -10,7 +10,7 @@ use Rattle.arrayvec.specs.ArrayVec.{ArrayVec}
 use Rattle.job_records.specs.declared.records.Range.{Range}
 use Rattle.job_records.specs.Records.{UC, records, marked}
 use Rattle.job_settings.specs.Meaning.{areas_for}
-use Rattle.job_walk.specs.Areas.{cell_limit_from}
+use Rattle.job_walk.specs.Areas.{limit_from}
 use Rattle.job_walk.specs.declared.sorted.SortedJob.{SortedJob}
 use Rattle.job_walk.specs.Walk.{in_place}
 use Rattle.job_walk.proofs.WalkLaws.{marked_in_place, all_areas}
@@ -22,16 +22,16 @@ unfolding cells_hold
 no_limit l gs e = rw e
 
 -- the limit that was found is the job's
-limit_is : (l : Option ℕ) (job : SortedJob) → l ≡ cell_limit_from (in_place UC (records job.bytes.now))
-    → l ≡ cell_limit_from (marked UC (records job.bytes.now))
-limit_is l job e = e ∙ ap cell_limit_from (marked_in_place UC job)
+limit_is : (l : Option ℕ) (job : SortedJob) → l ≡ limit_from (in_place UC (records job.bytes.now))
+    → l ≡ limit_from (marked UC (records job.bytes.now))
+limit_is l job e = e ∙ ap limit_from (marked_in_place UC job)
 
 pub returns-in_default : goal.returns-in_default
 returns-in_default c =
-    no_limit _ _ (sym (limit_is _ c.args.job c.cell_limit_of-limit.ensures) ∙ c.in_default.is)
+    no_limit _ _ (sym (limit_is _ c.args.job c.limit_of-limit.ensures) ∙ c.in_default.is)
 
 pub returns : goal.returns
 returns c =
-    let limit = limit_is c.cell_limit_of-limit.result c.args.job c.cell_limit_of-limit.ensures in
+    let limit = limit_is c.limit_of-limit.result c.args.job c.limit_of-limit.ensures in
     let read = c.areas_for-areas.ensures ∙ ap (λ (a : ArrayVec Range). areas_for a.items) (all_areas c.args.job c.requires _ c.areas_of-read.ensures) in
     c.cells_hold.ensures ∙ ap₂ cells_hold limit (c.as_slice.ensures.value ∙ read)

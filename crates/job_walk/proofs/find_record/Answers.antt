@@ -1,49 +1,38 @@
--- `find_record` answers what it looks for: each turn is a step of `looked`.
-use Rattle.std.proofs.Common.{sym, ap, ◌∙◌, arith}
+-- `find_record` answers what it looks for: each turn is a step of the look.
+use Rattle.std.proofs.Common.{List, sym, ap, ◌∙◌}
 use Rattle.job_records.specs.Marks.{place}
+use Rattle.job_records.specs.declared.records.Record.{Record}
 use Rattle.job_records.proofs.MarkLaws.{same_place, other_place, later_place, no_later_place}
-use Rattle.job_walk.proofs.WalkLaws.{look_end, look_next}
+use Rattle.job_walk.specs.Walk.{first_of, in_place}
+use Rattle.job_walk.proofs.WalkLaws.{look_next}
 use Rattle.job_walk.proofs.find_record.Goals as goal
-use Rattle.job_walk.proofs.find_record.Goals.{then-eq+else-left-eq0, else-eq}
 
 pub returns-then-gt : goal.returns-then-gt
 returns-then-gt c =
-    let n = look_next (place c.args.wanted) c.loop-head.left c.loop-head.s.now c.next_record.ensures c.in-Some.is (ap place c.mark-mark.ensures) in
-    n.past (later_place _ _ (sym c.gt.ensures ∙ c.if-gt.true)) ∙ c.loop-head.invariant
+    let k = place c.args.wanted in
+    (look_next k c.in-Some.found _ (ap place c.mark-mark.ensures)).past (later_place _ _ (sym c.gt.ensures ∙ c.if-gt.true))
+    ∙ ap (λ (rs : List Record). first_of (in_place k rs)) (sym c.in-Some.ensures.steps)
+    ∙ c.loop-found.invariant.2
 
-pub returns-then-left-eq0 : goal.returns-then-left-eq0
-returns-then-left-eq0 c =
-    let n = look_next (place c.args.wanted) c.loop-head.left c.loop-head.s.now c.next_record.ensures c.in-Some.is (ap place c.mark-mark.ensures) in
-    n.here (same_place c.mark-mark.result c.args.wanted (sym c.eq.ensures ∙ c.if-eq.true)) c.if-left-eq0.true ∙ c.loop-head.invariant
+pub returns-then-eq : goal.returns-then-eq
+returns-then-eq c =
+    let k = place c.args.wanted in
+    (look_next k c.in-Some.found _ (ap place c.mark-mark.ensures)).here (same_place c.mark-mark.result c.args.wanted (sym c.eq.ensures ∙ c.if-eq.true))
+    ∙ ap (λ (rs : List Record). first_of (in_place k rs)) (sym c.in-Some.ensures.steps)
+    ∙ c.loop-found.invariant.2
 
-pub slice_bounds-s-count : goal.slice_bounds-s-count
-slice_bounds-s-count c =
-    let n = look_next (place c.args.wanted) c.loop-head.left c.loop-head.s.now c.next_record.ensures c.in-Some.is (ap place c.mark-mark.ensures) in
-    n.used.within
+pub loop-found-preserved : goal.loop-found-preserved
+loop-found-preserved c =
+    let k = place c.args.wanted in
+    let other = other_place c.mark-mark.result c.args.wanted (sym c.eq.ensures ∙ c.if-eq.false) in (
+      tt,
+      tt,
+      (look_next k c.in-Some.found _ (ap place c.mark-mark.ensures)).on (no_later_place _ _ (sym c.gt.ensures ∙ c.if-gt.false)) other
+          ∙ ap (λ (rs : List Record). first_of (in_place k rs)) (sym c.in-Some.ensures.steps)
+          ∙ c.loop-found.invariant.2,
+    )
 
-pub slice_bounds-s-start : goal.slice_bounds-s-start
-slice_bounds-s-start c =
-    let n = look_next (place c.args.wanted) c.loop-head.left c.loop-head.s.now c.next_record.ensures c.in-Some.is (ap place c.mark-mark.ensures) in
-    omega (arith, n.used.within)
-
-pub loop-head-smaller : goal.loop-head-smaller
-loop-head-smaller c =
-    let n = look_next (place c.args.wanted) c.loop-head.left c.loop-head.s.now c.next_record.ensures c.in-Some.is (ap place c.mark-mark.ensures) in
-    n.used.less
-
-pub loop-head-preserved : goal.loop-head-preserved
-loop-head-preserved c =
-    let n = look_next (place c.args.wanted) c.loop-head.left c.loop-head.s.now c.next_record.ensures c.in-Some.is (ap place c.mark-mark.ensures) in
-    elim c.if-eq.branch [
-      | then-eq+else-left-eq0 w ↦
-          rw w.left-is
-          (n.after (same_place c.mark-mark.result c.args.wanted (sym c.eq.ensures ∙ w.if-eq.true)) w.if-left-eq0.false ∙ c.loop-head.invariant)
-      | else-eq w ↦
-          rw w.left-is
-          (n.on (no_later_place _ _ (sym c.gt.ensures ∙ c.if-gt.false))
-          (other_place c.mark-mark.result c.args.wanted (sym c.eq.ensures ∙ w.if-eq.false)) ∙ c.loop-head.invariant)
-    ]
-
-pub returns : goal.returns
-returns c =
-    look_end (place c.args.wanted) c.loop-head.left c.loop-head.s.now c.next_record.ensures c.in_default.is ∙ c.loop-head.invariant
+pub returns-in-None : goal.returns-in-None
+unfolding in_place
+returns-in-None c =
+    ap (λ (rs : List Record). first_of (in_place (place c.args.wanted) rs)) (sym c.in-None.ensures.steps.0) ∙ c.loop-found.invariant.2

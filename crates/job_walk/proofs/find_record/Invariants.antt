@@ -1,12 +1,11 @@
--- The loop of `find_record` looks in the rest of the bytes for what is left to look for, and the rest grows shorter.
+-- The loop of `find_record` looks in the records that are left.
 use mathlib.Core.Path.{◌≡◌}
-use lib.ListN.{length}
 use Rattle.job_records.specs.Marks.{place}
-use Rattle.job_walk.proofs.WalkLaws.{looked}
+use Rattle.job_records.specs.Records.{records}
+use Rattle.job_walk.specs.Walk.{left, first_of, in_place}
 use Rattle.job_walk.proofs.find_record.Given as goal
 
-abbrev pub invariant-loop-head : goal.invariant-loop-head
-invariant-loop-head l = looked (place l.wanted) l.left l.s ≡ looked (place l.wanted) l.before l.bytes
-
-abbrev pub decreases-loop-head : goal.decreases-loop-head
-decreases-loop-head l = length l.s
+abbrev pub invariant-loop-found : goal.invariant-loop-found
+invariant-loop-found l =
+    (goal.iterator-loop-found).can_next l.found-iterator × (goal.iterator-loop-found).is_finite l.found-iterator
+    × (first_of (in_place (place l.wanted) (left l.found-iterator)) ≡ first_of (in_place (place l.wanted) (records l.bytes)))

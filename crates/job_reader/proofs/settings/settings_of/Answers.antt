@@ -1,7 +1,7 @@
 -- `job_reader::settings::settings_of` meets its contract.
 use Rattle.std.proofs.Common.{ap, ◌∙◌}
-use Rattle.job_records.specs.Records.{UC}
-use Rattle.job_walk.specs.Areas.{cell_limit_from}
+use Rattle.job_records.specs.Records.{LP, UC}
+use Rattle.job_walk.specs.Areas.{limit_from}
 use Rattle.job_walk.proofs.WalkLaws.{marked_in_place, all_areas}
 use Rattle.job_reader.proofs.settings.settings_of.Goals as goal
 
@@ -17,8 +17,8 @@ returns c =
       c.flag_of.ensures,
       c.flag_of-2.ensures,
       c.is_there-2.ensures,
-      c.limit_of.ensures,
-      c.cell_limit_of.ensures ∙ ap cell_limit_from (marked_in_place UC c.args.job),
+      c.limit_of.ensures ∙ ap limit_from (marked_in_place LP c.args.job),
+      c.limit_of-2.ensures ∙ ap limit_from (marked_in_place UC c.args.job),
       all_areas c.args.job c.requires _ c.areas_of.ensures,
       c.title_of.ensures,
       c.title_of-2.ensures,
