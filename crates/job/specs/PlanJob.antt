@@ -1,6 +1,7 @@
 -- The plan of a job's bytes: document 01, sections "Jobs" and "Questions in order", and document 02, T-02. Assumes nothing.
 use Rattle.std.specs.Prelude.{◌≡◌, true, List, ℕ, suc, ◌*◌, ◌<◌, ◌≤◌, length, take, Result}
 use Rattle.units.specs.Outcome.{Outcome, and_then}
+use Rattle.planner_rules.specs.declared.lists.AxisLists.{AxisLists}
 use Rattle.planner_rules.specs.declared.lists.SheetLists.{SheetLists}
 use Rattle.planner_rules.specs.declared.planning.PrintRange.{PrintRange}
 use Rattle.planner_rules.specs.Plan.{Sheet, Layout, AreaLayout, Planned, Counted, AreaWrote, sheet_of, planned, counted, area_written}
@@ -9,6 +10,7 @@ use Rattle.planner_rules.specs.declared.pages.Plan as pages
 use Rattle.planner_rules.specs.declared.planning.RunCounts.{RunCounts}
 use Rattle.job_records.specs.Records.{RW, CL, MR, BR, BC, records, values}
 use Rattle.job_questions.specs.Verdict.{verdict, question1, items_of}
+use Rattle.job_reader.specs.declared.lists.LentAxis.{LentAxis}
 use Rattle.job_reader.specs.Reading.{Lists, lists, even_lists, room_in, fit_in}
 use Rattle.units.specs.declared.refusal.Refusal.{Refusal}
 use Rattle.units.specs.Refusals.{outcome}
@@ -95,6 +97,22 @@ fronts n l =
     lists (take n.rows l.row_indexes) (take n.rows l.row_sizes) (take n.columns l.column_indexes) (take n.columns l.column_sizes)
     (take n.merges l.merge_first_rows) (take n.merges l.merge_first_columns) (take n.merges l.merge_last_rows)
     (take n.merges l.merge_last_columns) (take n.row_breaks l.row_breaks) (take n.column_breaks l.column_breaks)
+
+-- the lists of an axis are as long as so many slots, merges and breaks
+pub record AxisLong (slots merges breaks : ℕ) (l : LentAxis) : Type 0 where
+  pub indexes_long : slots ≤ length l.slots.indexes.now
+  pub sizes_long : slots ≤ length l.slots.sizes.now
+  pub firsts_long : merges ≤ length l.merges.firsts.now
+  pub lasts_long : merges ≤ length l.merges.lasts.now
+  pub breaks_long : breaks ≤ length l.breaks.now
+
+-- `fronts` are the fronts of these lists
+pub record AxisFronts (slots merges breaks : ℕ) (l : LentAxis) (fronts : AxisLists) : Type 0 where
+  pub indexes_are : fronts.slots.indexes.now ≡ take slots l.slots.indexes.now
+  pub sizes_are : fronts.slots.sizes.now ≡ take slots l.slots.sizes.now
+  pub firsts_are : fronts.merges.firsts.now ≡ take merges l.merges.firsts.now
+  pub lasts_are : fronts.merges.lasts.now ≡ take merges l.merges.lasts.now
+  pub breaks_are : fronts.breaks.now ≡ take breaks l.breaks.now
 
 -- the lists are as long as so many items say
 pub record Long (n : Items) (l : Lists) : Type 0 where

@@ -9,12 +9,35 @@ ghost use Rattle.job.specs.PlanJob as section;
 
 use crate::wanted::{AreaRuns, PageCount, Wanted, WholePlan};
 use job_questions::Items;
-use job_reader::{JobLists, read_job};
+use job_reader::{JobLists, LentAxis, LentMerges, LentSlots, read_job};
 use job_settings::areas_for;
 use planner_rules::{
     AxisLists, MergeList, Plan, Request, RunCounts, Settings, SheetLists, SlotList,
 };
 use units::Refusal;
+
+// The fronts of the lists of an axis, so many slots, merges and breaks long.
+fn axis_fronts<'a>(
+    lent: &'a LentAxis<'_>,
+    slots: usize,
+    merges: usize,
+    breaks: usize,
+) -> AxisLists<'a>
+    requires { section.AxisLong slots merges breaks lent.now }
+    ensures { section.AxisFronts slots merges breaks lent.now result }
+{
+    AxisLists {
+        slots: SlotList {
+            indexes: &lent.slots.indexes[..slots],
+            sizes: &lent.slots.sizes[..slots],
+        },
+        merges: MergeList {
+            firsts: &lent.merges.firsts[..merges],
+            lasts: &lent.merges.lasts[..merges],
+        },
+        breaks: &lent.breaks[..breaks],
+    }
+}
 
 // The fronts of lent lists, as long as so many items say.
 fn fronts<'a>(items: Items, lent: &'a JobLists<'_>) -> SheetLists<'a>
@@ -22,28 +45,13 @@ fn fronts<'a>(items: Items, lent: &'a JobLists<'_>) -> SheetLists<'a>
     ensures { section.lists_in result ≡ section.fronts items (lists_in lent.now) }
 {
     SheetLists {
-        rows: AxisLists {
-            slots: SlotList {
-                indexes: &lent.row_indexes[..items.rows],
-                sizes: &lent.row_sizes[..items.rows],
-            },
-            merges: MergeList {
-                firsts: &lent.merge_first_rows[..items.merges],
-                lasts: &lent.merge_last_rows[..items.merges],
-            },
-            breaks: &lent.row_breaks[..items.row_breaks],
-        },
-        columns: AxisLists {
-            slots: SlotList {
-                indexes: &lent.column_indexes[..items.columns],
-                sizes: &lent.column_sizes[..items.columns],
-            },
-            merges: MergeList {
-                firsts: &lent.merge_first_columns[..items.merges],
-                lasts: &lent.merge_last_columns[..items.merges],
-            },
-            breaks: &lent.column_breaks[..items.column_breaks],
-        },
+        rows: axis_fronts(&lent.rows, items.rows, items.merges, items.row_breaks),
+        columns: axis_fronts(
+            &lent.columns,
+            items.columns,
+            items.merges,
+            items.column_breaks,
+        ),
     }
 }
 
@@ -100,16 +108,28 @@ fn answer_sized<
     let mut row_breaks = [0u32; ROW_BREAKS];
     let mut column_breaks = [0u32; COLUMN_BREAKS];
     let mut lent = JobLists {
-        row_indexes: &mut row_indexes,
-        row_sizes: &mut row_sizes,
-        column_indexes: &mut column_indexes,
-        column_sizes: &mut column_sizes,
-        merge_first_rows: &mut merge_first_rows,
-        merge_first_columns: &mut merge_first_columns,
-        merge_last_rows: &mut merge_last_rows,
-        merge_last_columns: &mut merge_last_columns,
-        row_breaks: &mut row_breaks,
-        column_breaks: &mut column_breaks,
+        rows: LentAxis {
+            slots: LentSlots {
+                indexes: &mut row_indexes,
+                sizes: &mut row_sizes,
+            },
+            merges: LentMerges {
+                firsts: &mut merge_first_rows,
+                lasts: &mut merge_last_rows,
+            },
+            breaks: &mut row_breaks,
+        },
+        columns: LentAxis {
+            slots: LentSlots {
+                indexes: &mut column_indexes,
+                sizes: &mut column_sizes,
+            },
+            merges: LentMerges {
+                firsts: &mut merge_first_columns,
+                lasts: &mut merge_last_columns,
+            },
+            breaks: &mut column_breaks,
+        },
     };
     answer_in(wanted, bytes, &mut lent, row_runs, column_runs)
 }
