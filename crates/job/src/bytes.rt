@@ -44,28 +44,24 @@ fn fronts<'a>(items: Items, lent: &'a JobLists<'_>) -> SheetLists<'a>
     requires { section.Long items (lists_in lent.now) }
     ensures { section.lists_in result ≡ section.fronts items (lists_in lent.now) }
 {
-    SheetLists {
-        rows: axis_fronts(&lent.rows, items.rows, items.merges, items.row_breaks),
-        columns: axis_fronts(
-            &lent.columns,
-            items.columns,
-            items.merges,
-            items.column_breaks,
-        ),
-    }
+    let rows = axis_fronts(&lent.rows, items.rows, items.merges, items.row_breaks);
+    let columns = axis_fronts(
+        &lent.columns,
+        items.columns,
+        items.merges,
+        items.column_breaks,
+    );
+    SheetLists { rows, columns }
 }
 
 // Reads a job into ten lists that hold its items, and answers what is wanted of it.
 fn answer_in<W: Wanted>(
-    wanted: W,
+    wanted: &mut W,
     bytes: &[u8],
     lent: &mut JobLists<'_>,
-    row_runs: &mut [u64],
-    column_runs: &mut [u64],
 ) -> Result<W::Answer, Refusal>
     requires { section.Holds bytes.now (lists_in lent.old) }
-    ensures { section.JobTold (W.told wanted) bytes.now result row_runs.old column_runs.old row_runs.new
-        column_runs.new }
+    ensures { section.JobTold (W.told wanted.old wanted.new) bytes.now result }
 {
     let job = read_job(bytes, lent)?;
     let lists = fronts(job.items, lent);
@@ -76,7 +72,7 @@ fn answer_in<W: Wanted>(
         row_title: job.settings.row_title,
         column_title: job.settings.column_title,
     };
-    wanted.answer(&request, &lists, row_runs, column_runs)
+    wanted.answer(&request, &lists)
 }
 
 // Answers what is wanted of a job, by arrays that hold so many rows and merges, columns and breaks.
@@ -87,15 +83,9 @@ fn answer_sized<
     const COLUMNS: usize,
     const ROW_BREAKS: usize,
     const COLUMN_BREAKS: usize,
->(
-    wanted: W,
-    bytes: &[u8],
-    row_runs: &mut [u64],
-    column_runs: &mut [u64],
-) -> Result<W::Answer, Refusal>
+>(wanted: &mut W, bytes: &[u8]) -> Result<W::Answer, Refusal>
     requires { section.RoomFor bytes.now ROWS COLUMNS ROW_BREAKS COLUMN_BREAKS }
-    ensures { section.JobTold (W.told wanted) bytes.now result row_runs.old column_runs.old row_runs.new
-        column_runs.new }
+    ensures { section.JobTold (W.told wanted.old wanted.new) bytes.now result }
 {
     let mut row_indexes = [0u32; ROWS];
     let mut row_sizes = [0u64; ROWS];
@@ -131,33 +121,27 @@ fn answer_sized<
             breaks: &mut column_breaks,
         },
     };
-    answer_in(wanted, bytes, &mut lent, row_runs, column_runs)
+    answer_in(wanted, bytes, &mut lent)
 }
 
 // An array is cleared before it is lent, so a job gets none that is much longer than its bytes can fill.
-fn answer_job<W: Wanted>(
-    wanted: W,
-    bytes: &[u8],
-    row_runs: &mut [u64],
-    column_runs: &mut [u64],
-) -> Result<W::Answer, Refusal>
-    ensures { section.JobTold (W.told wanted) bytes.now result row_runs.old column_runs.old row_runs.new
-        column_runs.new }
+fn answer_job<W: Wanted>(wanted: &mut W, bytes: &[u8]) -> Result<W::Answer, Refusal>
+    ensures { section.JobTold (W.told wanted.old wanted.new) bytes.now result }
 {
     let n = bytes.len();
     if n <= 750 {
-        return answer_sized::<W, 53, 62, 125, 187>(wanted, bytes, row_runs, column_runs);
+        return answer_sized::<W, 53, 62, 125, 187>(wanted, bytes);
     }
     if n <= 3000 {
-        return answer_sized::<W, 214, 250, 500, 750>(wanted, bytes, row_runs, column_runs);
+        return answer_sized::<W, 214, 250, 500, 750>(wanted, bytes);
     }
     if n <= 12_000 {
-        return answer_sized::<W, 857, 1000, 2000, 3000>(wanted, bytes, row_runs, column_runs);
+        return answer_sized::<W, 857, 1000, 2000, 3000>(wanted, bytes);
     }
     if n <= 24_000 {
-        return answer_sized::<W, 1714, 2000, 4000, 6000>(wanted, bytes, row_runs, column_runs);
+        return answer_sized::<W, 1714, 2000, 4000, 6000>(wanted, bytes);
     }
-    answer_sized::<W, 4285, 5000, 10_000, 15_000>(wanted, bytes, row_runs, column_runs)
+    answer_sized::<W, 4285, 5000, 10_000, 15_000>(wanted, bytes)
 }
 
 // Plans the pages of a job, area by area: each one's scale and its runs of rows and columns, which go to the fronts of two lent lists, area
@@ -177,7 +161,11 @@ pub fn plan_job(
         FewestPlan (outcome result) (section.job_sheet s) (section.job_areas s) row_runs.new column_runs.new }
     ensures largest { let s = bytes.now in LargestPlan (outcome result) (section.job_sheet s) (section.job_areas s) }
 {
-    answer_job(WholePlan, bytes, row_runs, column_runs)
+    let mut plan = WholePlan {
+        row_runs,
+        column_runs,
+    };
+    answer_job(&mut plan, bytes)
 }
 
 // The plan that `plan_job` answers where its lists are long enough, of a job whose runs are not written.
@@ -185,9 +173,7 @@ pub fn plan_job(
 pub fn count_job(bytes: &[u8]) -> Result<Plan, Refusal>
     ensures { call.Counted (section.count_job bytes.now) (outcome result) }
 {
-    let mut rows = [0u64; 0];
-    let mut columns = [0u64; 0];
-    answer_job(PageCount, bytes, &mut rows, &mut columns)
+    answer_job(&mut PageCount, bytes)
 }
 
 // Writes the runs of the area with a number, from 1, at a permille to the fronts of two lent lists.
@@ -202,5 +188,11 @@ pub fn write_job_area(
     ensures { call.AreaWrote (section.write_job_area bytes.now number permille row_runs.old column_runs.old) (outcome result)
         row_runs.old column_runs.old row_runs.new column_runs.new }
 {
-    answer_job(AreaRuns { number, permille }, bytes, row_runs, column_runs)
+    let mut runs = AreaRuns {
+        number,
+        permille,
+        row_runs,
+        column_runs,
+    };
+    answer_job(&mut runs, bytes)
 }
