@@ -11,16 +11,24 @@ pub invariant_of-result : goal.invariant_of-result
 invariant_of-result c = record {
   sorted =
       elim c.loop-index-test.branch [
-        | else-loop-index-test w ↦ rw c.requires.next_value (sorted_next _ _ c.loop-index.invariant.going.sorted (one_full c.loop-index.invariant.numbers (omega (arith, w.loop-index-test.false))))
-        | then-loop-index-test+in_default w ↦ rw c.requires.next_value (sorted_next _ _ c.loop-index.invariant.going.sorted (kind_done c.loop-index.invariant.going w.next_of.ensures w.in_default.is))
+        | else-loop-index-test w ↦
+            rw c.requires.next_value (sorted_next _ _ c.loop-index.invariant.going.sorted
+            (one_full c.loop-index.invariant.numbers (omega (arith, w.loop-index-test.false))))
+        | then-loop-index-test+in_default w ↦
+            rw c.requires.next_value (sorted_next _ _ c.loop-index.invariant.going.sorted
+            (kind_done c.loop-index.invariant.going w.next_of.ensures w.in_default.is))
       ];
 }
 
 pub returns-clause-breaks_after : goal.returns-clause-breaks_after
 returns-clause-breaks_after c =
     elim c.loop-index-test.branch [
-      | else-loop-index-test w ↦ w.breaks-is ∙ one_done c.loop-index.invariant.numbers (one_full c.loop-index.invariant.numbers (omega (arith, w.loop-index-test.false)))
-      | then-loop-index-test+in_default w ↦ w.breaks-is ∙ set-get_or _ _ 0 ∙ one_done c.loop-index.invariant.numbers (kind_done c.loop-index.invariant.going w.next_of.ensures w.in_default.is)
+      | else-loop-index-test w ↦
+          w.breaks-is ∙ one_done c.loop-index.invariant.numbers
+          (one_full c.loop-index.invariant.numbers (omega (arith, w.loop-index-test.false)))
+      | then-loop-index-test+in_default w ↦
+          w.breaks-is ∙ set-get_or _ _ 0 ∙ one_done c.loop-index.invariant.numbers
+          (kind_done c.loop-index.invariant.going w.next_of.ensures w.in_default.is)
     ]
 
 pub slice_bounds-s-count : goal.slice_bounds-s-count

@@ -11,8 +11,12 @@ pub invariant_of-result : goal.invariant_of-result
 invariant_of-result c = record {
   sorted =
       elim c.loop-k-test.branch [
-        | else-loop-k-test w ↦ rw c.requires.next_value (sorted_next _ _ c.loop-k.invariant.going.sorted (one_full c.loop-k.invariant.indexes (omega (arith, w.loop-k-test.false))))
-        | then-loop-k-test+in_default w ↦ rw c.requires.next_value (sorted_next _ _ c.loop-k.invariant.going.sorted (kind_done c.loop-k.invariant.going w.next_of.ensures w.in_default.is))
+        | else-loop-k-test w ↦
+            rw c.requires.next_value (sorted_next _ _ c.loop-k.invariant.going.sorted
+            (one_full c.loop-k.invariant.indexes (omega (arith, w.loop-k-test.false))))
+        | then-loop-k-test+in_default w ↦
+            rw c.requires.next_value (sorted_next _ _ c.loop-k.invariant.going.sorted
+            (kind_done c.loop-k.invariant.going w.next_of.ensures w.in_default.is))
       ];
 }
 
