@@ -161,8 +161,8 @@ sheet_by j set l =
 
 -- the clauses of an answer, of the same job
 same_told : {A : Type 0} (told : Telling A) {v u : Outcome Items} {s t : Sheet} {a b : List PrintRange} → v ≡ u → s ≡ t → a ≡ b
-    → (r : Result A Refusal) (rows₀ columns₀ rows columns : List ℕ) → told v s a r rows₀ columns₀ rows columns → told u t b r rows₀ columns₀ rows columns
-same_told told e f g r rows₀ columns₀ rows columns t = rw (← e, ← f, ← g) t
+    → (r : Result A Refusal) → told v s a r → told u t b r
+same_told told e f g r t = rw (← e, ← f, ← g) t
 
 -- a job that was read to lists that hold it, and answered
 module _ {s : List ℕ} {before after : Lists} (holds : Holds s before) {got : Result Job Refusal} (w : JobRead s got before after) where
@@ -185,19 +185,19 @@ module _ {s : List ℕ} {before after : Lists} (holds : Holds s before) {got : R
         column_breaks_long = f.column_breaks.few;
       }
 
-  module _ {A : Type 0} (told : Telling A) {r : Result A Refusal} (rows₀ columns₀ rows columns : List ℕ) where
+  module _ {A : Type 0} (told : Telling A) {r : Result A Refusal} where
     -- a refusal of the reader is the questions'
-    pub refusal_told : {x : Refusal} → got ≡ Err x → told (refused (number_of x)) (job_sheet s) (job_areas s) r rows₀ columns₀ rows columns
-        → JobTold told s r rows₀ columns₀ rows columns
+    pub refusal_told : {x : Refusal} → got ≡ Err x → told (refused (number_of x)) (job_sheet s) (job_areas s) r
+        → JobTold told s r
     refusal_told {x} k t =
-        same_told told (sym (verdict_no s holds (number_of x) (sym (ap outcome k) ∙ w.answer))) refl refl r rows₀ columns₀ rows columns t
+        same_told told (sym (verdict_no s holds (number_of x) (sym (ap outcome k) ∙ w.answer))) refl refl r t
 
     -- an answer to what was read answers the job
     pub reading_told : {j : Job} → got ≡ Ok j → {set : Settings} {areas : List PrintRange} (l : SheetLists) → set ≡ settings_for j.settings
         → areas ≡ areas_for j.settings.areas.items → lists_in l ≡ fronts j.items after
-        → ((items : Items) → told (given items) (sheet_with set j.settings.row_title j.settings.column_title l) areas r rows₀ columns₀ rows columns)
-        → JobTold told s r rows₀ columns₀ rows columns
+        → ((items : Items) → told (given items) (sheet_with set j.settings.row_title j.settings.column_title l) areas r)
+        → JobTold told s r
     reading_told {j} k l e f h t =
         let y = yes_is j k in
         same_told told (sym y.1.1) (ap₂ (sheet_by j.settings) e h ∙ sheet_is s j after y.0 (read_to s before after got w j k y.0))
-        (f ∙ areas_are s j y.0) r rows₀ columns₀ rows columns (t y.1.0)
+        (f ∙ areas_are s j y.0) r (t y.1.0)

@@ -1,6 +1,7 @@
 -- The plan of a job's bytes: document 01, sections "Jobs" and "Questions in order", and document 02, T-02. Assumes nothing.
 use Rattle.std.specs.Prelude.{◌≡◌, true, List, ℕ, suc, ◌*◌, ◌<◌, ◌≤◌, length, take, Result}
 use Rattle.units.specs.Outcome.{Outcome, and_then}
+use Rattle.planner_rules.specs.declared.lists.AxisLists.{AxisLists}
 use Rattle.planner_rules.specs.declared.lists.SheetLists.{SheetLists}
 use Rattle.planner_rules.specs.declared.planning.PrintRange.{PrintRange}
 use Rattle.planner_rules.specs.Plan.{Sheet, Layout, AreaLayout, Planned, Counted, AreaWrote, sheet_of, planned, counted, area_written}
@@ -9,7 +10,10 @@ use Rattle.planner_rules.specs.declared.pages.Plan as pages
 use Rattle.planner_rules.specs.declared.planning.RunCounts.{RunCounts}
 use Rattle.job_records.specs.Records.{RW, CL, MR, BR, BC, records, values}
 use Rattle.job_questions.specs.Verdict.{verdict, question1, items_of}
+use Rattle.job_reader.specs.declared.lists.LentAxis.{LentAxis}
 use Rattle.job_reader.specs.Reading.{Lists, lists, even_lists, room_in, fit_in}
+use Rattle.job.specs.declared.wanted.AreaRuns.{AreaRuns}
+use Rattle.job.specs.declared.wanted.WholePlan.{WholePlan}
 use Rattle.units.specs.declared.refusal.Refusal.{Refusal}
 use Rattle.units.specs.Refusals.{outcome}
 use Rattle.job_settings.specs.Meaning.{settings_for, areas_for}
@@ -71,23 +75,27 @@ PlanTold o s areas r rows₀ columns₀ rows columns =
     Planned o r rows₀ columns₀ rows columns
     × (CoversPairs r s areas rows columns × (FewestPlan r s areas rows columns × LargestPlan r s areas))
 
--- clauses of an answer to a job whose questions come to an outcome: the answer, the run lists before it and those after it
+-- clauses of an answer to a job whose questions come to an outcome
 abbrev pub Telling : Type 0 → Type 1
-Telling A = Outcome Items → Sheet → List PrintRange → Result A Refusal → List ℕ → List ℕ → List ℕ → List ℕ → Type 0
+Telling A = Outcome Items → Sheet → List PrintRange → Result A Refusal → Type 0
 
--- of its plan
-abbrev pub plan_told : Telling pages.Plan
-plan_told v s areas r rows₀ columns₀ rows columns =
-    PlanTold (and_then v (λ (items : Items). planned s areas rows₀ columns₀)) s areas (outcome r) rows₀ columns₀ rows columns
+-- of its plan, by the lists that it was wanted in
+abbrev pub plan_told : WholePlan → WholePlan → Telling pages.Plan
+plan_told old new v s areas r =
+    PlanTold (and_then v (λ (items : Items). planned s areas old.row_runs.now old.column_runs.now)) s areas (outcome r)
+    old.row_runs.now old.column_runs.now new.row_runs.now new.column_runs.now
+    × ((new.row_runs.ghost_name ≡ old.row_runs.ghost_name) × (new.column_runs.ghost_name ≡ old.column_runs.ghost_name))
 
 -- of how many pages it has
 abbrev pub count_told : Telling pages.Plan
-count_told v s areas r rows₀ columns₀ rows columns = Counted (and_then v (λ (items : Items). counted s areas)) (outcome r)
+count_told v s areas r = Counted (and_then v (λ (items : Items). counted s areas)) (outcome r)
 
--- of the runs of the area with the number n at the permille p
-abbrev pub area_told : ℕ → ℕ → Telling RunCounts
-area_told n p v s areas r rows₀ columns₀ rows columns =
-    AreaWrote (and_then v (λ (items : Items). area_written s areas n p rows₀ columns₀)) (outcome r) rows₀ columns₀ rows columns
+-- of the runs of an area, by its number, its permille and the lists that they were wanted in
+abbrev pub area_told : AreaRuns → AreaRuns → Telling RunCounts
+area_told old new v s areas r =
+    AreaWrote (and_then v (λ (items : Items). area_written s areas old.number old.permille old.row_runs.now old.column_runs.now)) (outcome r)
+    old.row_runs.now old.column_runs.now new.row_runs.now new.column_runs.now
+    × ((new.row_runs.ghost_name ≡ old.row_runs.ghost_name) × (new.column_runs.ghost_name ≡ old.column_runs.ghost_name))
 
 -- the fronts of ten lists, as long as so many items say
 abbrev pub fronts : Items → Lists → Lists
@@ -95,6 +103,22 @@ fronts n l =
     lists (take n.rows l.row_indexes) (take n.rows l.row_sizes) (take n.columns l.column_indexes) (take n.columns l.column_sizes)
     (take n.merges l.merge_first_rows) (take n.merges l.merge_first_columns) (take n.merges l.merge_last_rows)
     (take n.merges l.merge_last_columns) (take n.row_breaks l.row_breaks) (take n.column_breaks l.column_breaks)
+
+-- the lists of an axis are as long as so many slots, merges and breaks
+pub record AxisLong (slots merges breaks : ℕ) (l : LentAxis) : Type 0 where
+  pub indexes_long : slots ≤ length l.slots.indexes.now
+  pub sizes_long : slots ≤ length l.slots.sizes.now
+  pub firsts_long : merges ≤ length l.merges.firsts.now
+  pub lasts_long : merges ≤ length l.merges.lasts.now
+  pub breaks_long : breaks ≤ length l.breaks.now
+
+-- `fronts` are the fronts of these lists
+pub record AxisFronts (slots merges breaks : ℕ) (l : LentAxis) (fronts : AxisLists) : Type 0 where
+  pub indexes_are : fronts.slots.indexes.now ≡ take slots l.slots.indexes.now
+  pub sizes_are : fronts.slots.sizes.now ≡ take slots l.slots.sizes.now
+  pub firsts_are : fronts.merges.firsts.now ≡ take merges l.merges.firsts.now
+  pub lasts_are : fronts.merges.lasts.now ≡ take merges l.merges.lasts.now
+  pub breaks_are : fronts.breaks.now ≡ take breaks l.breaks.now
 
 -- the lists are as long as so many items say
 pub record Long (n : Items) (l : Lists) : Type 0 where
@@ -123,5 +147,5 @@ pub record Holds (s : List ℕ) (l : Lists) : Type 0 where
   pub room : question1 s ≡ true → fit_in (items_of (records s)) (room_in l) ≡ true
 
 -- clauses of the answer to a job's bytes
-abbrev pub JobTold : {A : Type 0} → Telling A → List ℕ → Result A Refusal → List ℕ → List ℕ → List ℕ → List ℕ → Type 0
-JobTold told s r rows₀ columns₀ rows columns = told (verdict s) (job_sheet s) (job_areas s) r rows₀ columns₀ rows columns
+abbrev pub JobTold : {A : Type 0} → Telling A → List ℕ → Result A Refusal → Type 0
+JobTold told s r = told (verdict s) (job_sheet s) (job_areas s) r

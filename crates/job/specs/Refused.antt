@@ -11,6 +11,8 @@ use Rattle.planner_rules.specs.declared.planning.PrintRange.{PrintRange}
 use Rattle.planner_rules.specs.Plan.{Sheet, Layout}
 use Rattle.planner_rules.proofs.PlanLaws.{refuses_plan}
 use Rattle.std.specs.Prelude.{Err}
+use Rattle.job.specs.declared.wanted.AreaRuns.{AreaRuns}
+use Rattle.job.specs.declared.wanted.WholePlan.{WholePlan}
 use Rattle.job.specs.PlanJob.{PlanTold, plan_told, count_told, area_told}
 
 no_plan : {X : Type 0} (n : ℕ) (plan : Plan) → refused n ≡ given plan → X
@@ -30,14 +32,14 @@ refused_plan o s areas n rows columns e = (
   ),
 )
 
-pub plan_refused : (x : Refusal) (s : Sheet) (areas : List PrintRange) (rows columns : List ℕ)
-    → plan_told (refused (number_of x)) s areas (Err x) rows columns rows columns
-plan_refused x s areas rows columns = refused_plan (refused (number_of x)) s areas (number_of x) rows columns refl
+pub plan_refused : (wanted : WholePlan) (x : Refusal) (s : Sheet) (areas : List PrintRange)
+    → plan_told wanted wanted (refused (number_of x)) s areas (Err x)
+plan_refused wanted x s areas =
+    (refused_plan (refused (number_of x)) s areas (number_of x) wanted.row_runs.now wanted.column_runs.now refl, (refl, refl))
 
-pub count_refused : (x : Refusal) (s : Sheet) (areas : List PrintRange) (rows columns : List ℕ)
-    → count_told (refused (number_of x)) s areas (Err x) rows columns rows columns
-count_refused x s areas rows columns = refl
+pub count_refused : (x : Refusal) (s : Sheet) (areas : List PrintRange) → count_told (refused (number_of x)) s areas (Err x)
+count_refused x s areas = refl
 
-pub area_refused : (n p : ℕ) (x : Refusal) (s : Sheet) (areas : List PrintRange) (rows columns : List ℕ)
-    → area_told n p (refused (number_of x)) s areas (Err x) rows columns rows columns
-area_refused n p x s areas rows columns = record { answer = refl; rows_are = refl; columns_are = refl }
+pub area_refused : (wanted : AreaRuns) (x : Refusal) (s : Sheet) (areas : List PrintRange)
+    → area_told wanted wanted (refused (number_of x)) s areas (Err x)
+area_refused wanted x s areas = (record { answer = refl; rows_are = refl; columns_are = refl }, (refl, refl))

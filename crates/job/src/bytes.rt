@@ -9,55 +9,59 @@ ghost use Rattle.job.specs.PlanJob as section;
 
 use crate::wanted::{AreaRuns, PageCount, Wanted, WholePlan};
 use job_questions::Items;
-use job_reader::{JobLists, read_job};
+use job_reader::{JobLists, LentAxis, LentMerges, LentSlots, read_job};
 use job_settings::areas_for;
 use planner_rules::{
     AxisLists, MergeList, Plan, Request, RunCounts, Settings, SheetLists, SlotList,
 };
 use units::Refusal;
 
+// The fronts of the lists of an axis, so many slots, merges and breaks long.
+fn axis_fronts<'a>(
+    lent: &'a LentAxis<'_>,
+    slots: usize,
+    merges: usize,
+    breaks: usize,
+) -> AxisLists<'a>
+    requires { section.AxisLong slots merges breaks lent.now }
+    ensures { section.AxisFronts slots merges breaks lent.now result }
+{
+    AxisLists {
+        slots: SlotList {
+            indexes: &lent.slots.indexes[..slots],
+            sizes: &lent.slots.sizes[..slots],
+        },
+        merges: MergeList {
+            firsts: &lent.merges.firsts[..merges],
+            lasts: &lent.merges.lasts[..merges],
+        },
+        breaks: &lent.breaks[..breaks],
+    }
+}
+
 // The fronts of lent lists, as long as so many items say.
 fn fronts<'a>(items: Items, lent: &'a JobLists<'_>) -> SheetLists<'a>
     requires { section.Long items (lists_in lent.now) }
     ensures { section.lists_in result ≡ section.fronts items (lists_in lent.now) }
 {
-    SheetLists {
-        rows: AxisLists {
-            slots: SlotList {
-                indexes: &lent.row_indexes[..items.rows],
-                sizes: &lent.row_sizes[..items.rows],
-            },
-            merges: MergeList {
-                firsts: &lent.merge_first_rows[..items.merges],
-                lasts: &lent.merge_last_rows[..items.merges],
-            },
-            breaks: &lent.row_breaks[..items.row_breaks],
-        },
-        columns: AxisLists {
-            slots: SlotList {
-                indexes: &lent.column_indexes[..items.columns],
-                sizes: &lent.column_sizes[..items.columns],
-            },
-            merges: MergeList {
-                firsts: &lent.merge_first_columns[..items.merges],
-                lasts: &lent.merge_last_columns[..items.merges],
-            },
-            breaks: &lent.column_breaks[..items.column_breaks],
-        },
-    }
+    let rows = axis_fronts(&lent.rows, items.rows, items.merges, items.row_breaks);
+    let columns = axis_fronts(
+        &lent.columns,
+        items.columns,
+        items.merges,
+        items.column_breaks,
+    );
+    SheetLists { rows, columns }
 }
 
 // Reads a job into ten lists that hold its items, and answers what is wanted of it.
 fn answer_in<W: Wanted>(
-    wanted: W,
+    wanted: &mut W,
     bytes: &[u8],
     lent: &mut JobLists<'_>,
-    row_runs: &mut [u64],
-    column_runs: &mut [u64],
 ) -> Result<W::Answer, Refusal>
     requires { section.Holds bytes.now (lists_in lent.old) }
-    ensures { section.JobTold (W.told wanted) bytes.now result row_runs.old column_runs.old row_runs.new
-        column_runs.new }
+    ensures { section.JobTold (W.told wanted.old wanted.new) bytes.now result }
 {
     let job = read_job(bytes, lent)?;
     let lists = fronts(job.items, lent);
@@ -68,7 +72,7 @@ fn answer_in<W: Wanted>(
         row_title: job.settings.row_title,
         column_title: job.settings.column_title,
     };
-    wanted.answer(&request, &lists, row_runs, column_runs)
+    wanted.answer(&request, &lists)
 }
 
 // Answers what is wanted of a job, by arrays that hold so many rows and merges, columns and breaks.
@@ -79,15 +83,9 @@ fn answer_sized<
     const COLUMNS: usize,
     const ROW_BREAKS: usize,
     const COLUMN_BREAKS: usize,
->(
-    wanted: W,
-    bytes: &[u8],
-    row_runs: &mut [u64],
-    column_runs: &mut [u64],
-) -> Result<W::Answer, Refusal>
+>(wanted: &mut W, bytes: &[u8]) -> Result<W::Answer, Refusal>
     requires { section.RoomFor bytes.now ROWS COLUMNS ROW_BREAKS COLUMN_BREAKS }
-    ensures { section.JobTold (W.told wanted) bytes.now result row_runs.old column_runs.old row_runs.new
-        column_runs.new }
+    ensures { section.JobTold (W.told wanted.old wanted.new) bytes.now result }
 {
     let mut row_indexes = [0u32; ROWS];
     let mut row_sizes = [0u64; ROWS];
@@ -100,44 +98,50 @@ fn answer_sized<
     let mut row_breaks = [0u32; ROW_BREAKS];
     let mut column_breaks = [0u32; COLUMN_BREAKS];
     let mut lent = JobLists {
-        row_indexes: &mut row_indexes,
-        row_sizes: &mut row_sizes,
-        column_indexes: &mut column_indexes,
-        column_sizes: &mut column_sizes,
-        merge_first_rows: &mut merge_first_rows,
-        merge_first_columns: &mut merge_first_columns,
-        merge_last_rows: &mut merge_last_rows,
-        merge_last_columns: &mut merge_last_columns,
-        row_breaks: &mut row_breaks,
-        column_breaks: &mut column_breaks,
+        rows: LentAxis {
+            slots: LentSlots {
+                indexes: &mut row_indexes,
+                sizes: &mut row_sizes,
+            },
+            merges: LentMerges {
+                firsts: &mut merge_first_rows,
+                lasts: &mut merge_last_rows,
+            },
+            breaks: &mut row_breaks,
+        },
+        columns: LentAxis {
+            slots: LentSlots {
+                indexes: &mut column_indexes,
+                sizes: &mut column_sizes,
+            },
+            merges: LentMerges {
+                firsts: &mut merge_first_columns,
+                lasts: &mut merge_last_columns,
+            },
+            breaks: &mut column_breaks,
+        },
     };
-    answer_in(wanted, bytes, &mut lent, row_runs, column_runs)
+    answer_in(wanted, bytes, &mut lent)
 }
 
 // An array is cleared before it is lent, so a job gets none that is much longer than its bytes can fill.
-fn answer_job<W: Wanted>(
-    wanted: W,
-    bytes: &[u8],
-    row_runs: &mut [u64],
-    column_runs: &mut [u64],
-) -> Result<W::Answer, Refusal>
-    ensures { section.JobTold (W.told wanted) bytes.now result row_runs.old column_runs.old row_runs.new
-        column_runs.new }
+fn answer_job<W: Wanted>(wanted: &mut W, bytes: &[u8]) -> Result<W::Answer, Refusal>
+    ensures { section.JobTold (W.told wanted.old wanted.new) bytes.now result }
 {
     let n = bytes.len();
     if n <= 750 {
-        return answer_sized::<W, 53, 62, 125, 187>(wanted, bytes, row_runs, column_runs);
+        return answer_sized::<W, 53, 62, 125, 187>(wanted, bytes);
     }
     if n <= 3000 {
-        return answer_sized::<W, 214, 250, 500, 750>(wanted, bytes, row_runs, column_runs);
+        return answer_sized::<W, 214, 250, 500, 750>(wanted, bytes);
     }
     if n <= 12_000 {
-        return answer_sized::<W, 857, 1000, 2000, 3000>(wanted, bytes, row_runs, column_runs);
+        return answer_sized::<W, 857, 1000, 2000, 3000>(wanted, bytes);
     }
     if n <= 24_000 {
-        return answer_sized::<W, 1714, 2000, 4000, 6000>(wanted, bytes, row_runs, column_runs);
+        return answer_sized::<W, 1714, 2000, 4000, 6000>(wanted, bytes);
     }
-    answer_sized::<W, 4285, 5000, 10_000, 15_000>(wanted, bytes, row_runs, column_runs)
+    answer_sized::<W, 4285, 5000, 10_000, 15_000>(wanted, bytes)
 }
 
 // Plans the pages of a job, area by area: each one's scale and its runs of rows and columns, which go to the fronts of two lent lists, area
@@ -157,7 +161,11 @@ pub fn plan_job(
         FewestPlan (outcome result) (section.job_sheet s) (section.job_areas s) row_runs.new column_runs.new }
     ensures largest { let s = bytes.now in LargestPlan (outcome result) (section.job_sheet s) (section.job_areas s) }
 {
-    answer_job(WholePlan, bytes, row_runs, column_runs)
+    let mut plan = WholePlan {
+        row_runs,
+        column_runs,
+    };
+    answer_job(&mut plan, bytes)
 }
 
 // The plan that `plan_job` answers where its lists are long enough, of a job whose runs are not written.
@@ -165,9 +173,7 @@ pub fn plan_job(
 pub fn count_job(bytes: &[u8]) -> Result<Plan, Refusal>
     ensures { call.Counted (section.count_job bytes.now) (outcome result) }
 {
-    let mut rows = [0u64; 0];
-    let mut columns = [0u64; 0];
-    answer_job(PageCount, bytes, &mut rows, &mut columns)
+    answer_job(&mut PageCount, bytes)
 }
 
 // Writes the runs of the area with a number, from 1, at a permille to the fronts of two lent lists.
@@ -182,5 +188,11 @@ pub fn write_job_area(
     ensures { call.AreaWrote (section.write_job_area bytes.now number permille row_runs.old column_runs.old) (outcome result)
         row_runs.old column_runs.old row_runs.new column_runs.new }
 {
-    answer_job(AreaRuns { number, permille }, bytes, row_runs, column_runs)
+    let mut runs = AreaRuns {
+        number,
+        permille,
+        row_runs,
+        column_runs,
+    };
+    answer_job(&mut runs, bytes)
 }

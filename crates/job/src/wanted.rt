@@ -1,5 +1,5 @@
-// What is asked of a job: its plan, how many pages it has, or the runs of one of its areas.
-ghost use Rattle.std.specs.Prelude.{ℕ, List, Result, Err};
+// What is asked of a job: its plan, how many pages it has, or the runs of one of its areas; and the lists that runs go to.
+ghost use Rattle.std.specs.Prelude.{List, Result, Err};
 ghost use Rattle.units.specs.Outcome.{refused, given};
 ghost use Rattle.units.specs.Refusals.{number_of};
 ghost use Rattle.units.specs.declared.refusal.Refusal.{Refusal};
@@ -14,91 +14,78 @@ use planner::{count_pages, plan_pages, write_area};
 use planner_rules::{Plan, Request, RunCounts, SheetLists};
 use units::Refusal;
 
-pub(crate) trait Wanted: Copy {
+pub(crate) trait Wanted {
     type Answer;
 
-    // The clauses of an answer.
-    ghost told: { Self → Telling Self.Answer };
+    // The clauses of an answer, by what was wanted and what is left of it.
+    ghost told: { Self → Self → Telling Self.Answer };
 
-    fn answer(
-        self,
-        request: &Request,
-        lists: &SheetLists<'_>,
-        row_runs: &mut [u64],
-        column_runs: &mut [u64],
-    ) -> Result<Self::Answer, Refusal>
-        ensures { (items : Items) → told self (given items) (sheet_asked request.now lists.now) request.now.areas.now result
-            row_runs.old column_runs.old row_runs.new column_runs.new };
+    fn answer(&mut self, request: &Request, lists: &SheetLists<'_>) -> Result<Self::Answer, Refusal>
+        ensures { (items : Items) → told self.old self.new (given items) (sheet_asked request.now lists.now) request.now.areas.now result };
 
     // A refusal of the questions is handed on, and nothing is written.
-    ghost refuses: { (wanted : Self) (x : Refusal) (sheet : Sheet) (areas : List PrintRange) (rows columns : List ℕ)
-        → told wanted (refused (number_of x)) sheet areas (Err x) rows columns rows columns };
+    ghost refuses: { (wanted : Self) (x : Refusal) (sheet : Sheet) (areas : List PrintRange)
+        → told wanted wanted (refused (number_of x)) sheet areas (Err x) };
 }
 
-#[derive(Clone, Copy)]
-pub(crate) struct WholePlan;
+// The plan, and where its runs go.
+#[derive(Drop)]
+pub(crate) struct WholePlan<'a> {
+    pub(crate) row_runs: &'a mut [u64],
+    pub(crate) column_runs: &'a mut [u64],
+}
 
-impl Wanted for WholePlan {
+impl Wanted for WholePlan<'_> {
     type Answer = Plan;
 
-    ghost told = { λ wanted. plan_told };
+    ghost told = { plan_told };
 
-    ghost refuses = { λ wanted. plan_refused };
+    ghost refuses = { plan_refused };
 
-    fn answer(
-        self,
-        request: &Request,
-        lists: &SheetLists<'_>,
-        row_runs: &mut [u64],
-        column_runs: &mut [u64],
-    ) -> Result<Plan, Refusal> {
-        plan_pages(request, lists, row_runs, column_runs)
+    fn answer(&mut self, request: &Request, lists: &SheetLists<'_>) -> Result<Plan, Refusal> {
+        plan_pages(request, lists, self.row_runs, self.column_runs)
     }
 }
 
-#[derive(Clone, Copy)]
+#[derive(Drop)]
 pub(crate) struct PageCount;
 
 impl Wanted for PageCount {
     type Answer = Plan;
 
-    ghost told = { λ wanted. count_told };
+    ghost told = { λ old new. count_told };
 
     ghost refuses = { λ wanted. count_refused };
 
-    fn answer(
-        self,
-        request: &Request,
-        lists: &SheetLists<'_>,
-        _row_runs: &mut [u64],
-        _column_runs: &mut [u64],
-    ) -> Result<Plan, Refusal> {
+    fn answer(&mut self, request: &Request, lists: &SheetLists<'_>) -> Result<Plan, Refusal> {
         count_pages(request, lists)
     }
 }
 
-// The runs of the area with a number, from 1, at a permille.
-#[derive(Clone, Copy)]
-pub(crate) struct AreaRuns {
-    pub number: u64,
-    pub permille: u16,
+// The runs of the area with a number, from 1, at a permille, and where they go.
+#[derive(Drop)]
+pub(crate) struct AreaRuns<'a> {
+    pub(crate) number: u64,
+    pub(crate) permille: u16,
+    pub(crate) row_runs: &'a mut [u64],
+    pub(crate) column_runs: &'a mut [u64],
 }
 
-impl Wanted for AreaRuns {
+impl Wanted for AreaRuns<'_> {
     type Answer = RunCounts;
 
-    ghost told = { λ wanted. area_told wanted.number wanted.permille };
+    ghost told = { area_told };
 
-    ghost refuses = { λ wanted. area_refused wanted.number wanted.permille };
+    ghost refuses = { area_refused };
 
-    fn answer(
-        self,
-        request: &Request,
-        lists: &SheetLists<'_>,
-        row_runs: &mut [u64],
-        column_runs: &mut [u64],
-    ) -> Result<RunCounts, Refusal> {
-        let AreaRuns { number, permille } = self;
-        write_area(request, lists, number, permille, row_runs, column_runs)
+    fn answer(&mut self, request: &Request, lists: &SheetLists<'_>) -> Result<RunCounts, Refusal> {
+        write_area(
+            request,
+            lists,
+            self.number,
+            self.permille,
+            self.row_runs,
+            self.column_runs,
+        )
     }
 }

@@ -1,6 +1,6 @@
 // Plans a job and prints the plan, as program `plan` does: counted first, then area by area in the same lists; but page by page, by the calls
-// for one page, and not in blocks. The room for runs, `print_head` and `print_area` stand in `plan` too, beside which a failure here is the
-// library's and not one of three: one function of both would need a library of its own, and be generic in the error, to save four lines.
+// for one page, and not in blocks. The room for runs, `print_head` and `print_area` stand in `plan` too: no library of the repository writes to a
+// stream, and what has the bodies, `head_lines` and `area_line`, is one already.
 use job::{count_job, write_job_area};
 use job_report::{area_line, head_lines, page_line};
 use planner_pages::{area_page, page_spot};

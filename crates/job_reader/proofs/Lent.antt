@@ -4,6 +4,7 @@ use mathlib.Core.List.{List, [], ◌∷◌, map}
 use Prim.Native.Nat.{ℕ, ◌+◌, ◌≤◌, ◌<◌}
 use native.Mathlib.Omega.{arith}
 use lib.ListN.{length, set, length-map}
+use Rattle.std.proofs.lemmas.List.{nil_from_length}
 use Rattle.job_records.specs.Records.{field, records, marked}
 use Rattle.planner_rules.specs.Slots.{written}
 use Rattle.planner_rules.proofs.Lent.{Wrote, store, done}
@@ -26,6 +27,13 @@ module _ {A : Type 0} {g : A → ℕ} {whole : List A} {old : List ℕ} {k : ℕ
       let a = w.wrote.long in
       let l = ap length e in
       omega arith
+
+  -- the list is full, so all were written
+  pub one_full : k ≡ length new → left ≡ []
+  one_full e =
+      let a = w.wrote.long in
+      let z : length left ≡ 0 = omega (arith, w.room, w.counted) in
+      nil_from_length left z
 
   pub one_store : {x : A} {rest : List A} {v : ℕ} → left ≡ x ∷ rest → v ≡ g x → One g whole old (k + 1) rest (set new k v)
   one_store {x} {rest} e h =

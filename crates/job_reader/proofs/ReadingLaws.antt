@@ -2,11 +2,11 @@
 use mathlib.Core.Path.{◌≡◌, refl, sym, ap, ap₂, ◌∙◌}
 use mathlib.Core.Bool.{Bool, true, false, cond}
 use mathlib.Core.List.{List, [], ◌∷◌, ◌++◌, map, append-nil}
-use Prim.Native.Nat.{ℕ, ◌-◌, ◌≤◌}
+use Prim.Native.Nat.{ℕ, ◌≤◌}
 use native.Mathlib.Omega.{arith}
 use lib.Dec.{leb}
 use borrow.Author.Tests.{leb-true}
-use lib.ListN.{length, take, drop}
+use lib.ListN.{length}
 use Rattle.units.specs.Outcome.{given, refused}
 use Rattle.planner_rules.specs.Slots.{written}
 use Rattle.job_records.specs.declared.records.Record.{Record}
@@ -20,11 +20,10 @@ use Rattle.job_records.specs.Records.{AR, field, records, marked, values}
 use Rattle.job_questions.specs.Verdict.{ordered, questions, in_order, items_of, verdict_lent}
 use Rattle.job_reader.specs.Settings.{settings_of}
 use Rattle.job_walk.specs.Walk.{Sorted}
-use Rattle.job_reader.specs.Walk.{From, Past}
+use Rattle.job_reader.specs.Walk.{Kept}
 use Rattle.job_reader.specs.Reading.{Lists, even_lists, room_in, fit_in, asked, admitted, admitted_to, job_of, read_job, JobRead, Room, AllWritten}
 use Rattle.planner_rules.specs.Areas.{one_to_eight}
 use Rattle.planner_rules.proofs.QuestionLaws.{both}
-use Rattle.job_records.proofs.RecordLaws.{part}
 use Rattle.job_questions.proofs.PassLaws.{All, sorted_of}
 
 -- ---- questions in order, whatever is given at the end
@@ -159,17 +158,10 @@ job_refused {s} {l} {f} {x} {r} e k h =
 
 -- ---- the part of a job that is left
 
-pub part_from : {k : ℕ} {b : List ℕ} {n : ℕ} → Past k b n → From k b (take (length b - n) (drop n b))
-part_from {k} {b} {n} p = rw (part n b) p.left
+pub kept_on : {k m : ℕ} {b s t : List ℕ} → Kept k b s → Kept m s t → k ≤ m → Kept m b t
+kept_on w v h = record { same = λ j i. v.same j i ∙ w.same j (omega arith) }
 
-pub from_on : {k m : ℕ} {b s : List ℕ} {n : ℕ} → From k b s → Past m s n → k ≤ m → From m b (take (length s - n) (drop n s))
-from_on w p h =
-    let v = part_from p in
-    record { sorted = v.sorted; kept = λ j i. v.kept j i ∙ w.kept j (omega arith) }
-
-module _ {k : ℕ} {b s : List ℕ} (w : From k b s) where
-  same : marked k (records s) ≡ marked k (records b)
-  same = w.kept k (omega arith)
-
-  pub values_from : (f : ℕ) (old : List ℕ) {new : List ℕ} → new ≡ written (values k f (records s)) old → new ≡ written (values k f (records b)) old
-  values_from f old e = e ∙ ap (λ (l : List Record). written (map (field f) l) old) same
+pub values_from : {k j : ℕ} {b s : List ℕ} → Kept k b s → j ≡ k → (f : ℕ) (old : List ℕ) {new : List ℕ} → new ≡ written (values j f (records s)) old
+    → new ≡ written (values k f (records b)) old
+values_from {k} {j} {b} {s} w i f old e =
+    e ∙ ap (λ (l : List Record). written (map (field f) l) old) (ap (λ (m : ℕ). marked m (records s)) i ∙ w.same k (omega arith))

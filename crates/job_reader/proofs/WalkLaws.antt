@@ -1,32 +1,20 @@
 -- Laws for the loops that read the items of a job, kind by kind. Assumes nothing.
 use mathlib.Core.Path.{◌≡◌, refl, sym, ap, ◌∙◌}
+use Rattle.std.proofs.Common.{◌≢◌}
 use mathlib.Core.Bool.{Bool, true, false, cond}
 use mathlib.Core.List.{List, [], ◌∷◌}
 use Prim.Native.Nat.{ℕ, ◌+◌, ◌-◌, ◌≤◌, ◌<◌}
-use native.Mathlib.Decide.{dec_le}
-use native.Mathlib.Nat.{lt_of_not-le}
 use native.Mathlib.Omega.{arith}
 use lib.Dec.{eqb}
-use lib.ListN.{length, take, drop, length-drop}
-use lib.Seq.{drop-drop}
+use lib.ListN.{length, take, drop}
 use borrow.Author.Tests.{eq-eqb, ne_eqb, eqb-true, eqb-false}
 use Rattle.job_records.specs.Records.{step, rank, records, marked}
 use Rattle.job_records.specs.declared.records.Head.{Head}
 use Rattle.std.specs.Prelude.{Option, Some, None}
 use Rattle.job_walk.specs.Walk.{before, Sorted}
-use Rattle.job_reader.specs.Walk.{of_kind, Past}
-use Rattle.job_records.proofs.RecordLaws.{part}
+use Rattle.job_reader.specs.Walk.{of_kind, Kept}
+use Rattle.job_records.specs.declared.records.Record.{Record}
 use Rattle.job_walk.proofs.WalkLaws.{sorted_less, sorted_above, Used, walk_end, walk_used, walk_on, walk_yes, walk_no, walk_sorted}
-
-apart : (k n : ℕ) → k ≤ n → (n ≡ k → ⊥) → k + 1 ≤ n
-apart k n h o =
-    elim (dec_le (k + 1) n) [
-      | yes l ↦ l
-      | no l ↦ absurd (o (below (lt_of_not-le l)))
-    ]
-  where
-    below : n < k + 1 → n ≡ k
-    below l = omega arith
 
 -- ---- the record of a kind
 
@@ -64,36 +52,17 @@ kind_stops {X} k (Some h) e p q = go (eqb (rank h.found) k) refl e
 
 -- ---- what is left of b
 
--- s is the end of b
-pub record Suffix (b s : List ℕ) : Type 0 where
-  pub long : length s ≤ length b
-  pub is : s ≡ drop (length b - length s) b
-
-suffix_on : (b s : List ℕ) (n : ℕ) → Suffix b s → n ≤ length s → Suffix b (take (length s - n) (drop n s))
-suffix_on b s n w h =
-    rw (part n s)
-    (let l : length (drop n s) ≡ length s - n = length-drop n s in
-    let z : length b - length s + n ≡ length b - length (drop n s) = omega (arith, w.long) in
-    record { long = omega (arith, w.long); is = ap (drop n) w.is ∙ drop-drop n (length b - length s) b ∙ ap (λ (k : ℕ). drop k b) z })
-
 -- the marks from i on are left, and of those from j on nothing was passed
 pub record Going (i j : ℕ) (b s : List ℕ) : Type 0 where
   pub sorted : Sorted i (records s)
-  pub kept : (m : ℕ) → j ≤ m → marked m (records s) ≡ marked m (records b)
-  pub suffix : Suffix b s
-
--- where the marks from j on are all that is left
-going_past : (i j : ℕ) (b s : List ℕ) → Going i j b s → Sorted j (records s) → Past j b (length b - length s)
-going_past i j b s w h =
-    let l = w.suffix.long in
-    record { within = omega arith; left = rw (← w.suffix.is) (record { sorted = h; kept = w.kept }) }
+  pub kept : Kept j b s
 
 module _ {i j : ℕ} {b s : List ℕ} (w : Going i j b s) {f : Option Head} (e : f ≡ before (step s)) where
-  pub past_end : f ≡ None → Past j b (length b - length s)
-  past_end k = going_past i j b s w (rw (walk_end s e k) tt)
+  pub past_end : f ≡ None → Sorted j (records s)
+  past_end k = rw (walk_end s e k) tt
 
-  pub past_at : {h : Head} → f ≡ Some h → j ≤ rank h.found → Past j b (length b - length s)
-  past_at k h = going_past i j b s w (rw (walk_on s e k) (h, (walk_sorted s e k i w.sorted).1))
+  pub past_at : {h : Head} → f ≡ Some h → j ≤ rank h.found → Sorted j (records s)
+  past_at k h = rw (walk_on s e k) (h, (walk_sorted s e k i w.sorted).1)
 
   -- a record before the marks from j on
   pub going_on : {h : Head} → f ≡ Some h → rank h.found < j → Going i j b (take (length s - h.bytes) (drop h.bytes s))
@@ -101,13 +70,22 @@ module _ {i j : ℕ} {b s : List ℕ} (w : Going i j b s) {f : Option Head} (e :
       let v = walk_sorted s e k i w.sorted in
       record {
         sorted = sorted_less i (rank h.found) (records (take (length s - h.bytes) (drop h.bytes s))) v.0 v.1;
-        kept = λ m o. sym (walk_no s e k m (λ q. omega arith)) ∙ w.kept m o;
-        suffix = suffix_on b s h.bytes w.suffix (walk_used s e k).within;
+        kept = record { same = λ m o. sym (walk_no s e k m (λ q. omega arith)) ∙ w.kept.same m o };
       }
 
 marked-nil : (k : ℕ) → marked k [] ≡ []
 unfolding marked
 marked-nil k = refl
+
+-- with no record of the kind k, marks from k on are marks from k + 1 on
+pub sorted_next : (k : ℕ) (rs : List Record) → Sorted k rs → marked k rs ≡ [] → Sorted (k + 1) rs
+unfolding marked
+sorted_next k [] w e = tt
+sorted_next k (r ∷ rs) w e = go (eqb (rank r) k) refl e
+  where
+    go : (b : Bool) → eqb (rank r) k ≡ b → cond b (r ∷ marked k rs) (marked k rs) ≡ [] → Sorted (k + 1) (r ∷ rs)
+    go true i e = absurd cc
+    go false i e = let o : rank r ≢ k = eqb-false (rank r) k i in (omega (arith, w.0), w.1)
 
 -- h is the next record of the kind k in s, which is what is left of b
 pub record Comes (k : ℕ) (b s : List ℕ) (h : Head) : Type 0 where
@@ -119,18 +97,14 @@ pub record Comes (k : ℕ) (b s : List ℕ) (h : Head) : Type 0 where
 -- a loop over the records of a kind, which stand at the head
 module _ {k : ℕ} {b s : List ℕ} (w : Going k (k + 1) b s) {f : Option Head} (e : f ≡ of_kind k (before (step s))) where
   -- none is left: all of the kind were passed
-  pub kind_done : f ≡ None → Past (k + 1) b (length b - length s) × (marked k (records s) ≡ [])
-  kind_done i = (
-    kind_stops k (before (step s)) (sym e ∙ i) (past_end w refl) (λ h q o. past_at w refl q (above q o)),
-    kind_stops k (before (step s)) (sym e ∙ i) (λ q. rw (walk_end s refl q) (marked-nil k)) (λ h q o. walk_no s refl q k o ∙ after q o),
-  )
+  pub kind_done : f ≡ None → marked k (records s) ≡ []
+  kind_done i = kind_stops k (before (step s)) (sym e ∙ i) (λ q. rw (walk_end s refl q) (marked-nil k)) (λ h q o. walk_no s refl q k o ∙ after q o)
     where
-      above : {h : Head} → before (step s) ≡ Some h → (rank h.found ≡ k → ⊥) → k + 1 ≤ rank h.found
-      above {h} q o = apart k (rank h.found) (walk_sorted s refl q k w.sorted).0 o
-
       after : {h : Head} → before (step s) ≡ Some h → (rank h.found ≡ k → ⊥) → marked k (records (take (length s - h.bytes) (drop h.bytes s))) ≡ []
       after {h} q o =
-          sorted_above k (rank h.found) (records (take (length s - h.bytes) (drop h.bytes s))) (omega (arith, above q o)) (walk_sorted s refl q k w.sorted).1
+          let v = walk_sorted s refl q k w.sorted in
+          let n : rank h.found ≢ k = o in
+          sorted_above k (rank h.found) (records (take (length s - h.bytes) (drop h.bytes s))) (omega (arith, v.0)) v.1
 
   pub kind_next : {h : Head} → f ≡ Some h → Comes k b s h
   kind_next {h} i =

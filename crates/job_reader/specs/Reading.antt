@@ -10,6 +10,8 @@ use Rattle.job_records.specs.declared.records.Record.{Record}
 use Rattle.job_questions.specs.declared.Items.{Items}
 use Rattle.job_reader.specs.declared.lists.Job.{Job}
 use Rattle.job_reader.specs.declared.lists.JobLists.{JobLists}
+use Rattle.job_reader.specs.declared.lists.LentMerges.{LentMerges}
+use Rattle.job_reader.specs.declared.lists.LentSlots.{LentSlots}
 use Rattle.units.specs.declared.refusal.Refusal.{Refusal}
 use Rattle.units.specs.Refusals.{outcome}
 
@@ -44,8 +46,9 @@ lists ri rs ci cs fr fc lr lc rb cb = record {
 -- the lists that are lent together
 abbrev pub lists_in : JobLists → Lists
 lists_in l =
-    lists l.row_indexes.now l.row_sizes.now l.column_indexes.now l.column_sizes.now l.merge_first_rows.now l.merge_first_columns.now
-    l.merge_last_rows.now l.merge_last_columns.now l.row_breaks.now l.column_breaks.now
+    lists l.rows.slots.indexes.now l.rows.slots.sizes.now l.columns.slots.indexes.now l.columns.slots.sizes.now
+    l.rows.merges.firsts.now l.columns.merges.firsts.now l.rows.merges.lasts.now l.columns.merges.lasts.now
+    l.rows.breaks.now l.columns.breaks.now
 
 -- 6: "Slices that make up one list equally long", of the lent lists
 abbrev pub even_lists : Lists → Bool
@@ -111,18 +114,27 @@ pub record JobRead (s : List ℕ) (r : Result Job Refusal) (before after : Lists
 
 -- after a call the ten lent lists are the ones that were lent, each in its place
 pub record StillLent (old new : JobLists) : Type 0 where
-  pub row_indexes : new.row_indexes.ghost_name ≡ old.row_indexes.ghost_name
-  pub row_sizes : new.row_sizes.ghost_name ≡ old.row_sizes.ghost_name
-  pub column_indexes : new.column_indexes.ghost_name ≡ old.column_indexes.ghost_name
-  pub column_sizes : new.column_sizes.ghost_name ≡ old.column_sizes.ghost_name
-  pub merge_first_rows : new.merge_first_rows.ghost_name ≡ old.merge_first_rows.ghost_name
-  pub merge_first_columns : new.merge_first_columns.ghost_name ≡ old.merge_first_columns.ghost_name
-  pub merge_last_rows : new.merge_last_rows.ghost_name ≡ old.merge_last_rows.ghost_name
-  pub merge_last_columns : new.merge_last_columns.ghost_name ≡ old.merge_last_columns.ghost_name
-  pub row_breaks : new.row_breaks.ghost_name ≡ old.row_breaks.ghost_name
-  pub column_breaks : new.column_breaks.ghost_name ≡ old.column_breaks.ghost_name
+  pub row_indexes : new.rows.slots.indexes.ghost_name ≡ old.rows.slots.indexes.ghost_name
+  pub row_sizes : new.rows.slots.sizes.ghost_name ≡ old.rows.slots.sizes.ghost_name
+  pub column_indexes : new.columns.slots.indexes.ghost_name ≡ old.columns.slots.indexes.ghost_name
+  pub column_sizes : new.columns.slots.sizes.ghost_name ≡ old.columns.slots.sizes.ghost_name
+  pub merge_first_rows : new.rows.merges.firsts.ghost_name ≡ old.rows.merges.firsts.ghost_name
+  pub merge_first_columns : new.columns.merges.firsts.ghost_name ≡ old.columns.merges.firsts.ghost_name
+  pub merge_last_rows : new.rows.merges.lasts.ghost_name ≡ old.rows.merges.lasts.ghost_name
+  pub merge_last_columns : new.columns.merges.lasts.ghost_name ≡ old.columns.merges.lasts.ghost_name
+  pub row_breaks : new.rows.breaks.ghost_name ≡ old.rows.breaks.ghost_name
+  pub column_breaks : new.columns.breaks.ghost_name ≡ old.columns.breaks.ghost_name
 
 -- ---- for the private functions
+
+-- the lists of the slots of an axis, and of its merges, each in its place
+pub record SlotsStill (old new : LentSlots) : Type 0 where
+  pub indexes : new.indexes.ghost_name ≡ old.indexes.ghost_name
+  pub sizes : new.sizes.ghost_name ≡ old.sizes.ghost_name
+
+pub record MergesStill (old new : LentMerges) : Type 0 where
+  pub firsts : new.firsts.ghost_name ≡ old.firsts.ghost_name
+  pub lasts : new.lasts.ghost_name ≡ old.lasts.ghost_name
 
 -- the lent lists hold the items
 pub record Room (s : List ℕ) (l : Lists) : Type 0 where

@@ -1,11 +1,10 @@
 -- How the records of a job are walked once question 4 is answered yes: marks that never fall, so that the items of a kind stand together.
 -- For the private functions of `src/settings.rt` and `src/lists.rt`. Assumes nothing.
-use Rattle.std.specs.Prelude.{◌≡◌, Bool, cond, ◌||◌, List, ℕ, ◌≤◌, eqb, length, drop, Option, Some, None}
+use Rattle.std.specs.Prelude.{◌≡◌, Bool, cond, ◌||◌, List, ℕ, ◌≤◌, eqb, Option, Some, None}
 use Rattle.job_records.specs.Records.{PC, SC, FW, FH, FT, OD, TR, TC, RW, CL, BR, BC, rank, field, marked, records}
 use Rattle.job_records.specs.declared.records.Range.{Range}
 use Rattle.job_records.specs.declared.records.Record.{Record}
 use Rattle.job_records.specs.declared.records.Head.{Head}
-use Rattle.job_walk.specs.Walk.{Sorted}
 use Rattle.job_reader.specs.declared.lists.Measured.{Measured}
 
 -- the next record, where its mark is k
@@ -13,15 +12,9 @@ unfoldable pub of_kind : ℕ → Option Head → Option Head
 of_kind k None = None
 of_kind k (Some h) = cond (eqb (rank h.found) k) (Some h) None
 
--- s is the part of b that has the marks from k on
-pub record From (k : ℕ) (b s : List ℕ) : Type 0 where
-  pub sorted : Sorted k (records s)
-  pub kept : (j : ℕ) → k ≤ j → marked j (records s) ≡ marked j (records b)
-
--- n bytes of b stand before that part
-pub record Past (k : ℕ) (b : List ℕ) (n : ℕ) : Type 0 where
-  pub within : n ≤ length b
-  pub left : From k b (drop n b)
+-- s is an end of b that has all records with the marks from k on
+pub record Kept (k : ℕ) (b s : List ℕ) : Type 0 where
+  pub same : (j : ℕ) → k ≤ j → marked j (records s) ≡ marked j (records b)
 
 -- the marks with a body of one u16, and of one u8, among the settings
 abbrev pub is_number : ℕ → Bool

@@ -4,4 +4,4 @@
 mod lists;
 mod settings;
 
-pub use lists::{Job, JobLists, read_job};
+pub use lists::{Job, JobLists, LentAxis, LentMerges, LentSlots, read_job};

@@ -1,20 +1,21 @@
 // The items of a job, read into lent lists: document 01, sections "Jobs" and "Questions in order".
-ghost use Rattle.std.specs.Prelude.{◌≡◌, true, ◌+◌, ◌≤◌, length};
+ghost use Rattle.std.specs.Prelude.{◌≡◌, true, ◌+◌, ◌≤◌, eqb, length};
 ghost use Rattle.planner_rules.specs.Slots.{written};
 ghost use Rattle.job_records.specs.Records.{RW, MR, BR, rank, step, records, marked, values, field};
 ghost use Rattle.units.specs.Refusals.{outcome};
 ghost use Rattle.job_records.specs.Marks.{place};
+ghost use Rattle.job_records.specs.declared.marks.Mark.TheVariants as mark;
 ghost use Rattle.job_walk.specs.Walk.{before};
-ghost use Rattle.job_reader.specs.Walk.{of_kind, Past, is_slot, is_break, measured};
+ghost use Rattle.job_reader.specs.Walk.{of_kind, Kept, is_slot, is_break, measured};
 ghost use Rattle.job_reader.specs.Walk as walk;
-ghost use Rattle.job_reader.specs.Reading.{lists_in, even_lists, fit_in, admitted, admitted_to, Room, AllWritten, JobRead, StillLent};
+ghost use Rattle.job_reader.specs.Reading.{lists_in, even_lists, fit_in, admitted, admitted_to, Room, AllWritten, JobRead, StillLent, SlotsStill, MergesStill};
 
 use crate::settings::settings_of;
 use job_questions::{Items, MOST_AREAS, check_job_lent};
 use job_records::{Head, Mark, Range, Record};
 use job_settings::JobSettings;
 use job_walk::{SortedJob, next_record};
-use units::{Fixed, Refusal};
+use units::Refusal;
 
 // What a job holds besides its lists.
 #[derive(Drop)]
@@ -23,19 +24,41 @@ pub struct Job {
     pub items: Items,
 }
 
-// The lists that are lent for a job's items: two of rows and two of columns (indexes and sizes), four of merges, and the breaks.
+// The lists that are lent for the slots of an axis: their indexes and their sizes.
+#[derive(Drop)]
+pub struct LentSlots<'a> {
+    pub indexes: &'a mut [u32],
+    pub sizes: &'a mut [u64],
+}
+
+impl LentSlots<'_> {
+    fn is_even(&self) -> bool
+        ensures { result ≡ eqb (length self.now.indexes.now) (length self.now.sizes.now) }
+    {
+        self.indexes.len() == self.sizes.len()
+    }
+}
+
+// The lists that are lent for one axis of the merges: their first and their last indexes.
+#[derive(Drop)]
+pub struct LentMerges<'a> {
+    pub firsts: &'a mut [u32],
+    pub lasts: &'a mut [u32],
+}
+
+// The lists that are lent for an axis.
+#[derive(Drop)]
+pub struct LentAxis<'a> {
+    pub slots: LentSlots<'a>,
+    pub merges: LentMerges<'a>,
+    pub breaks: &'a mut [u32],
+}
+
+// The lists that are lent for a job's items, as `SheetLists` of the planner has them.
 #[derive(Drop)]
 pub struct JobLists<'a> {
-    pub row_indexes: &'a mut [u32],
-    pub row_sizes: &'a mut [u64],
-    pub column_indexes: &'a mut [u32],
-    pub column_sizes: &'a mut [u64],
-    pub merge_first_rows: &'a mut [u32],
-    pub merge_first_columns: &'a mut [u32],
-    pub merge_last_rows: &'a mut [u32],
-    pub merge_last_columns: &'a mut [u32],
-    pub row_breaks: &'a mut [u32],
-    pub column_breaks: &'a mut [u32],
+    pub rows: LentAxis<'a>,
+    pub columns: LentAxis<'a>,
 }
 
 // A slot as it goes to the lists.
@@ -52,7 +75,7 @@ fn slot_of(found: Record) -> Measured
     match found {
         Record::Row(slot) | Record::Column(slot) => Measured {
             index: slot.index,
-            size: Fixed::from_raw(slot.size).magnitude(),
+            size: slot.size.unsigned_abs(),
         },
         _ => unreachable!(),
     }
@@ -91,93 +114,113 @@ fn next_of(s: &[u8], wanted: Mark) -> Option<Head>
     }
 }
 
-// How many bytes stand before the first record that may repeat.
-fn settings_end(job: SortedJob<'_>) -> usize
-    ensures { Past RW job.entry.bytes.now result }
+// What is left of a job from its first record that may repeat.
+fn past_settings(job: SortedJob<'_>) -> SortedJob<'_>
+    ensures first { result.first ≡ mark.Row }
+    ensures kept { Kept RW job.entry.bytes.now result.bytes.now }
 {
     let mut s = job.bytes;
     while let Some(head) = next_record(s) {
         if head.found.mark() > Mark::ColumnTitle {
-            return job.bytes.len() - s.len();
+            break;
         }
         s = &s[head.bytes..];
     }
-    job.bytes.len() - s.len()
+    SortedJob {
+        bytes: s,
+        first: Mark::Row,
+    }
 }
 
-// Writes the slots of the first kind, which stand at the head, and answers how many bytes they have.
-fn write_slots(job: SortedJob<'_>, indexes: &mut [u32], sizes: &mut [u64]) -> usize
+// Writes the slots of the first kind, which stand at the head, and answers what is left, from the next mark on.
+fn write_slots<'a>(job: SortedJob<'a>, next: Mark, lent: &mut LentSlots<'_>) -> SortedJob<'a>
     requires first_value { is_slot (place job.first) ≡ true }
-    requires bytes_in_bounds { length (marked (place job.first) (records job.bytes.now)) ≤ length indexes.old }
-    requires indexes_len { length indexes.old ≡ length sizes.old }
-    ensures past { Past (place job.entry.first + 1) job.entry.bytes.now result }
-    ensures indexes_after { indexes.new ≡ written (values (place job.entry.first) 0 (records job.entry.bytes.now)) indexes.old }
-    ensures sizes_after { sizes.new ≡ written (values (place job.entry.first) 1 (records job.entry.bytes.now)) sizes.old }
+    requires next_value { place next ≡ place job.first + 1 }
+    requires in_bounds { length (marked (place job.first) (records job.bytes.now)) ≤ length lent.old.indexes.now }
+    requires even { length lent.old.indexes.now ≡ length lent.old.sizes.now }
+    ensures first { result.first ≡ next }
+    ensures kept { Kept (place next) job.entry.bytes.now result.bytes.now }
+    ensures indexes_after { lent.new.indexes.now ≡ written (values (place job.entry.first) 0 (records job.entry.bytes.now)) lent.old.indexes.now }
+    ensures sizes_after { lent.new.sizes.now ≡ written (values (place job.entry.first) 1 (records job.entry.bytes.now)) lent.old.sizes.now }
+    ensures lent_still { SlotsStill lent.old lent.new }
 {
-    // The place goes by hand: one in both lists, beside a walk that ends with the mark; what goes through `iter_mut`, no invariant of the loop sees.
     let mut s = job.bytes;
-    let mut k: usize = 0;
-    while let Some(head) = next_of(s, job.first) {
-        s = &s[head.bytes..];
+    // By number, for one place in both lists: of what goes through a `zip` of two `iter_mut`, no invariant of the loop sees what was written.
+    for k in 0..lent.indexes.len() {
+        let Some(head) = next_of(s, job.first) else {
+            break;
+        };
         let slot = slot_of(head.found);
-        indexes[k] = slot.index;
-        sizes[k] = slot.size;
-        k += 1;
-    }
-    job.bytes.len() - s.len()
-}
-
-// Writes the merges, which stand at the head, and answers how many bytes they have.
-// Four of the ten lists go by themselves: a struct of them would be a second of what `JobLists` has, and each clause here is of one list alone.
-fn write_merges(
-    job: SortedJob<'_>,
-    first_rows: &mut [u32],
-    first_columns: &mut [u32],
-    last_rows: &mut [u32],
-    last_columns: &mut [u32],
-) -> usize
-    requires first_value { place job.first ≡ MR }
-    requires bytes_in_bounds { length (marked (place job.first) (records job.bytes.now)) ≤ length first_rows.old }
-    requires first_columns_len { length first_rows.old ≡ length first_columns.old }
-    requires last_rows_len { length first_rows.old ≡ length last_rows.old }
-    requires last_columns_len { length first_rows.old ≡ length last_columns.old }
-    ensures past { Past (place job.entry.first + 1) job.entry.bytes.now result }
-    ensures first_rows_after { first_rows.new ≡ written (values (place job.entry.first) 0 (records job.entry.bytes.now)) first_rows.old }
-    ensures first_columns_after { first_columns.new ≡ written (values (place job.entry.first) 1 (records job.entry.bytes.now)) first_columns.old }
-    ensures last_rows_after { last_rows.new ≡ written (values (place job.entry.first) 2 (records job.entry.bytes.now)) last_rows.old }
-    ensures last_columns_after { last_columns.new ≡ written (values (place job.entry.first) 3 (records job.entry.bytes.now)) last_columns.old }
-{
-    // The place goes by hand, as for slots, in four lists.
-    let mut s = job.bytes;
-    let mut k: usize = 0;
-    while let Some(head) = next_of(s, job.first) {
+        lent.indexes[k] = slot.index;
+        lent.sizes[k] = slot.size;
         s = &s[head.bytes..];
-        let cells = cells_of(head.found);
-        first_rows[k] = cells.first_row;
-        first_columns[k] = cells.first_column as u32;
-        last_rows[k] = cells.last_row;
-        last_columns[k] = cells.last_column as u32;
-        k += 1;
     }
-    job.bytes.len() - s.len()
+    SortedJob {
+        bytes: s,
+        first: next,
+    }
 }
 
-// Writes the breaks of the first kind, which stand at the head, and answers how many bytes they have.
-fn write_breaks(job: SortedJob<'_>, breaks: &mut [u32]) -> usize
+// Writes the merges, which stand at the head, and answers what is left.
+fn write_merges<'a>(
+    job: SortedJob<'a>,
+    rows: &mut LentMerges<'_>,
+    columns: &mut LentMerges<'_>,
+) -> SortedJob<'a>
+    requires first_value { place job.first ≡ MR }
+    requires in_bounds { length (marked (place job.first) (records job.bytes.now)) ≤ length rows.old.firsts.now }
+    requires first_columns_len { length rows.old.firsts.now ≡ length columns.old.firsts.now }
+    requires last_rows_len { length rows.old.firsts.now ≡ length rows.old.lasts.now }
+    requires last_columns_len { length rows.old.firsts.now ≡ length columns.old.lasts.now }
+    ensures first { result.first ≡ mark.RowBreak }
+    ensures kept { Kept BR job.entry.bytes.now result.bytes.now }
+    ensures first_rows_after { rows.new.firsts.now ≡ written (values (place job.entry.first) 0 (records job.entry.bytes.now)) rows.old.firsts.now }
+    ensures first_columns_after { columns.new.firsts.now ≡ written (values (place job.entry.first) 1 (records job.entry.bytes.now)) columns.old.firsts.now }
+    ensures last_rows_after { rows.new.lasts.now ≡ written (values (place job.entry.first) 2 (records job.entry.bytes.now)) rows.old.lasts.now }
+    ensures last_columns_after { columns.new.lasts.now ≡ written (values (place job.entry.first) 3 (records job.entry.bytes.now)) columns.old.lasts.now }
+    ensures rows_still { MergesStill rows.old rows.new }
+    ensures columns_still { MergesStill columns.old columns.new }
+{
+    let mut s = job.bytes;
+    // By number, as for slots, in four lists.
+    for k in 0..rows.firsts.len() {
+        let Some(head) = next_of(s, job.first) else {
+            break;
+        };
+        let cells = cells_of(head.found);
+        rows.firsts[k] = cells.first_row;
+        columns.firsts[k] = cells.first_column as u32;
+        rows.lasts[k] = cells.last_row;
+        columns.lasts[k] = cells.last_column as u32;
+        s = &s[head.bytes..];
+    }
+    SortedJob {
+        bytes: s,
+        first: Mark::RowBreak,
+    }
+}
+
+// Writes the breaks of the first kind, which stand at the head, and answers what is left, from the next mark on.
+fn write_breaks<'a>(job: SortedJob<'a>, next: Mark, breaks: &mut [u32]) -> SortedJob<'a>
     requires first_value { is_break (place job.first) ≡ true }
-    requires bytes_in_bounds { length (marked (place job.first) (records job.bytes.now)) ≤ length breaks.old }
-    ensures past { Past (place job.entry.first + 1) job.entry.bytes.now result }
+    requires next_value { place next ≡ place job.first + 1 }
+    requires in_bounds { length (marked (place job.first) (records job.bytes.now)) ≤ length breaks.old }
+    ensures first { result.first ≡ next }
+    ensures kept { Kept (place next) job.entry.bytes.now result.bytes.now }
     ensures breaks_after { breaks.new ≡ written (values (place job.entry.first) 0 (records job.entry.bytes.now)) breaks.old }
 {
-    // The place goes by hand, beside a walk that ends with the mark: what goes through `iter_mut`, no invariant of the loop sees.
     let mut s = job.bytes;
-    let mut k: usize = 0;
-    while let Some(head) = next_of(s, job.first) {
+    for index in breaks.iter_mut() {
+        let Some(head) = next_of(s, job.first) else {
+            break;
+        };
+        *index = break_of(head.found);
         s = &s[head.bytes..];
-        breaks[k] = break_of(head.found);
-        k += 1;
     }
-    job.bytes.len() - s.len()
+    SortedJob {
+        bytes: s,
+        first: next,
+    }
 }
 
 // Writes all items to the front of lists that hold them.
@@ -186,37 +229,12 @@ fn write_items(job: SortedJob<'_>, lent: &mut JobLists<'_>)
     ensures all_written { AllWritten job.entry.bytes.now (lists_in lent.old) (lists_in lent.new) }
     ensures lent_still { StillLent lent.old lent.new }
 {
-    let rows = SortedJob {
-        bytes: &job.bytes[settings_end(job)..],
-        first: Mark::Row,
-    };
-    let at_columns = write_slots(rows, lent.row_indexes, lent.row_sizes);
-    let columns = SortedJob {
-        bytes: &rows.bytes[at_columns..],
-        first: Mark::Column,
-    };
-    let at_merges = write_slots(columns, lent.column_indexes, lent.column_sizes);
-    let merges = SortedJob {
-        bytes: &columns.bytes[at_merges..],
-        first: Mark::Merge,
-    };
-    let at_breaks = write_merges(
-        merges,
-        lent.merge_first_rows,
-        lent.merge_first_columns,
-        lent.merge_last_rows,
-        lent.merge_last_columns,
-    );
-    let breaks = SortedJob {
-        bytes: &merges.bytes[at_breaks..],
-        first: Mark::RowBreak,
-    };
-    let at_last = write_breaks(breaks, lent.row_breaks);
-    let last = SortedJob {
-        bytes: &breaks.bytes[at_last..],
-        first: Mark::ColumnBreak,
-    };
-    write_breaks(last, lent.column_breaks);
+    let rows = past_settings(job);
+    let columns = write_slots(rows, Mark::Column, &mut lent.rows.slots);
+    let merges = write_slots(columns, Mark::Merge, &mut lent.columns.slots);
+    let row_breaks = write_merges(merges, &mut lent.rows.merges, &mut lent.columns.merges);
+    let column_breaks = write_breaks(row_breaks, Mark::ColumnBreak, lent.rows.breaks);
+    write_breaks(column_breaks, Mark::End, lent.columns.breaks);
 }
 
 fn fit_in(items: Items, room: Items) -> bool
@@ -244,12 +262,12 @@ fn admit(bytes: &[u8], equally_long: bool, room: Items) -> Result<Items, Refusal
 fn lent_even(lent: &JobLists<'_>) -> bool
     ensures { result ≡ even_lists (lists_in lent.now) }
 {
-    let merges = lent.merge_first_rows.len();
-    let rows_even = lent.row_indexes.len() == lent.row_sizes.len();
-    let columns_even = lent.column_indexes.len() == lent.column_sizes.len();
-    let lasts_even = (merges == lent.merge_last_rows.len())
-        & (merges == lent.merge_last_columns.len());
-    rows_even & (columns_even & ((merges == lent.merge_first_columns.len()) & lasts_even))
+    let merges = lent.rows.merges.firsts.len();
+    let lasts_even = (merges == lent.rows.merges.lasts.len())
+        & (merges == lent.columns.merges.lasts.len());
+    lent.rows.slots.is_even()
+        & (lent.columns.slots.is_even()
+            & ((merges == lent.columns.merges.firsts.len()) & lasts_even))
 }
 
 // How many items a job has that these lists hold, or the first question that is answered no.
@@ -258,11 +276,11 @@ fn admit_to(bytes: &[u8], lent: &JobLists<'_>) -> Result<Items, Refusal>
 {
     let room = Items {
         areas: MOST_AREAS,
-        rows: lent.row_indexes.len(),
-        columns: lent.column_indexes.len(),
-        merges: lent.merge_first_rows.len(),
-        row_breaks: lent.row_breaks.len(),
-        column_breaks: lent.column_breaks.len(),
+        rows: lent.rows.slots.indexes.len(),
+        columns: lent.columns.slots.indexes.len(),
+        merges: lent.rows.merges.firsts.len(),
+        row_breaks: lent.rows.breaks.len(),
+        column_breaks: lent.columns.breaks.len(),
     };
     admit(bytes, lent_even(lent), room)
 }

@@ -1,5 +1,5 @@
-// Text in ASCII. No `Display`: it writes to a lent array, and each byte there is proved. A word and its numbers are no struct: `line` alone takes
-// them together.
+// Text in ASCII. No `Display`: a `write!` answers a `Result`, and that a lent array has the room, so that it is `Ok`, would have to be said of each
+// line again, where `line` says it once. A word and its numbers are no struct: `line` alone takes them together.
 ghost use Rattle.std.specs.Prelude.{[], ◌∷◌, ◌+◌, ◌*◌, ◌≤◌, ◌<◌, length};
 ghost use Rattle.job_report.specs.Lines as section;
 

@@ -6,8 +6,7 @@
 mod failure;
 mod printed;
 
-ghost use Rattle.std.specs.Prelude.{◌≤◌, IfOk};
-
+use arrayvec::ArrayVec;
 use failure::Failure;
 use job_questions::MOST_BYTES;
 use std::io::{self, Read};
@@ -19,27 +18,11 @@ const MOST: usize = MOST_BYTES + 1;
 // The status where something could not be read or written.
 const FAILED: u8 = 2;
 
-// Reads until the bytes are full or the input ends, and answers how many were read.
-fn read_full<R: Read>(input: &mut R, bytes: &mut [u8; MOST]) -> Result<usize, Failure>
-    ensures { IfOk result (λ n. n ≤ MOST) }
-{
-    let mut done = 0;
-    // No `for`: a read takes as many bytes as there are. And no `Vec`, for memory can run out.
-    while done < MOST {
-        let n = input.read(&mut bytes[done..]).map_err(|_| Failure::Input)?;
-        if n == 0 {
-            break;
-        }
-        done += n;
-    }
-    Ok(done)
-}
-
 // Prints what the job on standard input comes to.
 fn run(rt: &HostRuntime) -> Result<(), Failure> {
-    let mut bytes = [0; MOST];
-    let end = read_full(&mut rt.reader(), &mut bytes)?;
-    printed::print_plan(&bytes[..end], &mut io::writer(rt))
+    let mut job = ArrayVec::<u8, MOST>::new();
+    io::copy(&mut rt.reader().take(MOST as u64), &mut job).map_err(|_| Failure::Input)?;
+    printed::print_plan(&job, &mut io::writer(rt))
 }
 
 fn main(rt: HostRuntime) -> ExitCode {

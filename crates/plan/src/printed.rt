@@ -1,4 +1,5 @@
-// The plan of a job's bytes, as it is printed.
+// The plan of a job's bytes, as it is printed. `print_head` and `print_area` stand in `job_cases` too: no library of the repository writes to a
+// stream, and what has the bodies, `head_lines` and `area_line`, is one already.
 ghost use Rattle.std.specs.Prelude.{◌+◌, ◌≡◌, ◌≤◌, ◌<◌, IfOk, length};
 
 use crate::failure::Failure;

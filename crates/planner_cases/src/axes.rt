@@ -13,7 +13,6 @@ use crate::text::{Answer, Numbers, RunCount, WidenedTitle};
 use planner::partition_axis_with_breaks;
 use planner_rules::{Axis, AxisSetup, MergeList, Title};
 use planner_titles::widen_title;
-use std::alloc::Global;
 use std::io::{self, Write};
 
 #[derive(Clone, Copy)]
@@ -92,13 +91,13 @@ pub(crate) struct TitleCase {
 }
 
 impl TitleCase {
-    pub(crate) fn read(alloc: Global, fields: &mut Fields) -> Result<Self, Fault> {
+    pub(crate) fn read(fields: &mut Fields) -> Result<Self, Fault> {
         let head = Head::read(fields)?;
         Ok(Self {
             axis: head.axis,
             title: head.setup.title,
-            merge_firsts: fields.list(alloc, head.lengths.merge_firsts)?,
-            merge_lasts: fields.list(alloc, head.lengths.merge_lasts)?,
+            merge_firsts: fields.list(head.lengths.merge_firsts)?,
+            merge_lasts: fields.list(head.lengths.merge_lasts)?,
         })
     }
 
@@ -122,20 +121,20 @@ pub(crate) struct RunsCase {
 }
 
 impl RunsCase {
-    pub(crate) fn read(alloc: Global, fields: &mut Fields) -> Result<Self, Fault> {
+    pub(crate) fn read(fields: &mut Fields) -> Result<Self, Fault> {
         let head = Head::read(fields)?;
         let lengths = head.lengths;
         Ok(Self {
             axis: head.axis,
             setup: head.setup,
             lists: Lists {
-                indexes: fields.list(alloc, lengths.indexes)?,
-                sizes: fields.list(alloc, lengths.sizes)?,
-                merge_firsts: fields.list(alloc, lengths.merge_firsts)?,
-                merge_lasts: fields.list(alloc, lengths.merge_lasts)?,
-                breaks: fields.list(alloc, lengths.breaks)?,
+                indexes: fields.list(lengths.indexes)?,
+                sizes: fields.list(lengths.sizes)?,
+                merge_firsts: fields.list(lengths.merge_firsts)?,
+                merge_lasts: fields.list(lengths.merge_lasts)?,
+                breaks: fields.list(lengths.breaks)?,
             },
-            runs: lent::numbers_from(alloc, lent::ROWS, lengths.runs)?,
+            runs: lent::numbers_from(fields.alloc, lent::ROWS, lengths.runs)?,
         })
     }
 

@@ -54,15 +54,16 @@ impl Field for u64 {
     }
 }
 
-// What is left of a line.
+// What is left of a line, and what its lists are allocated by.
 #[derive(Drop)]
 pub(crate) struct Fields<'a> {
+    pub(crate) alloc: Global,
     rest: &'a [u8],
 }
 
 impl<'a> Fields<'a> {
-    pub(crate) fn new(rest: &'a [u8]) -> Self {
-        Self { rest }
+    pub(crate) fn new(alloc: Global, rest: &'a [u8]) -> Self {
+        Self { alloc, rest }
     }
 
     pub(crate) fn next<T: Field>(&mut self) -> Result<T, Fault> {
@@ -73,8 +74,8 @@ impl<'a> Fields<'a> {
     }
 
     // So many fields, as far as a list may have them.
-    pub(crate) fn list<T: Field>(&mut self, alloc: Global, count: u8) -> Result<Vec<T>, Fault> {
-        let mut list = Vec::new(alloc);
+    pub(crate) fn list<T: Field>(&mut self, count: u8) -> Result<Vec<T>, Fault> {
+        let mut list = Vec::new(self.alloc);
         for _ in 0..count.min(MOST) {
             list.push(self.next()?)?;
         }

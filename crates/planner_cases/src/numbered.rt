@@ -11,7 +11,6 @@ use crate::fields::{Fault, Fields};
 use crate::lent;
 use crate::text::numbered_page;
 use planner_rules::{AreaPlan, AreaPlans, Notes, PageOrder, Plan, RunLists};
-use std::alloc::Global;
 use std::io::{self, Write};
 
 fn read_area(fields: &mut Fields) -> Result<AreaPlan, Fault> {
@@ -46,7 +45,7 @@ pub(crate) struct PageCase {
 }
 
 impl PageCase {
-    pub(crate) fn read(alloc: Global, fields: &mut Fields) -> Result<Self, Fault> {
+    pub(crate) fn read(fields: &mut Fields) -> Result<Self, Fault> {
         let over_then_down: bool = fields.next()?;
         let order = PageOrder::from(over_then_down);
         let (row_others, column_others) = (fields.next()?, fields.next()?);
@@ -63,8 +62,8 @@ impl PageCase {
                 notes: Notes::default(),
             },
             number,
-            row_runs: lent::marked_from(alloc, first_row, row_numbers, row_others)?,
-            column_runs: lent::marked_from(alloc, first_column, column_numbers, column_others)?,
+            row_runs: lent::marked_from(fields.alloc, first_row, row_numbers, row_others)?,
+            column_runs: lent::marked_from(fields.alloc, first_column, column_numbers, column_others)?,
         })
     }
 

@@ -165,57 +165,57 @@ impl Asked {
     }
 }
 
-fn read_ranges(alloc: Global, fields: &mut Fields, count: u8) -> Result<Vec<PrintRange>, Fault> {
-    let first_rows = fields.list(alloc, count)?;
-    let first_columns = fields.list(alloc, count)?;
-    let last_rows = fields.list(alloc, count)?;
-    let last_columns = fields.list(alloc, count)?;
+fn read_ranges(fields: &mut Fields, count: u8) -> Result<Vec<PrintRange>, Fault> {
+    let first_rows = fields.list(count)?;
+    let first_columns = fields.list(count)?;
+    let last_rows = fields.list(count)?;
+    let last_columns = fields.list(count)?;
     let firsts = first_rows.into_iter().zip(first_columns);
     let lasts = last_rows.into_iter().zip(last_columns);
-    let mut ranges = Vec::new(alloc);
-    for ((first_row, first_column), (last_row, last_column)) in firsts.zip(lasts) {
-        ranges.push(PrintRange {
-            first_row,
-            first_column,
-            last_row,
-            last_column,
-        })?;
-    }
+    let ranges = firsts
+        .zip(lasts)
+        .map(
+            |((first_row, first_column), (last_row, last_column))| PrintRange {
+                first_row,
+                first_column,
+                last_row,
+                last_column,
+            },
+        )
+        .collect(fields.alloc)?;
     Ok(ranges)
 }
 
 // The lists of rows and of columns, which stand in turns.
-fn read_lists(alloc: Global, fields: &mut Fields, n: &Lengths) -> Result<(Lists, Lists), Fault> {
-    let row_indexes = fields.list(alloc, n.row_indexes)?;
-    let row_sizes = fields.list(alloc, n.row_sizes)?;
-    let column_indexes = fields.list(alloc, n.column_indexes)?;
-    let column_sizes = fields.list(alloc, n.column_sizes)?;
-    let merge_first_rows = fields.list(alloc, n.merge_first_rows)?;
-    let merge_first_columns = fields.list(alloc, n.merge_first_columns)?;
-    let merge_last_rows = fields.list(alloc, n.merge_last_rows)?;
-    let merge_last_columns = fields.list(alloc, n.merge_last_columns)?;
+fn read_lists(fields: &mut Fields, n: &Lengths) -> Result<(Lists, Lists), Fault> {
+    let row_indexes = fields.list(n.row_indexes)?;
+    let row_sizes = fields.list(n.row_sizes)?;
+    let column_indexes = fields.list(n.column_indexes)?;
+    let column_sizes = fields.list(n.column_sizes)?;
+    let merge_first_rows = fields.list(n.merge_first_rows)?;
+    let merge_first_columns = fields.list(n.merge_first_columns)?;
+    let merge_last_rows = fields.list(n.merge_last_rows)?;
+    let merge_last_columns = fields.list(n.merge_last_columns)?;
     let rows = Lists {
         indexes: row_indexes,
         sizes: row_sizes,
         merge_firsts: merge_first_rows,
         merge_lasts: merge_last_rows,
-        breaks: fields.list(alloc, n.row_breaks)?,
+        breaks: fields.list(n.row_breaks)?,
     };
     let columns = Lists {
         indexes: column_indexes,
         sizes: column_sizes,
         merge_firsts: merge_first_columns,
         merge_lasts: merge_last_columns,
-        breaks: fields.list(alloc, n.column_breaks)?,
+        breaks: fields.list(n.column_breaks)?,
     };
     Ok((rows, columns))
 }
 
 #[derive(Drop)]
 pub(crate) struct PlanCase {
-    settings: Settings,
-    row_title: Title,
-    column_title: Title,
+    asked: Asked,
     ranges: Vec<PrintRange>,
     rows: Lists,
     columns: Lists,
@@ -224,30 +224,28 @@ pub(crate) struct PlanCase {
 }
 
 impl PlanCase {
-    pub(crate) fn read(alloc: Global, fields: &mut Fields) -> Result<Self, Fault> {
+    pub(crate) fn read(fields: &mut Fields) -> Result<Self, Fault> {
         let flags = Flags::read(fields)?;
         let (asked, lengths) = Asked::read(fields, &flags)?;
-        let ranges = read_ranges(alloc, fields, lengths.areas)?;
-        let (rows, columns) = read_lists(alloc, fields, &lengths)?;
+        let ranges = read_ranges(fields, lengths.areas)?;
+        let (rows, columns) = read_lists(fields, &lengths)?;
         Ok(Self {
-            settings: asked.settings,
-            row_title: asked.row_title,
-            column_title: asked.column_title,
+            asked,
             ranges,
             rows,
             columns,
-            row_runs: lent::numbers_from(alloc, lent::ROWS, lengths.row_runs)?,
-            column_runs: lent::numbers_from(alloc, lent::COLUMNS, lengths.column_runs)?,
+            row_runs: lent::numbers_from(fields.alloc, lent::ROWS, lengths.row_runs)?,
+            column_runs: lent::numbers_from(fields.alloc, lent::COLUMNS, lengths.column_runs)?,
         })
     }
 
     // Plans, which writes the runs to the lent lists.
     fn plan(&mut self) -> Result<Plan, Refusal> {
         let request = Request {
-            settings: self.settings,
+            settings: self.asked.settings,
             areas: &self.ranges,
-            row_title: self.row_title,
-            column_title: self.column_title,
+            row_title: self.asked.row_title,
+            column_title: self.asked.column_title,
         };
         let lists = SheetLists {
             rows: self.rows.lend(),

@@ -24,12 +24,12 @@ impl Case {
     fn read(alloc: Global, line: &[u8]) -> Result<Self, Fault> {
         let line = line.strip_suffix(b"\n").ok_or(Fault::BadLine)?;
         let (letter, rest) = line.split_first().ok_or(Fault::BadLine)?;
-        let mut fields = Fields::new(rest);
+        let mut fields = Fields::new(alloc, rest);
         let case = match letter {
-            b't' => Self::Title(TitleCase::read(alloc, &mut fields)?),
-            b'r' => Self::Runs(RunsCase::read(alloc, &mut fields)?),
-            b'p' => Self::Plan(PlanCase::read(alloc, &mut fields)?),
-            b'n' => Self::Page(PageCase::read(alloc, &mut fields)?),
+            b't' => Self::Title(TitleCase::read(&mut fields)?),
+            b'r' => Self::Runs(RunsCase::read(&mut fields)?),
+            b'p' => Self::Plan(PlanCase::read(&mut fields)?),
+            b'n' => Self::Page(PageCase::read(&mut fields)?),
             _ => Self::BadLetter,
         };
         fields.end()?;

@@ -1,19 +1,27 @@
--- `job_reader::lists::settings_end` meets its contract.
+-- `job_reader::lists::past_settings` meets its contract.
 use Rattle.std.proofs.Common.{sym, ap, ◌∙◌, arith}
 use Rattle.job_records.specs.Marks.{place}
 use Rattle.job_records.specs.declared.marks.Mark.TheVariants as mark
 use Rattle.job_records.proofs.MarkLaws.{later_place, no_later_place}
 use Rattle.job_walk.proofs.WalkLaws.{walk_used}
 use Rattle.job_reader.proofs.WalkLaws.{going_on, past_end, past_at}
-use Rattle.job_reader.proofs.lists.settings_end.Goals as goal
+use Rattle.job_reader.proofs.lists.past_settings.Goals as goal
+use Rattle.job_reader.proofs.lists.past_settings.Goals.{in-Some+then-gt, in_default}
 
-pub returns : goal.returns
-returns c = past_end c.loop-head.invariant c.next_record.ensures c.in_default.is
-
-pub returns-then-gt : goal.returns-then-gt
-returns-then-gt c =
-    past_at c.loop-head.invariant c.next_record.ensures c.in-Some.is
-    (omega (arith, later_place c.mark.result mark.ColumnTitle (sym c.gt.ensures ∙ c.if-gt.true), ap place c.mark.ensures))
+-- none is left, or it is one that may repeat
+pub invariant_of-result : goal.invariant_of-result
+invariant_of-result c =
+    let going = c.loop-head.invariant in
+    let next = c.next_record.ensures in
+    record {
+      sorted =
+          elim c.match-next_record.branch [
+            | in-Some+then-gt w ↦
+                past_at going next w.in-Some.is
+                (omega (arith, later_place w.mark.result mark.ColumnTitle (sym w.gt.ensures ∙ w.if-gt.true), ap place w.mark.ensures))
+            | in_default w ↦ past_end going next w.in_default.is
+          ];
+    }
 
 pub slice_bounds-s-count : goal.slice_bounds-s-count
 slice_bounds-s-count c = (walk_used c.loop-head.s.now c.next_record.ensures c.in-Some.is).within
