@@ -9,7 +9,7 @@ use native.Mathlib.Omega.{arith}
 use lib.Dec.{ltb, eqb}
 use lib.ListN.{length, take, drop, length-map}
 use lib.Seq.{drop-nil, take_all}
-use Rattle.std.proofs.lemmas.List.{append-nil, take-append-le}
+use Rattle.std.proofs.lemmas.List.{append-nil, take-append-le, take_rest}
 use borrow.Author.Tests.{eq-eqb, ne_eqb, eqb-true, lt-ltb, le-ltb}
 use Rattle.arrayvec.specs.ArrayVec.{ArrayVec}
 use Rattle.job_records.specs.declared.records.Range.{Range}
@@ -24,7 +24,7 @@ use Rattle.job_walk.specs.declared.sorted.SortedJob.{SortedJob}
 use Rattle.job_records.specs.Marks.{place}
 use Rattle.job_walk.specs.Walk.{before, first_of, in_place, Sorted}
 use Rattle.job_walk.proofs.Arms.{only_area}
-use Rattle.job_records.proofs.RecordLaws.{records_more, records_stop, step_is, step_used, part, length_part}
+use Rattle.job_records.proofs.RecordLaws.{records_more, records_stop, step_is, step_used, length_part}
 
 -- ---- marks that never fall
 
@@ -61,21 +61,18 @@ marked_in_place k job = is_in_place (place job.first) k (records job.bytes.now) 
 -- ---- the next record
 
 module _ (s : List ℕ) (f : Option Head) (o : step_outcome f ≡ head_record s) where
-  at_head : f ≡ step s
-  at_head = step_is s f o
-
   pub next_nothing : f ≡ None → None ≡ before (step s)
   unfolding before
-  next_nothing k = sym (ap before (sym at_head ∙ k))
+  next_nothing k = sym (ap before (sym (step_is s f o) ∙ k))
 
   module _ {h : Head} {x : ℕ} (k : f ≡ Some h) (i : x ≡ rank h.found) where
     pub next_end : x ≡ 20 → None ≡ before (step s)
     unfolding before
-    next_end j = rw (← at_head, k, eq-eqb (rank h.found) 20 (sym i ∙ j))
+    next_end j = rw (← (step_is s f o), k, eq-eqb (rank h.found) 20 (sym i ∙ j))
 
     pub next_kind : (x ≡ 20 → ⊥) → Some h ≡ before (step s)
     unfolding before
-    next_kind j = rw (← at_head, k, ne_eqb (rank h.found) 20 (λ q. j (i ∙ q)))
+    next_kind j = rw (← (step_is s f o), k, ne_eqb (rank h.found) 20 (λ q. j (i ∙ q)))
 
 -- what it tells of a step
 stops : (f : Option Head) → before f ≡ None → goes_on f ≡ false
@@ -85,15 +82,15 @@ stops (Some h) k = go (is_end h.found) k
   where
     go : (b : Bool) → cond b None (Some h) ≡ None → not b ≡ false
     go true k = refl
-    go false k = let z : ◌≡◌ {A = ℕ} 0 1 = cc in absurd (omega arith)
+    go false k = absurd cc
 
 goes : (f : Option Head) (h : Head) → before f ≡ Some h → (f ≡ Some h) × (is_end h.found ≡ false)
 unfolding before
-goes None h k = let z : ◌≡◌ {A = ℕ} 0 1 = cc in absurd (omega arith)
+goes None h k = absurd cc
 goes (Some g) h k = go (is_end g.found) refl k
   where
     go : (b : Bool) → is_end g.found ≡ b → cond b None (Some g) ≡ Some h → (Some g ≡ Some h) × (is_end h.found ≡ false)
-    go true i k = let z : ◌≡◌ {A = ℕ} 0 1 = cc in absurd (omega arith)
+    go true i k = absurd cc
     go false i k =
         let j : g ≡ h = cc in
         (k, ap (λ (x : Head). is_end x.found) (sym j) ∙ i)
@@ -118,7 +115,7 @@ module _ (s : List ℕ) {f : Option Head} (e : f ≡ before (step s)) where
     pub walk_on : records s ≡ h.found ∷ records (take (length s - h.bytes) (drop h.bytes s))
     walk_on =
         let g = goes (step s) h (sym e ∙ k) in
-        rw (part h.bytes s) (records_more s h g.0 walk_used.some walk_used.within g.1)
+        rw (take_rest s h.bytes) (records_more s h g.0 walk_used.some walk_used.within g.1)
 
     pub walk_yes : (j : ℕ) → rank h.found ≡ j → marked j (records s) ≡ h.found ∷ marked j (records (take (length s - h.bytes) (drop h.bytes s)))
     unfolding marked
@@ -171,9 +168,7 @@ module _ (k n : ℕ) (s : List ℕ) {f : Option Head} (e : f ≡ before (step s)
 
 found_none : {X : Type 0} (n : ℕ) (r : Record) → first_of (drop n []) ≡ Some r → X
 found_none n r h =
-    let i : None ≡ Some r = rw (drop-nil n) at h in
-    let z : ◌≡◌ {A = ℕ} 0 1 = cc in
-    absurd (omega arith)
+    let i : None ≡ Some r = rw (drop-nil n) at h in absurd cc
 
 looked_rank : (k n : ℕ) (rs : List Record) (r : Record) → first_of (drop n (in_place k rs)) ≡ Some r → rank r ≡ k
 unfolding in_place
@@ -205,13 +200,13 @@ module _ {k : ℕ} {l : List Record} {f : Option Record} (w : Looked k l f) wher
     where
       go : (l : List Record) → first_of l ≡ None → v ≡ g l
       go [] h = sym p
-      go (r ∷ l) h = let z : ◌≡◌ {A = ℕ} 0 1 = cc in absurd (omega arith)
+      go (r ∷ l) h = absurd cc
 
   pub from_one : {X : Type 0} (g : List Record → X) {v : X} {r q : Record} → f ≡ Some r → r ≡ q → ((t : List Record) → g (q ∷ t) ≡ v) → v ≡ g l
   from_one {X} g {v} {r} {q} h i p = go l (sym w.is ∙ h)
     where
       go : (l : List Record) → first_of l ≡ Some r → v ≡ g l
-      go [] h = let z : ◌≡◌ {A = ℕ} 0 1 = cc in absurd (omega arith)
+      go [] h = absurd cc
       go (o ∷ t) h = let j : o ≡ q = cc in sym (ap (λ (y : Record). g (y ∷ t)) j ∙ p t)
 
 -- ---- the loop that collects the areas
