@@ -15,18 +15,8 @@ use Rattle.job_records.specs.declared.records.Head.{Head}
 use Rattle.std.specs.Prelude.{Option, Some, None}
 use Rattle.job_walk.specs.Walk.{before, Sorted}
 use Rattle.job_reader.specs.Walk.{of_kind, Past}
-use Rattle.job_records.proofs.RecordLaws.{part}
 use Rattle.job_walk.proofs.WalkLaws.{sorted_less, sorted_above, Used, walk_end, walk_used, walk_on, walk_yes, walk_no, walk_sorted}
-
-apart : (k n : ℕ) → k ≤ n → (n ≡ k → ⊥) → k + 1 ≤ n
-apart k n h o =
-    elim (dec_le (k + 1) n) [
-      | yes l ↦ l
-      | no l ↦ absurd (o (below (lt_of_not-le l)))
-    ]
-  where
-    below : n < k + 1 → n ≡ k
-    below l = omega arith
+use Rattle.std.proofs.lemmas.List.{take_rest}
 
 -- ---- the record of a kind
 
@@ -45,12 +35,12 @@ module _ (k : ℕ) {g f : Option Head} (e : f ≡ g) {h : Head} {x : ℕ} (i : f
 
 kind_goes : (k : ℕ) (g : Option Head) (h : Head) → of_kind k g ≡ Some h → (g ≡ Some h) × (rank h.found ≡ k)
 unfolding of_kind
-kind_goes k None h e = let z : ◌≡◌ {A = ℕ} 0 1 = cc in absurd (omega arith)
+kind_goes k None h e = absurd cc
 kind_goes k (Some f) h e = go (eqb (rank f.found) k) refl e
   where
     go : (b : Bool) → eqb (rank f.found) k ≡ b → cond b (Some f) None ≡ Some h → (Some f ≡ Some h) × (rank h.found ≡ k)
     go true i e = let j : f ≡ h = cc in (e, ap (λ (x : Head). rank x.found) (sym j) ∙ eqb-true (rank f.found) k i)
-    go false i e = let z : ◌≡◌ {A = ℕ} 0 1 = cc in absurd (omega arith)
+    go false i e = absurd cc
 
 -- no record of the kind comes next: nothing comes, or one of another kind
 kind_stops : {X : Type 0} (k : ℕ) (g : Option Head) → of_kind k g ≡ None → (g ≡ None → X) → ((h : Head) → g ≡ Some h → (rank h.found ≡ k → ⊥) → X) → X
@@ -59,7 +49,7 @@ kind_stops k None e p q = p refl
 kind_stops {X} k (Some h) e p q = go (eqb (rank h.found) k) refl e
   where
     go : (b : Bool) → eqb (rank h.found) k ≡ b → cond b (Some h) None ≡ None → X
-    go true i e = let z : ◌≡◌ {A = ℕ} 0 1 = cc in absurd (omega arith)
+    go true i e = absurd cc
     go false i e = q h refl (eqb-false (rank h.found) k i)
 
 -- ---- what is left of b
@@ -71,7 +61,7 @@ pub record Suffix (b s : List ℕ) : Type 0 where
 
 suffix_on : (b s : List ℕ) (n : ℕ) → Suffix b s → n ≤ length s → Suffix b (take (length s - n) (drop n s))
 suffix_on b s n w h =
-    rw (part n s)
+    rw (take_rest s n)
     (let l : length (drop n s) ≡ length s - n = length-drop n s in
     let z : length b - length s + n ≡ length b - length (drop n s) = omega (arith, w.long) in
     record { long = omega (arith, w.long); is = ap (drop n) w.is ∙ drop-drop n (length b - length s) b ∙ ap (λ (k : ℕ). drop k b) z })
@@ -126,7 +116,7 @@ module _ {k : ℕ} {b s : List ℕ} (w : Going k (k + 1) b s) {f : Option Head} 
   )
     where
       above : {h : Head} → before (step s) ≡ Some h → (rank h.found ≡ k → ⊥) → k + 1 ≤ rank h.found
-      above {h} q o = apart k (rank h.found) (walk_sorted s refl q k w.sorted).0 o
+      above {h} q o = let low = (walk_sorted s refl q k w.sorted).0 in omega arith
 
       after : {h : Head} → before (step s) ≡ Some h → (rank h.found ≡ k → ⊥) → marked k (records (take (length s - h.bytes) (drop h.bytes s))) ≡ []
       after {h} q o =

@@ -19,6 +19,3 @@ is_nan_lem (fin s m e') e = absurd (true≢false (sym e))
 pub nan_pattern : (n : ℕ) → 9218868437227405312 < n % 9223372036854775808 → nan ≡ f64_of n
 unfolding f64_of
 nan_pattern n h = is_nan_lem (of_bits binary64 n) (sym (nan_bits_is binary64 n) ∙ nan_bits_above binary64 n ∙ lt-ltb _ _ h)
-
-pub no_nan_pattern : (n : ℕ) → n % 9223372036854775808 ≤ 9218868437227405312 → T (not (nan_bits binary64 n))
-no_nan_pattern n h = rw (nan_bits_above binary64 n, le-ltb 9218868437227405312 (n % 9223372036854775808) h) tt
