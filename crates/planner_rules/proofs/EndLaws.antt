@@ -11,12 +11,13 @@ use Rattle.std.specs.Prelude.{Option, Some, None}
 use Rattle.planner_rules.specs.declared.titles.Span.{Span}
 use Rattle.planner_rules.specs.declared.titles.Title.{Title}
 use Rattle.planner_rules.specs.declared.titles.Title.TheVariants.{Pair}
-use Rattle.planner_rules.proofs.Laws.{part, rest, either, either_lt}
+use Rattle.planner_rules.proofs.Laws.{part, either, either_lt}
 use lib.Dec.{leb, ltb}
 use Rattle.planner_rules.specs.declared.runs.RunEnd.{RunEnd}
 use Rattle.planner_rules.specs.declared.runs.Frame.{Frame}
 use Rattle.planner_rules.specs.Slots.{below, through}
 use Rattle.planner_rules.specs.Runs.{merge_step, merged, again, resumed, resumption, filled, taken, holding}
+use Rattle.std.proofs.lemmas.List.{take_rest}
 
 -- ---- slots below a limit
 
@@ -64,7 +65,7 @@ resumed_start cap last (i ∷ is) (x ∷ xs) h k = omega arith
 module _ (title : Title) (f l cap n : ℕ) (is ss : List ℕ) (h : title ≡ Pair f l) where
   pub title_holds : f < get_or is n 0 → get_or is n 0 ≤ l → n + resumed cap l (part n is) (part n ss) ≡ resumption title cap n is ss
   unfolding resumption
-  title_holds p q = rw (h, lt-ltb f (get_or is n 0), le-leb (get_or is n 0) l, rest n is, rest n ss)
+  title_holds p q = rw (h, lt-ltb f (get_or is n 0), le-leb (get_or is n 0) l, take_rest is n, take_rest ss n)
 
   pub title_before : get_or is n 0 ≤ f → n ≡ resumption title cap n is ss
   unfolding resumption

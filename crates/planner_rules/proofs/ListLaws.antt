@@ -1,7 +1,6 @@
 -- Laws of the whole list of pages: how many there are, what stands in the lent list, and that the list and the page by number agree. Assumes nothing.
 use mathlib.Core.Path.{◌≡◌, refl, sym, ap, ◌∙◌}
 use mathlib.Core.Bool.{Bool, true, false}
-use mathlib.Core.WellFounded.{Acc, WellFounded}
 use mathlib.Core.List.{List, [], ◌∷◌, ◌++◌}
 use Prim.Native.Nat.{ℕ, zero, suc, ◌+◌, ◌-◌, ◌≤◌, ◌<◌, min, zero-le}
 use native.Mathlib.Nat.{le_refl}
@@ -21,7 +20,7 @@ use Rattle.planner_rules.specs.Areas.{over_areas}
 use Rattle.planner_rules.specs.Lent.{room_in}
 use Rattle.planner_rules.specs.Pages.{pages_in, areas_pages, pages_of, row_runs, column_runs, holds_runs, numbered, page_numbered, list_pages, pages_lent}
 use Rattle.planner_rules.specs.Pages.{count_in, page_count, walk_from, page_after}
-use Rattle.planner_rules.proofs.PageLaws.{tag, value_or, numbered_first, numbered_take}
+use Rattle.planner_rules.proofs.PageLaws.{numbered_first, numbered_take}
 use Rattle.planner_rules.proofs.AreaPages.{areas_length, walk_all, walk_in, walk_more, walk_page}
 use Rattle.planner_rules.proofs.PagesCode.{rooms_of}
 
@@ -74,23 +73,15 @@ module _ {A : Type 0} where
   filled_suc : (i : ℕ) (xs ys : List A) (x : A) → numbered xs (suc i) ≡ given x → i < length ys → set (take i xs ++ drop i ys) i x ≡ take (suc i) xs ++ drop
       (suc i) ys
   unfolding numbered
-  filled_suc i [] ys x e h = let z : ◌≡◌ {A = ℕ} 0 1 = ap tag e in absurd (omega arith)
+  filled_suc i [] ys x e h = absurd cc
   filled_suc i (z ∷ xs) [] x e h = absurd (omega arith)
-  filled_suc zero (z ∷ xs) (y ∷ ys) x e h = ap (λ (w : A). w ∷ ys) (sym (ap (value_or x) e))
+  filled_suc zero (z ∷ xs) (y ∷ ys) x e h = let same : z ≡ x = cc in ap (λ (w : A). w ∷ ys) (sym same)
   filled_suc (suc i) (z ∷ xs) (y ∷ ys) x e h = ap (λ (l : List A). z ∷ l) (filled_suc i xs ys x e (omega arith))
 
   -- one more
   pub filled_more : (i : ℕ) (xs ys : List A) (x : A) → numbered xs (suc i) ≡ given x → i < length ys → set (take i xs ++ drop i ys) i x ≡ take
       (i + 1) xs ++ drop (i + 1) ys
   filled_more i xs ys x e h = rw add-one (filled_suc i xs ys x e h)
-
--- an order by a measure ends
-acc_of : {X : Type 0} (μ : X → ℕ) (k : ℕ) (x : X) → μ x < k → Acc (λ a b. μ a < μ b) x
-acc_of μ zero x h = absurd (omega arith)
-acc_of μ (suc k) x h = Acc.intro x (λ y hy. acc_of μ k y (omega arith))
-
-pub measured : {X : Type 0} (μ : X → ℕ) → WellFounded {α = X} (λ a b. μ a < μ b)
-measured μ = record { apply = λ x. acc_of μ (suc (μ x)) x (omega arith) }
 
 -- ---- what the questions say of the count
 
@@ -162,8 +153,8 @@ pages_lent_lem p rows columns ys = all_lent (holds_runs p rows columns) (leb (le
 -- where every question up to 13 is answered yes, a page by number is one of the list
 by_number : (b d : Bool) (xs ys : List Page) (n k : ℕ) → two b d (length xs) ≡ given n → k ≤ n
     → numbered (pages_lent (two b d (length xs)) xs ys) k ≡ ask 11 b (numbered xs k)
-by_number false d xs ys n k e h = let z : ◌≡◌ {A = ℕ} 0 1 = ap tag e in absurd (omega arith)
-by_number true false xs ys n k e h = let z : ◌≡◌ {A = ℕ} 0 1 = ap tag e in absurd (omega arith)
+by_number false d xs ys n k e h = absurd cc
+by_number true false xs ys n k e h = absurd cc
 by_number true true xs ys n k e h = let z : length xs ≡ n = ap count_in e in numbered_first xs (drop (length xs) ys) k (omega arith)
 
 -- "For a plan left as it was answered, both give the same pages, numbers 1 to its count.": of any plan whose list was written, the k-th of

@@ -21,10 +21,10 @@ use Rattle.planner_rules.specs.Lent.{run_numbers, room_in, number_at}
 use Rattle.planner_rules.specs.Pages.{run_at, page_at, pages_in, area_pages, after_runs, areas_pages, pages_of, row_runs, column_runs}
 use Rattle.planner_rules.specs.Pages.{runs_held, holds_runs, numbered, page_numbered, spot_from, spot_of, area_numbered, place_of}
 use Rattle.planner_rules.specs.Pages.{area_page_after, walk_from, Stands, spot_page}
-use Rattle.planner_rules.proofs.QuestionLaws.{both}
 use Rattle.planner_rules.proofs.PageLaws.{numbered_zero, numbered_take, numbered_take_past}
 use Rattle.planner_rules.proofs.AreaPages.{area_page_is, area_page_none, walk_ends, walk_page, walk_none}
 use Rattle.planner_rules.proofs.Laws.{split}
+use Rattle.std.proofs.lemmas.Bool.{and_parts}
 
 -- ---- the place of a page
 
@@ -117,7 +117,7 @@ unfolding runs_held
 rooms_of p rows columns h =
     let rows_wanted = row_runs p.areas.items in
     let columns_wanted = column_runs p.areas.items in
-    let rooms = both (leb rows_wanted (room_in rows)) (leb columns_wanted (room_in columns)) h in
+    let rooms = and_parts (leb rows_wanted (room_in rows)) (leb columns_wanted (room_in columns)) h in
     (leb-true rows_wanted (room_in rows) rooms.0, leb-true columns_wanted (room_in columns) rooms.1)
 
 -- the page that is asked for stands at a spot
@@ -131,25 +131,17 @@ record Answers (p : Plan) (rows columns : List ℕ) (n : ℕ) (f : Option Spot) 
   found : (s : Spot) → f ≡ Some s → Answered p rows columns n s
   missing : f ≡ None → numbered (pages_of p rows columns) n ≡ refused 14
 
-abbrev is_at : Option Spot → ℕ
-is_at (Some s) = 1
-is_at None = 0
-
-abbrev spot_in : Spot → Option Spot → Spot
-spot_in d (Some s) = s
-spot_in d None = d
-
 module _ (p : Plan) (rows columns : List ℕ) (n : ℕ) where
   abbrev there : Option Spot → Type 0
   there = Answers p rows columns n
 
   none : numbered (pages_of p rows columns) n ≡ refused 14 → there None
-  none e = record { found = λ s q. let z : ◌≡◌ {A = ℕ} 0 1 = ap is_at q in absurd (omega arith); missing = λ q. e }
+  none e = record { found = λ s q. absurd cc; missing = λ q. e }
 
   one : Answered p rows columns n (end p n) → there (Some (end p n))
   one h = record {
-    found = λ s q. subst (Answered p rows columns n) (ap (spot_in (end p n)) q) h;
-    missing = λ q. let z : ◌≡◌ {A = ℕ} 1 0 = ap is_at q in absurd (omega arith);
+    found = λ s q. let same : end p n ≡ s = cc in subst (Answered p rows columns n) same h;
+    missing = λ q. absurd cc;
   }
 
   answers : there (spot_of p n)

@@ -1,5 +1,5 @@
 -- `nearest_units` of a float, by the tests that the code makes: above -1/2, below 2^63, equal to 2^63. Assumes nothing.
-use Rattle.std.proofs.Common.{◌≡◌, ℕ, suc, ◌+◌, ◌-◌, ◌*◌, ◌/◌, ◌%◌, ◌^◌, ◌<◌, ◌≤◌, min, Bool, true, false, ◌&&◌, T, eqb, ℤ, pos, negsuc, sym, refl, ap, ◌∙◌}
+use Rattle.std.proofs.Common.{◌≡◌, ℕ, suc, ◌+◌, ◌-◌, ◌*◌, ◌/◌, ◌%◌, ◌^◌, ◌<◌, ◌≤◌, min, true, false, T, eqb, ℤ, pos, negsuc, sym, refl, ap, ◌∙◌}
 use Rattle.std.proofs.Common.{subst, true≢false, le_of_eq, lt_of_lt_of_le, lt_of_le_of_lt, mul-le-mul_right, mul_comm, div-lt_iff_lt-mul}
 use Rattle.std.proofs.Common.{lt_of_mul-lt-mul_right, mul-lt-mul_of_pos_right, one-mul, le-div_iff_mul-le, mul_right_comm, mul-div_cancel, arith, lit≤}
 use Rattle.std.proofs.Common.{lt→ltb, ltb-false, ltb-true, le-ltb, lt-ltb, ne_eqb, eqb-true}
@@ -12,6 +12,8 @@ use borrow.Author.Tests.{eqb-false}
 use Rattle.units.specs.Outcome.{Outcome, given, refused}
 use Rattle.units.specs.Units.{half_up, whole_units, nearest_units}
 use Rattle.units.proofs.Doubling.{digits, doubled}
+use Rattle.std.proofs.lemmas.Bool.{and_parts}
+use mathlib.Core.Bool.{and-true}
 
 -- ---- a / b to the nearest whole number, by a * 2 / b
 halves : (a b : ℕ) → 0 < b → half_up a b ≡ a * 2 / b / 2 + a * 2 / b % 2
@@ -66,28 +68,20 @@ refused_low (fin false m e) t =
     none x y h k = omega arith
 
 -- ---- x is 2^63
-left_true : (p q : Bool) → p && q ≡ true → p ≡ true
-left_true true q e = refl
-left_true false q e = e
-
-left_false : (p : Bool) → p && true ≡ false → p ≡ false
-left_false true e = e
-left_false false e = refl
-
 pub given_top : (x : Float) → lt minus_half x ≡ true → eq x top ≡ true → nearest_units x ≡ given (pos (2 ^ 63 - 1))
 unfolding lt eq
 given_top nan t q = absurd (true≢false (sym q))
 given_top (inf s) t q = absurd (true≢false (sym q))
 given_top (fin true m e) t q =
     absurd (none (m * up e) (down e) (down_pos e) (one-mul (down e)) (ltb-true (m * up e * 2) (1 * down e) t)
-    (eqb-true (m * up e * 1) (2 ^ 63 * down e) (left_true (eqb (m * up e * 1) (2 ^ 63 * down e)) (eqb (m * up e * 1) 0) q)))
+    (eqb-true (m * up e * 1) (2 ^ 63 * down e) (and_parts (eqb (m * up e * 1) (2 ^ 63 * down e)) (eqb (m * up e * 1) 0) q).0))
   where
     none : (a b : ℕ) → 0 < b → 1 * b ≡ b → a * 2 < 1 * b → a * 1 ≡ 2 ^ 63 * b → ⊥
     none a b p o h k = omega arith
 given_top (fin false m e) t q =
     let a = m * up e in
     let b = down e in
-    let k : a * 1 ≡ 2 ^ 63 * b = eqb-true (a * 1) (2 ^ 63 * b) (left_true (eqb (a * 1) (2 ^ 63 * b)) true q) in
+    let k : a * 1 ≡ 2 ^ 63 * b = eqb-true (a * 1) (2 ^ 63 * b) (and_parts (eqb (a * 1) (2 ^ 63 * b)) true q).0 in
     let d : a * 2 ≡ 2 ^ 64 * b = omega arith in
     let u : a * 2 / b ≡ 2 ^ 64 = ap (λ (x : ℕ). x / b) d ∙ mul-div_cancel (2 ^ 64) (down_pos e) in
     ap (whole_units false) (halves a b (down_pos e) ∙ ap (λ (x : ℕ). x / 2 + x % 2) u)
@@ -104,7 +98,7 @@ refused_high (fin true m e) f t q = absurd (none (m * up e) (down e) (down_pos e
 refused_high (fin false m (pos k)) f t q =
     let a = m * 2 ^ k in
     let h : 2 ^ 63 ≤ a * 1 = ltb-false (a * 1) (2 ^ 63) t in
-    let n : a * 1 ≡ 2 ^ 63 → ⊥ = eqb-false (a * 1) (2 ^ 63) (left_false (eqb (a * 1) (2 ^ 63)) q) in
+    let n : a * 1 ≡ 2 ^ 63 → ⊥ = eqb-false (a * 1) (2 ^ 63) (sym (and-true (eqb (a * 1) (2 ^ 63))) ∙ q) in
     above (half_up a 1) (omega arith)
 refused_high (fin false m (negsuc k)) f t q =
     absurd (none m (2 ^ suc k) (down_pos (negsuc k)) (digits binary64 false m (negsuc k) f) (ltb-false (m * 1 * 1) (2 ^ 63 * 2 ^ suc k) t))
