@@ -1,11 +1,10 @@
 -- Laws of `specs/LittleEndian.antt`, for `float`. Assumes nothing.
 use mathlib.Core.Path.{◌≡◌, refl, sym, ◌∙◌}
-use mathlib.Core.Bool.{true, true≢false, not}
-use Prim.Native.Nat.{ℕ, ◌%◌, ◌≤◌, ◌<◌}
-use lib.Dec.{T}
-use lib.Ieee.{Float, nan, inf, fin, binary64, of_bits, is_nan, nan_bits}
+use mathlib.Core.Bool.{true, true≢false}
+use Prim.Native.Nat.{ℕ, ◌%◌, ◌<◌}
+use lib.Ieee.{Float, nan, inf, fin, binary64, of_bits, is_nan}
 use lib.Ieee.Bits.{nan_bits_is, nan_bits_above}
-use borrow.Author.Tests.{lt-ltb, le-ltb}
+use borrow.Author.Tests.{lt-ltb}
 use Rattle.job_records.specs.LittleEndian.{f64_of}
 
 -- ---- NaN patterns

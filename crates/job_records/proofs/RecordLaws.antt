@@ -8,7 +8,6 @@ use native.Mathlib.Nat.{lt_of_not-le}
 use native.Mathlib.Omega.{arith}
 use lib.Dec.{T, eqb, leb, leb→le}
 use lib.ListN.{length, take, drop, length-drop}
-use lib.Seq.{take_all}
 use borrow.Author.Tests.{ne_eqb, le-leb, lt-leb}
 use Rattle.job_records.specs.LittleEndian.{u16_at}
 use Rattle.job_records.specs.declared.records.Record.{Record}
