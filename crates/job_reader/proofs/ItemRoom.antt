@@ -8,12 +8,12 @@ use native.Mathlib.Omega.{arith}
 use lib.Dec.{T, leb, eqb, leb→le}
 use lib.ListN.{length}
 use borrow.Author.Tests.{le-leb, leb-true}
-use Rattle.units.specs.Outcome.{Outcome, given, refused}
+use Rattle.units.specs.Outcome.{given, refused}
 use Rattle.job_records.specs.declared.records.Record.{Record}
 use Rattle.job_records.specs.declared.records.Head.{Head}
 use Rattle.std.specs.Prelude.{Option, Some, None}
 use Rattle.job_questions.specs.declared.Items.{Items}
-use Rattle.job_records.specs.Records.{Format, Found, RW, CL, MR, BR, BC, found, find, formats, known, head_record, step, rank, is_end, used, onto}
+use Rattle.job_records.specs.Records.{Format, RW, CL, MR, BR, BC, found, formats, known, head_record, step, rank, is_end, used, onto}
 use Rattle.job_records.specs.Records.{records_from, records, marked}
 use Rattle.job_questions.specs.Verdict.{questions, in_order, verdict_lent, items_of}
 use Rattle.job_reader.specs.Reading.{Lists, even_lists, room_in, fit_in, asked, job_of, read_job}

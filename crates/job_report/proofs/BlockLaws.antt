@@ -19,10 +19,10 @@ use Rattle.units.specs.Refusals.{number_of, outcome}
 use Rattle.units.specs.declared.refusal.Refusal.{Refusal}
 use Rattle.units.specs.declared.refusal.Refusal.TheVariants as no
 use Rattle.planner_rules.specs.Questions.{ask}
-use Rattle.planner_rules.specs.Pages.{area_pages, page_at, pages_in, holds_area, numbered, area_numbered, spot_of}
+use Rattle.planner_rules.specs.Pages.{area_pages, holds_area, numbered, area_numbered, spot_of}
 use Rattle.planner_rules.proofs.Laws.{split}
 use Rattle.planner_rules.proofs.NoTen.{not_given}
-use Rattle.planner_rules.proofs.PageLaws.{numbered_take, page_count}
+use Rattle.planner_rules.proofs.PageLaws.{numbered_take}
 use Rattle.job_report.specs.declared.blocks.Block.{Block}
 use Rattle.job_report.specs.Lines.{page_line, PutAt}
 use Rattle.job_report.specs.Blocks.{lines_from, held, block_lines, area_of, pages_on, block_pages, BlockPut, There, LinesHeld}
