@@ -10,7 +10,7 @@ use lib.Dec.{leb}
 use lib.ListN.{length, get_or, take, drop, length-map}
 use lib.IntN.{ℤ}
 use lib.Seq.{take_at, drop-append-add}
-use Rattle.units.specs.Outcome.{Outcome, given, refused, and_then}
+use Rattle.units.specs.Outcome.{Outcome, given}
 use Rattle.std.specs.Prelude.{Option}
 use Rattle.planner_rules.specs.declared.pages.AreaPlan.{AreaPlan}
 use Rattle.planner_rules.specs.declared.pages.Plan.{Plan}
