@@ -6,7 +6,6 @@ use Prim.Native.Nat.{ℕ}
 use Rattle.units.specs.Outcome.{given}
 use Rattle.planner_rules.specs.declared.planning.PrintRange.{PrintRange}
 use Rattle.planner_rules.specs.Plan.{Sheet, planned, counted, area_written}
-use Rattle.planner_rules.proofs.QuestionLaws.{both}
 use Rattle.job_reader.specs.declared.lists.Job.{Job}
 use Rattle.std.specs.Prelude.{Ok}
 use Rattle.job_records.specs.Records.{records}
@@ -17,6 +16,7 @@ use Rattle.job_reader.proofs.ReadingLaws.{in_order_given, all_given, all_past}
 use Rattle.job_settings.specs.Meaning.{areas_for}
 use Rattle.job.specs.PlanJob.{sheet_read, fronts, job_sheet, job_areas, plan_job, count_job, write_job_area}
 use Rattle.job.proofs.ReadLaws.{read_to, sheet_is, areas_are}
+use Rattle.std.proofs.lemmas.Bool.{and_parts}
 
 -- what `read_job` read, planned, is what `plan_job` plans; the same of the other two calls
 module _ (s : List ℕ) (before after : Lists) (j : Job) (w : JobRead s (Ok j) before after) where
@@ -31,7 +31,7 @@ module _ (s : List ℕ) (before after : Lists) (j : Job) (w : JobRead s (Ok j) b
   answered =
       let a = all_given (job_of (records s)) (asked (items_even before) (room_in before) s) j given_is in
       let five = a.1.1.1.1.1 in
-      let six = (both (items_even before) (question6 true s) five.0).1 in
+      let six = (and_parts (items_even before) (question6 true s) five.0).1 in
       let rest = five.1 in (
         a.0,
         (

@@ -10,7 +10,7 @@ use lib.Dec.{leb}
 use lib.ListN.{length, get_or, take, drop, length-map}
 use lib.IntN.{ℤ}
 use lib.Seq.{take_at, drop-append-add}
-use Rattle.units.specs.Outcome.{Outcome, given, refused, and_then}
+use Rattle.units.specs.Outcome.{Outcome, given}
 use Rattle.std.specs.Prelude.{Option}
 use Rattle.planner_rules.specs.declared.pages.AreaPlan.{AreaPlan}
 use Rattle.planner_rules.specs.declared.pages.Plan.{Plan}
@@ -30,8 +30,10 @@ use Rattle.planner_rules.specs.Steps.{asked}
 use Rattle.planner_rules.proofs.Laws.{either, split}
 use Rattle.planner_rules.proofs.Halving.{by_test, halve_stop, halve_up, halve_down}
 use Rattle.planner_rules.proofs.PlanLaws.{questions_first, numbered_is, asks_number}
-use Rattle.planner_rules.proofs.NoTen.{not_given}
 use Rattle.planner_rules.proofs.RunCount.{area_never_eleven}
+use Rattle.planner_rules.proofs.Demand.{ask_yes, then_yes}
+use Rattle.std.proofs.lemmas.List.{get_or-map}
+use Rattle.planner_rules.proofs.AreaLists.{over_map}
 
 -- ---- no permille is 0
 
@@ -71,11 +73,6 @@ module _ (f : PrintRange → List Run) (p : PrintRange → AreaPlan) (n : AreaPl
 
 -- ---- the areas of a plan
 
-map_at : (p : PrintRange → AreaPlan) (gs : List PrintRange) (k : ℕ) → k < length gs → get_or (map p gs) k no_plan ≡ p (get_or gs k no_range)
-map_at p [] k h = absurd (omega arith)
-map_at p (g ∷ gs) zero h = refl
-map_at p (g ∷ gs) (suc k) h = map_at p gs k (omega arith)
-
 -- an axis has a run
 some_run : (side : ℤ) (a : AxisInput) (p : ℕ) → 1 ≤ length (page_runs side a p)
 unfolding page_runs
@@ -94,26 +91,18 @@ module _ (c : Sides) (s : Sheet) (gs : List PrintRange) where
   plans = map plan_in (layouts_of c s gs)
 
   plans_are : plans ≡ map came gs
-  plans_are = go gs
-    where
-      go : (hs : List PrintRange) → map plan_in (layouts_of c s hs) ≡ map came hs
-      go [] = refl
-      go (h ∷ hs) = ap (λ (l : List AreaPlan). came h ∷ l) (go hs)
+  plans_are = map-map plan_in (area_layout c s) gs
 
   -- the pages of a plan are those of its areas, and each area has one
   pub pages_are : (plan_of c s (layouts_of c s gs)).pages ≡ over_areas pages_in plans
-  unfolding plan_of over_areas
-  pages_are = rw plans_are (go gs)
-    where
-      go : (hs : List PrintRange) → over_areas (λ (l : AreaLayout). pages_in (plan_in l)) (layouts_of c s hs) ≡ over_areas pages_in (map came hs)
-      go [] = refl
-      go (h ∷ hs) = ap (λ (n : ℕ). pages_in (came h) + n) (go hs)
+  unfolding plan_of
+  pages_are = sym (over_map pages_in plan_in (layouts_of c s gs))
 
   pub some_page : (k : ℕ) → k < length plans → 1 ≤ pages_in (get_or plans k no_plan)
   unfolding area_layout area_at counted_at
   some_page k h =
       let l : k < length gs = omega (arith, ap length plans_are, length-map gs came) in
-      rw (plans_are, map_at came gs k l) (has_page (get_or gs k no_range))
+      rw (plans_are, get_or-map came gs k no_range no_plan l) (has_page (get_or gs k no_range))
     where
       has_page : (g : PrintRange) → 1 ≤ pages_in (came g)
       has_page g =
@@ -145,20 +134,13 @@ pub record CountedAs (s : Sheet) (areas : List PrintRange) (l : Layout) : Type 0
 
 pub counted_as : (s : Sheet) (areas : List PrintRange) (l : Layout) → counted s areas ≡ given l → CountedAs s areas l
 unfolding counted within_limit
-counted_as s areas l e = go (asked s areas) refl (sym (questions_first s areas rest) ∙ e)
-  where
-    rest : Sides → Outcome Layout
-    rest c = within_limit s (layout c s areas)
-
-    same : (whole : Layout) (b : Bool) → ask 12 b (given whole) ≡ given l → whole ≡ l
-    same whole true e = cc
-    same whole false e = absurd (not_given l 12 (sym e))
-
-    go : (o : Outcome Sides) → asked s areas ≡ o → and_then o rest ≡ given l → CountedAs s areas l
-    go (refused n) i j = absurd (not_given l n (sym j))
-    go (given c) i j =
-        let whole = layout c s areas in
-        record { sides = c; asked_is = i; is = same whole (leb whole.plan.pages s.settings.page_limit) j }
+counted_as s areas l e =
+    let rest : Sides → Outcome Layout = λ c. within_limit s (layout c s areas) in
+    let (c, i, j) = then_yes (asked s areas) rest l (sym (questions_first s areas rest) ∙ e) in
+    let whole = layout c s areas in
+    let y = ask_yes 12 (leb whole.plan.pages s.settings.page_limit) (given whole) l j in
+    let same : whole ≡ l = let e : given whole ≡ given l = y.1 in cc in
+    record { sides = c; asked_is = i; is = same }
 
 -- ---- one area of it, written
 
@@ -205,7 +187,7 @@ module _ (s : Sheet) (areas : List PrintRange) (c : Sides) (asked_is : asked s a
     inside = omega (arith, ap length plan_areas, length-map gs to)
 
     at : get_or l.plan.areas.items k no_plan ≡ to g
-    at = rw plan_areas (map_at to gs k inside)
+    at = rw plan_areas (get_or-map to gs k no_range no_plan inside)
 
     permille_is : p ≡ (chosen_scale s.settings c (rows_in s g) (columns_in s g)).permille
     unfolding area_layout area_at counted_at

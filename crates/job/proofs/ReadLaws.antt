@@ -28,6 +28,7 @@ use Rattle.planner_rules.specs.declared.planning.Settings.{Settings}
 use Rattle.job_settings.specs.declared.JobSettings.{JobSettings}
 use Rattle.planner_rules.specs.declared.planning.PrintRange.{PrintRange}
 use Rattle.job.specs.PlanJob.{lists_in, sheet_read, job_lists, job_sheet, job_areas, fronts, Long, Telling, Holds, JobTold}
+use Rattle.planner_rules.proofs.Demand.{then_yes}
 
 -- ---- lists that hold what a job brings
 
@@ -141,17 +142,15 @@ module _ (s : List ℕ) {before : Lists} (holds : Holds s before) where
     where
       go : (o : Outcome Items) → verdict_lent true s ≡ o → refused n ≡ and_then o (λ (items : Items). given (job_of (records s)))
           → verdict_lent true s ≡ refused n
-      go (given items) i h = let z : ◌≡◌ {A = ℕ} 0 1 = cc in absurd (omega arith)
+      go (given items) i h = absurd cc
       go (refused m) i h = let same : m ≡ n = cc in i ∙ ap refused same
 
   -- else the job is what was read
   verdict_yes : (j : Job) → given j ≡ read_job s before → (j ≡ job_of (records s)) × ((items : Items) × (verdict_lent true s ≡ given items))
-  verdict_yes j e = go (verdict_lent true s) refl (e ∙ read_as)
-    where
-      go : (o : Outcome Items) → verdict_lent true s ≡ o → given j ≡ and_then o (λ (items : Items). given (job_of (records s)))
-          → (j ≡ job_of (records s)) × ((items : Items) × (verdict_lent true s ≡ given items))
-      go (given items) i h = (cc, (items, i))
-      go (refused m) i h = let z : ◌≡◌ {A = ℕ} 0 1 = cc in absurd (omega arith)
+  verdict_yes j e =
+      let (items, i, h) = then_yes (verdict_lent true s) (λ (items : Items). given (job_of (records s))) j (sym (e ∙ read_as)) in
+      let same : j ≡ job_of (records s) = cc in
+      (same, (items, i))
 
 -- the sheet of settings as the planner has them
 abbrev sheet_by : JobSettings → Settings → Lists → Sheet

@@ -1,6 +1,6 @@
 -- With which numbers the calls of a job refuse, and what program `plan` never meets. Assumes nothing.
 use mathlib.Core.Path.{◌≡◌, refl, sym}
-use mathlib.Core.Bool.{Bool, true, false, ◌||◌}
+use mathlib.Core.Bool.{Bool, true, false, ◌||◌, true≢false}
 use mathlib.Core.List.{List, [], ◌∷◌}
 use Prim.Native.Nat.{ℕ, ◌+◌, ◌*◌, ◌≤◌, ◌<◌}
 use native.Mathlib.Omega.{arith}
@@ -16,6 +16,7 @@ use Rattle.job_questions.specs.Verdict.{verdict_lent}
 use Rattle.job_reader.proofs.ItemRoom.{is_asked, verdict_number, few_rows, few_columns}
 use Rattle.job.specs.PlanJob.{job_sheet, job_areas, plan_job, count_job, write_job_area}
 use Rattle.job.proofs.CountedAreas.{Writes, counted_writes, Adds, counted_pages}
+use Rattle.planner_rules.proofs.Demand.{then_yes}
 
 -- ---- the questions, then what is made of the job
 
@@ -31,18 +32,12 @@ module _ {A : Type 0} (s : List ℕ) (rest : Outcome A) (k : ℕ) where
       go (refused n) i j =
           let same : n ≡ k = cc in
           let yes : true ≡ is_asked k = rw same at (sym (verdict_number true s n i)) in
-          let z : ◌≡◌ {A = ℕ} 0 1 = cc in
-          absurd (omega arith)
+          absurd cc
 
   -- what is given was questioned with yes, too
   given_questions : (a : A) → and_then (verdict_lent true s) (λ (items : Items). rest) ≡ given a
       → ((items : Items) × (verdict_lent true s ≡ given items)) × (rest ≡ given a)
-  given_questions a e = go (verdict_lent true s) refl e
-    where
-      go : (o : Outcome Items) → verdict_lent true s ≡ o → and_then o (λ (items : Items). rest) ≡ given a
-          → ((items : Items) × (verdict_lent true s ≡ given items)) × (rest ≡ given a)
-      go (given items) i j = ((items, i), j)
-      go (refused n) i j = let z : ◌≡◌ {A = ℕ} 0 1 = cc in absurd (omega arith)
+  given_questions a e = let (items, i, j) = then_yes (verdict_lent true s) (λ (items : Items). rest) a e in ((items, i), j)
 
   -- a number is one that the bytes are asked with, or one that comes after
   of_questions : (ns : List ℕ) → (rest ≡ refused k → among k ns ≡ true) → and_then (verdict_lent true s) (λ (items : Items). rest) ≡ refused k
@@ -74,17 +69,14 @@ unfolding write_job_area
 area_refuses s rows columns n p h k e =
     of_questions s (area_written (job_sheet s) (job_areas s) n p rows columns) k _ (area_numbers (job_sheet s) (job_areas s) n p rows columns h k) e
 
-never : true ≡ false → ⊥
-never e = let z : ◌≡◌ {A = ℕ} 0 1 = cc in omega arith
-
 -- "10. Arithmetic above within i64?" is never answered no, and no plan asks 13: pages are taken by number
 pub job_never_ten : (s rows columns : List ℕ) → plan_job s rows columns ≡ refused 10 → ⊥
 unfolding among
-job_never_ten s rows columns e = never (sym (plan_refuses s rows columns 10 e))
+job_never_ten s rows columns e = true≢false (sym (plan_refuses s rows columns 10 e))
 
 pub job_never_thirteen : (s rows columns : List ℕ) → plan_job s rows columns ≡ refused 13 → ⊥
 unfolding among
-job_never_thirteen s rows columns e = never (sym (plan_refuses s rows columns 13 e))
+job_never_thirteen s rows columns e = true≢false (sym (plan_refuses s rows columns 13 e))
 
 -- ---- lists of 5,000 runs
 

@@ -16,7 +16,7 @@ use Rattle.job.specs.declared.wanted.WholePlan.{WholePlan}
 use Rattle.job.specs.PlanJob.{PlanTold, plan_told, count_told, area_told}
 
 no_plan : {X : Type 0} (n : ℕ) (plan : Plan) → refused n ≡ given plan → X
-no_plan n plan e = let z : ◌≡◌ {A = ℕ} 0 1 = cc in absurd (omega arith)
+no_plan n plan e = absurd cc
 
 -- a refusal: nothing is found in it, and nothing was written
 pub refused_plan : (o : Outcome Layout) (s : Sheet) (areas : List PrintRange) (n : ℕ) (rows columns : List ℕ) → o ≡ refused n

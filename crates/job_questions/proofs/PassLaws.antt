@@ -1,7 +1,7 @@
 -- The one pass over the records answers each question as its definition does, and counts the items. Assumes nothing.
 use mathlib.Core.Path.{◌≡◌, refl, sym, ap, ◌∙◌}
-use mathlib.Core.Bool.{Bool, true, false, true≢false, cond, not, ◌&&◌, ◌||◌}
-use mathlib.Core.List.{List, [], ◌∷◌, ◌++◌}
+use mathlib.Core.Bool.{Bool, true, false, true≢false, cond, not, ◌&&◌, ◌||◌, and-true, and-false, and_assoc}
+use mathlib.Core.List.{List, [], ◌∷◌}
 use Prim.Native.Nat.{ℕ, ◌+◌, ◌-◌, ◌≤◌, ◌<◌}
 use native.Mathlib.Nat.{zero-add, add-zero}
 use native.Mathlib.Omega.{arith}
@@ -16,7 +16,6 @@ use Rattle.job_records.specs.declared.records.Head.{Head}
 use Rattle.std.specs.Prelude.{leb, Option, Some, None, is_some, Result, Ok, Err, IsErrAnd}
 use Rattle.units.specs.declared.refusal.Refusal.{Refusal}
 use Rattle.units.specs.declared.refusal.Refusal.TheVariants.{TooManyBytes, BrokenRecord, EndNotLast}
-use Rattle.units.specs.declared.refusal.Refusal.TheVariants as no
 use Rattle.units.specs.Refusals.{number_of, outcome}
 use Rattle.job_questions.specs.declared.Items.{Items}
 use Rattle.job_questions.specs.declared.State.{State}
@@ -30,26 +29,11 @@ use Rattle.job_questions.specs.Verdict.{question15, in_order, questions, items_o
 use Rattle.job_questions.specs.Pass.{placed, rows_after, columns_after, one_more, counted}
 use Rattle.job_questions.specs.Pass.{start, advanced, after, surveyed, first_no, answer, rank_in}
 use Rattle.planner_rules.specs.Partition.{no_of}
-use Rattle.planner_rules.proofs.QuestionLaws.{both}
-use Rattle.job_records.proofs.RecordLaws.{records_more, rest_more, records_stop, rest_stop, step_is, step_used, part}
-
--- ---- Bool
-
-and-true : (a : Bool) → a && true ≡ a
-and-true true = refl
-and-true false = refl
-
-and_assoc : (a b c : Bool) → a && (b && c) ≡ (a && b) && c
-and_assoc true b c = refl
-and_assoc false b c = refl
-
-and-false : (a : Bool) → a && false ≡ false
-and-false true = refl
-and-false false = refl
-
-and_inner : (e a b c : Bool) → e && (a && (b && c)) ≡ e && ((a && b) && c)
-and_inner true a b c = and_assoc a b c
-and_inner false a b c = refl
+use Rattle.job_records.proofs.RecordLaws.{records_more, rest_more, records_stop, rest_stop, step_is, step_used}
+use Rattle.std.proofs.lemmas.Bool.{and_parts}
+use Rattle.std.proofs.lemmas.List.{take_rest}
+use Rattle.planner_rules.proofs.Laws.{either}
+use Rattle.planner_rules.proofs.QuestionLaws.{positive as positive_number}
 
 -- ---- the first no
 
@@ -75,20 +59,20 @@ abbrev positive : List (ℕ × Bool) → Bool
 positive [] = true
 positive ((n, q) ∷ qs) = ltb 0 n && positive qs
 
-module _ {A : Type 0} (v : A) (more : List (ℕ × Bool)) where
-  -- a no among the first questions is the answer
-  pub in_order_no : (qs : List (ℕ × Bool)) (x : ℕ) → x ≡ first_no qs → 0 < x → refused x ≡ in_order (qs ++ more) v
+module _ {A : Type 0} (v : A) where
+  -- a no among questions is the answer
+  pub in_order_no : (qs : List (ℕ × Bool)) (x : ℕ) → x ≡ first_no qs → 0 < x → refused x ≡ in_order qs v
   unfolding first_no
   in_order_no [] x e h = absurd (omega arith)
   in_order_no ((n, true) ∷ qs) x e h = in_order_no qs x e h
   in_order_no ((n, false) ∷ qs) x e h = ap refused e
 
-  -- where the first questions are answered yes, the others decide
-  pub in_order_yes : (qs : List (ℕ × Bool)) (x : ℕ) → positive qs ≡ true → x ≡ first_no qs → x ≤ 0 → in_order more v ≡ in_order (qs ++ more) v
+  -- where all are answered yes, v is
+  pub in_order_yes : (qs : List (ℕ × Bool)) → positive qs ≡ true → 0 ≡ first_no qs → given v ≡ in_order qs v
   unfolding first_no
-  in_order_yes [] x p e h = refl
-  in_order_yes ((n, true) ∷ qs) x p e h = in_order_yes qs x (both (ltb 0 n) (positive qs) p).1 e h
-  in_order_yes ((n, false) ∷ qs) x p e h = absurd (omega (arith, ltb-true 0 n (both (ltb 0 n) (positive qs) p).0))
+  in_order_yes [] p e = refl
+  in_order_yes ((n, true) ∷ qs) p e = in_order_yes qs (and_parts (ltb 0 n) (positive qs) p).1 e
+  in_order_yes ((n, false) ∷ qs) p e = absurd (omega (arith, ltb-true 0 n (and_parts (ltb 0 n) (positive qs) p).0))
 
 -- ---- the number that a state and the records still to come give
 
@@ -166,14 +150,14 @@ module _ (even cells : Bool) where
   unfolding number ordered every marked
   number_step t r rs =
       rw (
-        and_assoc t.ordered (follows (rank_in t.last) (rank r)) (ordered (rank r) rs),
+        ← (and_assoc t.ordered (follows (rank_in t.last) (rank r)) (ordered (rank r) rs)),
         ← one_more_lem t.items.areas (eqb (rank r) AR) r (marked AR rs),
-        and_assoc t.fine.flag (flag_ok (asked r)) (every flag_ok rs),
-        and_inner even t.fine.first (not_reversed (asked r)) (every not_reversed rs),
-        and_assoc t.fine.grid (in_grid (asked r)) (every in_grid rs),
+        ← (and_assoc t.fine.flag (flag_ok (asked r)) (every flag_ok rs)),
+        ← (and_assoc t.fine.first (not_reversed (asked r)) (every not_reversed rs)),
+        ← (and_assoc t.fine.grid (in_grid (asked r)) (every in_grid rs)),
         (axes_step t.rows t.columns r rs).0,
         (axes_step t.rows t.columns r rs).1,
-        and_assoc t.fine.size (sized (asked r)) (every sized rs),
+        ← (and_assoc t.fine.size (sized (asked r)) (every sized rs)),
       )
 
   pub number_after : (t : State) (rs : List Record) → answer even cells (after t rs) ≡ number even cells t rs
@@ -212,8 +196,7 @@ pub record Room (c : Items) (k n : ℕ) : Type 0 where
   pub column_breaks : c.column_breaks + k ≤ n
 
 bit : (b : Bool) → cond b 1 0 ≤ 1
-bit true = omega arith
-bit false = omega arith
+bit b = either (λ (n : ℕ). n ≤ 1) b (omega arith) (omega arith)
 
 room_more : (c : Items) (k n u x : ℕ) → Room c k n → 1 ≤ u → u ≤ k → Room (counted c x) (k - u) n
 room_more c k n u x w h l = record {
@@ -233,17 +216,14 @@ pub record Seen (b s : List ℕ) (t : State) : Type 0 where
   pub room : Room t.items (length s) (length b)
 
 module _ (b s : List ℕ) (t : State) (w : Seen b s t) (f : Option Head) (o : step_outcome f ≡ head_record s) where
-  at_head : f ≡ step s
-  at_head = step_is s f o
-
   pub seen_more : (h : Head) (x : ℕ) (u : State) → f ≡ Some h → x ≡ rank h.found → (x ≡ 20 → ⊥) → u ≡ advanced t h.found
       → Seen b (take (length s - h.bytes) (drop h.bytes s)) u
   unfolding after
   seen_more h x u k i l j =
-      let z : step s ≡ Some h = sym at_head ∙ k in
-      let m = step_used s f h at_head k in
+      let z : step s ≡ Some h = sym (step_is s f o) ∙ k in
+      let m = step_used s f h (step_is s f o) k in
       let g : is_end h.found ≡ false = ne_eqb (rank h.found) 20 (λ q. l (i ∙ q)) in
-      rw (part h.bytes s, j) (record {
+      rw (take_rest s h.bytes, j) (record {
         same_rest = sym (rest_more s h z m.0 m.1 g) ∙ w.same_rest;
         same_after = ap (after t) (sym (records_more s h z m.0 m.1 g)) ∙ w.same_after;
         room = rw (lib.ListN.length-drop h.bytes s) (room_more t.items (length s) (length b) h.bytes (rank h.found) w.room m.0 m.1);
@@ -256,18 +236,18 @@ module _ (b s : List ℕ) (t : State) (w : Seen b s t) (f : Option Head) (o : st
   pub seen_nothing : length b ≤ 60000 → f ≡ None → Err BrokenRecord ≡ surveyed b
   unfolding surveyed goes_on ended
   seen_nothing l k =
-      let z : step s ≡ None = sym at_head ∙ k in
+      let z : step s ≡ None = sym (step_is s f o) ∙ k in
       let h : rest b ≡ s = stop (ap goes_on z) in
       rw (le-leb (length b) 60000 l, h, z)
 
   module _ (g : Head) (x : ℕ) (k : f ≡ Some g) (i : x ≡ rank g.found) (h : x ≡ 20) (l : length b ≤ 60000) where
     at_end : rest b ≡ s
     unfolding goes_on
-    at_end = stop (ap goes_on (sym at_head ∙ k) ∙ ap not (eq-eqb (rank g.found) 20 (sym i ∙ h)))
+    at_end = stop (ap goes_on (sym (step_is s f o) ∙ k) ∙ ap not (eq-eqb (rank g.found) 20 (sym i ∙ h)))
 
     is_end_lem : ended (step (rest b)) ≡ true
     unfolding ended
-    is_end_lem = ap (λ (y : List ℕ). ended (step y)) at_end ∙ ap ended (sym at_head ∙ k) ∙ eq-eqb (rank g.found) 20 (sym i ∙ h)
+    is_end_lem = ap (λ (y : List ℕ). ended (step y)) at_end ∙ ap ended (sym (step_is s f o) ∙ k) ∙ eq-eqb (rank g.found) 20 (sym i ∙ h)
 
     -- an EN that is not last
     pub seen_early : (length s ≡ 2 → ⊥) → Err EndNotLast ≡ surveyed b
@@ -278,7 +258,7 @@ module _ (b s : List ℕ) (t : State) (w : Seen b s t) (f : Option Head) (o : st
     pub seen_end : length s ≡ 2 → Ok t ≡ surveyed b
     unfolding surveyed goes_on after
     seen_end q =
-        let e : records s ≡ [] = records_stop s (ap goes_on (sym at_head ∙ k) ∙ ap not (eq-eqb (rank g.found) 20 (sym i ∙ h))) in
+        let e : records s ≡ [] = records_stop s (ap goes_on (sym (step_is s f o) ∙ k) ∙ ap not (eq-eqb (rank g.found) 20 (sym i ∙ h))) in
         let a : t ≡ after start (records b) = ap (after t) (sym e) ∙ w.same_after in
         rw (le-leb (length b) 60000 l, is_end_lem, at_end, eq-eqb (length s) 2 q) (ap Ok a)
 
@@ -301,13 +281,13 @@ pub sorted_of : (k : ℕ) (rs : List Record) → ordered k rs ≡ true → Sorte
 unfolding ordered
 sorted_of k [] e = tt
 sorted_of k (r ∷ rs) e =
-    let w = both (follows k (rank r)) (ordered (rank r) rs) e in
+    let w = and_parts (follows k (rank r)) (ordered (rank r) rs) e in
     (from_follows k (rank r) w.0, sorted_of (rank r) rs w.1)
 
 ordered_after : (t : State) (rs : List Record) → (after t rs).ordered ≡ t.ordered && ordered (rank_in t.last) rs
 unfolding after ordered
 ordered_after t [] = sym (and-true t.ordered)
-ordered_after t (r ∷ rs) = ordered_after (advanced t r) rs ∙ sym (and_assoc t.ordered (follows (rank_in t.last) (rank r)) (ordered (rank r) rs))
+ordered_after t (r ∷ rs) = ordered_after (advanced t r) rs ∙ and_assoc t.ordered (follows (rank_in t.last) (rank r)) (ordered (rank r) rs)
 
 -- what a pass tells that found the marks in order
 pub sorted_after : (t : State) (rs : List Record) → t ≡ after start rs → t.ordered ≡ true → Sorted 0 rs
@@ -322,24 +302,6 @@ areas_after t rs e = ap (λ (u : State). u.items.areas) e ∙ ap (λ (c : Items)
 pub handed_on : {A : Type 0} (r : Result A Refusal) (x : Refusal) → IsErrAnd r (λ (y : Refusal). y ≡ x) → outcome r ≡ refused (number_of x)
 handed_on (Ok a) x h = absurd h
 handed_on (Err y) x h = ap (λ (z : Refusal). refused (number_of z)) h
-
--- the number of a refusal is not 0
-some_number : (r : Refusal) → 0 < number_of r
-some_number no.TooManyBytes = omega arith
-some_number no.BrokenRecord = omega arith
-some_number no.EndNotLast = omega arith
-some_number no.MisplacedRecord = omega arith
-some_number no.BadFlag = omega arith
-some_number no.MalformedLists = omega arith
-some_number no.OutsideGrid = omega arith
-some_number no.IndexesNotRising = omega arith
-some_number no.SizeOutOfRange = omega arith
-some_number no.CoordinateOverflow = omega arith
-some_number no.ListTooShort = omega arith
-some_number no.TooManyPages = omega arith
-some_number no.PageListTooShort = omega arith
-some_number no.NoSuchNumber = omega arith
-some_number no.TooManyCells = omega arith
 
 module _ {A : Type 0} (v : A) (qs : List (ℕ × Bool)) (s : List ℕ) (f : Result State Refusal) (e : f ≡ surveyed s) where
   -- one of the questions 1 to 3 is answered no
@@ -396,12 +358,12 @@ module _ (even : Bool) (s : List ℕ) (f : Result State Refusal) (e : f ≡ surv
       pub job_no : (r : Refusal) → x ≡ Err r → refused (number_of r) ≡ verdict_lent even s
       unfolding verdict_lent
       job_no r h =
-          in_order_no (items_of (records s)) [] (later even s) (number_of r) (sym (ap no_of h) ∙ is_first) (some_number r) ∙ whole.0
+          in_order_no (items_of (records s)) (later even s) (number_of r) (sym (ap no_of h) ∙ is_first) (positive_number r) ∙ whole.0
 
       -- none is
       pub job_yes : (u : Unit {0}) → x ≡ Ok u → given t.items ≡ verdict_lent even s
       unfolding verdict_lent
       job_yes u h =
           ap given (ap (λ (u : State). u.items) whole.1 ∙ items_after (records s))
-          ∙ in_order_yes (items_of (records s)) [] (later even s) 0 refl (sym (ap no_of h) ∙ is_first) (omega arith)
+          ∙ in_order_yes (items_of (records s)) (later even s) refl (sym (ap no_of h) ∙ is_first)
           ∙ whole.0

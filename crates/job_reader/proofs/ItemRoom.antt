@@ -8,56 +8,38 @@ use native.Mathlib.Omega.{arith}
 use lib.Dec.{T, leb, eqb, leb→le}
 use lib.ListN.{length}
 use borrow.Author.Tests.{le-leb, leb-true}
-use Rattle.units.specs.Outcome.{Outcome, given, refused}
+use Rattle.units.specs.Outcome.{given, refused}
 use Rattle.job_records.specs.declared.records.Record.{Record}
 use Rattle.job_records.specs.declared.records.Head.{Head}
 use Rattle.std.specs.Prelude.{Option, Some, None}
 use Rattle.job_questions.specs.declared.Items.{Items}
-use Rattle.job_records.specs.Records.{Format, Found, RW, CL, MR, BR, BC, found, find, formats, known, head_record, step, rank, is_end, used, onto}
+use Rattle.job_records.specs.Records.{Format, RW, CL, MR, BR, BC, found, formats, known, head_record, step, rank, is_end, used, onto}
 use Rattle.job_records.specs.Records.{records_from, records, marked}
 use Rattle.job_questions.specs.Verdict.{questions, in_order, verdict_lent, items_of}
 use Rattle.job_reader.specs.Reading.{Lists, even_lists, room_in, fit_in, asked, job_of, read_job}
-use Rattle.job_records.proofs.RecordLaws.{same_found, in_whole, step_found, step_used, split}
+use Rattle.job_records.proofs.RecordLaws.{in_whole, step_found, step_used, every_format, found_passes}
 use Rattle.job_questions.proofs.PassLaws.{All}
-use Rattle.planner_rules.proofs.QuestionLaws.{both}
 use Rattle.job_reader.proofs.ReadingLaws.{all_given, all_past}
+use Rattle.std.proofs.lemmas.Bool.{and_parts}
 
 -- ---- the bytes of a mark
 
 -- a record with the place k in the order has at least w bytes
-abbrev heavy : ℕ → ℕ → List ℕ → List Format → Bool
-heavy k w s [] = true
-heavy k w s (f ∷ fs) = cond (cond (eqb (rank (f.kind s)) k) (leb w f.bytes) true) (heavy k w s fs) false
+abbrev heavy : ℕ → ℕ → List ℕ → Format → Bool
+heavy k w s f = cond (eqb (rank (f.kind s)) k) (leb w f.bytes) true
 
-heavy_here : (k w : ℕ) (f : Format) (s : List ℕ) → T (cond (eqb (rank (f.kind s)) k) (leb w f.bytes) true) → eqb (rank (f.kind s)) k ≡ true
-    → w ≤ f.bytes
+heavy_here : (k w : ℕ) (f : Format) (s : List ℕ) → T (heavy k w s f) → eqb (rank (f.kind s)) k ≡ true → w ≤ f.bytes
 heavy_here k w f s t e = leb→le w f.bytes (rw e at t)
-
-found_here : (k w : ℕ) (f : Format) (b : Bool) (g : Outcome Found) (s : List ℕ) (r : Record) (n : ℕ)
-    → T (cond (eqb (rank (f.kind s)) k) (leb w f.bytes) true) → (g ≡ found r n → w ≤ n) → eqb (rank r) k ≡ true
-    → cond b (found (f.kind s) f.bytes) g ≡ found r n → w ≤ n
-found_here k w f true g s r n t h e i =
-    let same = same_found (f.kind s) r f.bytes n i in
-    let j = heavy_here k w f s t (ap (λ (q : Record). eqb (rank q) k) same.0 ∙ e) in
-    omega (arith, same.1)
-found_here k w f false g s r n t h e i = h i
-
-found_heavy : (k w : ℕ) (fs : List Format) (x : ℕ) (s : List ℕ) (r : Record) (n : ℕ) → T (heavy k w s fs) → eqb (rank r) k ≡ true → find x fs s ≡ found r n
-    → w ≤ n
-unfolding find
-found_heavy k w [] x s r n t e i = let z : ◌≡◌ {A = ℕ} 0 1 = cc in absurd (omega arith)
-found_heavy k w (f ∷ fs) x s r n t e i =
-    let u = split (cond (eqb (rank (f.kind s)) k) (leb w f.bytes) true) (heavy k w s fs) t in
-    found_here k w f (eqb x f.mark) (find x fs s) s r n u.0 (found_heavy k w fs x s r n u.1 e) e i
 
 -- the table says so, of a mark and its bytes
 abbrev Weighs : ℕ → ℕ → Type 0
-Weighs k w = (s : List ℕ) → T (heavy k w s formats)
+Weighs k w = (s : List ℕ) → T (every_format (heavy k w s) formats)
 
 step_heavy : (k w : ℕ) → Weighs k w → (s : List ℕ) (q : Head) → step s ≡ Some q → eqb (rank q.found) k ≡ true → w ≤ q.bytes
 unfolding head_record known
 step_heavy k w h s q i e =
-    found_heavy k w formats _ s q.found q.bytes (h s) e (in_whole (length s) (known s) q.found q.bytes (step_found s q i)).0
+    found_passes (heavy k w s) (λ r n. eqb (rank r) k ≡ true → w ≤ n) s (λ f. heavy_here k w f s) formats _ q.found q.bytes (h s)
+    (in_whole (length s) (known s) q.found q.bytes (step_found s q i)).0 e
 
 -- ---- the bytes of all records with a mark
 
@@ -151,9 +133,9 @@ passed p [] = true
 passed p ((n, q) ∷ qs) = p n && passed p qs
 
 in_order_passed : {A : Type 0} (v : A) (p : ℕ → Bool) (m : ℕ) (qs : List (ℕ × Bool)) → passed p qs ≡ true → in_order qs v ≡ refused m → p m ≡ true
-in_order_passed v p m [] t e = let z : ◌≡◌ {A = ℕ} 0 1 = cc in absurd (omega arith)
-in_order_passed v p m ((n, true) ∷ qs) t e = in_order_passed v p m qs (both (p n) (passed p qs) t).1 e
-in_order_passed v p m ((n, false) ∷ qs) t e = let i : n ≡ m = cc in ap p (sym i) ∙ (both (p n) (passed p qs) t).0
+in_order_passed v p m [] t e = absurd cc
+in_order_passed v p m ((n, true) ∷ qs) t e = in_order_passed v p m qs (and_parts (p n) (passed p qs) t).1 e
+in_order_passed v p m ((n, false) ∷ qs) t e = let i : n ≡ m = cc in ap p (sym i) ∙ (and_parts (p n) (passed p qs) t).0
 
 -- so a number such as 0, 10 or 11 is none: there `is_asked` is false
 pub verdict_number : (even : Bool) (s : List ℕ) (n : ℕ) → verdict_lent even s ≡ refused n → is_asked n ≡ true

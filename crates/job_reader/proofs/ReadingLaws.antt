@@ -23,8 +23,9 @@ use Rattle.job_walk.specs.Walk.{Sorted}
 use Rattle.job_reader.specs.Walk.{Kept}
 use Rattle.job_reader.specs.Reading.{Lists, even_lists, room_in, fit_in, asked, admitted, admitted_to, job_of, read_job, JobRead, Room, AllWritten}
 use Rattle.planner_rules.specs.Areas.{one_to_eight}
-use Rattle.planner_rules.proofs.QuestionLaws.{both}
 use Rattle.job_questions.proofs.PassLaws.{All, sorted_of}
+use Rattle.std.proofs.lemmas.Bool.{and_parts}
+use Rattle.std.proofs.lemmas.List.{take_rest}
 
 -- ---- questions in order, whatever is given at the end
 
@@ -32,11 +33,11 @@ module _ {A B : Type 0} (v : A) (w : B) where
   pub in_order_given : (qs : List (ℕ × Bool)) (x : A) → given x ≡ in_order qs v → (x ≡ v) × (given w ≡ in_order qs w)
   in_order_given [] x e = (cc, refl)
   in_order_given ((n, true) ∷ qs) x e = in_order_given qs x e
-  in_order_given ((n, false) ∷ qs) x e = let z : ◌≡◌ {A = ℕ} 0 1 = cc in absurd (omega arith)
+  in_order_given ((n, false) ∷ qs) x e = absurd cc
 
   -- a no among some questions is the first among more
   in_order_more : (more : List (ℕ × Bool)) (x : ℕ) (qs : List (ℕ × Bool)) → refused x ≡ in_order qs v → refused x ≡ in_order (qs ++ more) w
-  in_order_more more x [] e = let z : ◌≡◌ {A = ℕ} 0 1 = cc in absurd (omega arith)
+  in_order_more more x [] e = absurd cc
   in_order_more more x ((n, true) ∷ qs) e = in_order_more more x qs e
   in_order_more more x ((n, false) ∷ qs) e = let i : x ≡ n = cc in ap refused i
 
@@ -46,7 +47,7 @@ module _ {A B : Type 0} (v : A) (w : B) where
 pub all_given : {A : Type 0} (v : A) (qs : List (ℕ × Bool)) (x : A) → given x ≡ in_order qs v → All qs
 all_given v [] x e = tt
 all_given v ((n, true) ∷ qs) x e = (refl, all_given v qs x e)
-all_given v ((n, false) ∷ qs) x e = let z : ◌≡◌ {A = ℕ} 0 1 = cc in absurd (omega arith)
+all_given v ((n, false) ∷ qs) x e = absurd cc
 
 -- where some are answered yes, the others decide
 pub all_past : {A : Type 0} (v : A) (more qs : List (ℕ × Bool)) → All qs → in_order more v ≡ in_order (qs ++ more) v
@@ -107,15 +108,15 @@ module _ {s : List ℕ} {l : Lists} {items : Items} (w : Admitted s l items) whe
   all = all_given (items_of (records s)) (asked (even_lists l) (room_in l) s) items w.is
 
   pub given_sorted : Sorted 0 (records s)
-  given_sorted = sorted_of 0 (records s) (both (ordered 0 (records s)) (one_to_eight (length (marked AR (records s)))) all.1.1.1.0).0
+  given_sorted = sorted_of 0 (records s) (and_parts (ordered 0 (records s)) (one_to_eight (length (marked AR (records s)))) all.1.1.1.0).0
 
   pub given_areas : length (marked AR (records s)) ≤ 8
   given_areas =
       let n = length (marked AR (records s)) in
-      leb-true n 8 (both (leb 1 n) (leb n 8) (both (ordered 0 (records s)) (one_to_eight n) all.1.1.1.0).1).1
+      leb-true n 8 (and_parts (leb 1 n) (leb n 8) (and_parts (ordered 0 (records s)) (one_to_eight n) all.1.1.1.0).1).1
 
   pub given_room : Room s l
-  given_room = record { even = (both (even_lists l) _ all.1.1.1.1.1.0).0; fits = all.1.1.1.1.1.1.1.1.1.1.0 }
+  given_room = record { even = (and_parts (even_lists l) _ all.1.1.1.1.1.0).0; fits = all.1.1.1.1.1.1.1.1.1.1.0 }
 
   -- the job that was read
   pub job_given : {after : Lists} {set : JobSettings} → set ≡ settings_of (records s) → AllWritten s l after → JobRead s

@@ -33,12 +33,12 @@ module _ (k : ℕ) {g f : Option Head} (e : f ≡ g) {h : Head} {x : ℕ} (i : f
 
 kind_goes : (k : ℕ) (g : Option Head) (h : Head) → of_kind k g ≡ Some h → (g ≡ Some h) × (rank h.found ≡ k)
 unfolding of_kind
-kind_goes k None h e = let z : ◌≡◌ {A = ℕ} 0 1 = cc in absurd (omega arith)
+kind_goes k None h e = absurd cc
 kind_goes k (Some f) h e = go (eqb (rank f.found) k) refl e
   where
     go : (b : Bool) → eqb (rank f.found) k ≡ b → cond b (Some f) None ≡ Some h → (Some f ≡ Some h) × (rank h.found ≡ k)
     go true i e = let j : f ≡ h = cc in (e, ap (λ (x : Head). rank x.found) (sym j) ∙ eqb-true (rank f.found) k i)
-    go false i e = let z : ◌≡◌ {A = ℕ} 0 1 = cc in absurd (omega arith)
+    go false i e = absurd cc
 
 -- no record of the kind comes next: nothing comes, or one of another kind
 kind_stops : {X : Type 0} (k : ℕ) (g : Option Head) → of_kind k g ≡ None → (g ≡ None → X) → ((h : Head) → g ≡ Some h → (rank h.found ≡ k → ⊥) → X) → X
@@ -47,7 +47,7 @@ kind_stops k None e p q = p refl
 kind_stops {X} k (Some h) e p q = go (eqb (rank h.found) k) refl e
   where
     go : (b : Bool) → eqb (rank h.found) k ≡ b → cond b (Some h) None ≡ None → X
-    go true i e = let z : ◌≡◌ {A = ℕ} 0 1 = cc in absurd (omega arith)
+    go true i e = absurd cc
     go false i e = q h refl (eqb-false (rank h.found) k i)
 
 -- ---- what is left of b

@@ -1,6 +1,6 @@
 -- Laws of `specs/Records.antt`. Assumes nothing.
 use mathlib.Core.Path.{◌≡◌, refl, sym, ap, ◌∙◌}
-use mathlib.Core.Bool.{Bool, true, false, cond}
+use mathlib.Core.Bool.{Bool, true, false, cond, ◌&&◌}
 use mathlib.Core.List.{List, [], ◌∷◌}
 use Prim.Native.Nat.{ℕ, zero, suc, pred, ◌-◌, ◌≤◌, ◌<◌}
 use native.Mathlib.Decide.{dec_le}
@@ -8,7 +8,6 @@ use native.Mathlib.Nat.{lt_of_not-le}
 use native.Mathlib.Omega.{arith}
 use lib.Dec.{T, eqb, leb, leb→le}
 use lib.ListN.{length, take, drop, length-drop}
-use lib.Seq.{take_all}
 use borrow.Author.Tests.{ne_eqb, le-leb, lt-leb}
 use Rattle.job_records.specs.LittleEndian.{u16_at}
 use Rattle.job_records.specs.declared.records.Record.{Record}
@@ -19,6 +18,8 @@ use Rattle.job_records.specs.Marks.{number_of, marks, spelled_by, mark_of, bytes
 use Rattle.units.specs.Outcome.{Outcome, given, refused}
 use Rattle.job_records.specs.Records.{Format, Found, found, find, formats, kind_of, known, whole, head_record, step_outcome, step_of, step, is_end, goes_on}
 use Rattle.job_records.specs.Records.{used, onto, records_from, records, rest_from, rest}
+use lib.Ieee.Fits.{and_l, and_r}
+use Rattle.std.proofs.lemmas.List.{take_rest}
 
 -- ---- the record of a mark
 
@@ -49,10 +50,6 @@ find_mark : (n : ℕ) (s : List ℕ) → find n formats s ≡ record_for (mark_o
 unfolding formats formats_of mark_of
 find_mark n s = find_spelled marks n s
 
-pub split : (a b : Bool) → T (cond a b false) → T a × T b
-split true b t = (tt, t)
-split false b t = absurd t
-
 -- ---- the record at the head
 
 module _ (s : List ℕ) (x : ℕ) (e : x ≡ u16_at s 0) where
@@ -78,9 +75,6 @@ module _ (s : List ℕ) (x : ℕ) (e : x ≡ u16_at s 0) where
 
 -- ---- how many bytes a record has: at least two, and no more than there are
 
-none_found : {X : Type 0} (k : ℕ) (r : Record) (n : ℕ) → refused k ≡ found r n → X
-none_found k r n e = let z : ◌≡◌ {A = ℕ} 0 1 = cc in absurd (omega arith)
-
 -- what was found is one record, with its bytes
 pub same_found : (q r : Record) (m n : ℕ) → found q m ≡ found r n → (q ≡ r) × (m ≡ n)
 same_found q r m n e =
@@ -89,7 +83,7 @@ same_found q r m n e =
 
 pub in_whole : (N : ℕ) (f : Outcome Found) (r : Record) (n : ℕ) → whole N f ≡ found r n → (f ≡ found r n) × (n ≤ N)
 unfolding whole
-in_whole N (refused k) r n e = none_found k r n e
+in_whole N (refused k) r n e = absurd cc
 in_whole N (given f) r n e =
     elim (dec_le f.bytes N) [
       | yes h ↦ (
@@ -97,30 +91,30 @@ in_whole N (given f) r n e =
           let i : f.bytes ≡ n = cc in
           (k, omega arith)
           )
-      | no h ↦ none_found 2 r n (rw (lt-leb f.bytes N (lt_of_not-le h)) at e)
+      | no h ↦ let none : refused 2 ≡ found r n = rw (lt-leb f.bytes N (lt_of_not-le h)) at e in absurd cc
     ]
 
-abbrev some : List Format → Bool
-some [] = true
-some (f ∷ fs) = cond (leb 2 f.bytes) (some fs) false
+-- a test that every format passes
+abbrev pub every_format : (Format → Bool) → List Format → Bool
+every_format p [] = true
+every_format p (f ∷ fs) = p f && every_format p fs
 
-found_here : (f : Format) (b : Bool) (g : Outcome Found) (s : List ℕ) (r : Record) (n : ℕ) → 2 ≤ f.bytes → (g ≡ found r n → 2 ≤ n)
-    → cond b (found (f.kind s) f.bytes) g ≡ found r n → 2 ≤ n
-found_here f true g s r n h k e = omega (arith, (same_found (f.kind s) r f.bytes n e).1)
-found_here f false g s r n h k e = k e
-
-found_some : (fs : List Format) (x : ℕ) (s : List ℕ) (r : Record) (n : ℕ) → T (some fs) → find x fs s ≡ found r n → 2 ≤ n
+-- so what is found has passed it
+pub found_passes : (p : Format → Bool) (Says : Record → ℕ → Type 0) (s : List ℕ) → ((f : Format) → T (p f) → Says (f.kind s) f.bytes)
+    → (fs : List Format) (x : ℕ) (r : Record) (n : ℕ) → T (every_format p fs) → find x fs s ≡ found r n → Says r n
 unfolding find
-found_some [] x s r n t e = none_found 2 r n e
-found_some (f ∷ fs) x s r n t e =
-    let w = split (leb 2 f.bytes) (some fs) t in
-    found_here f (lib.Dec.eqb x f.mark) (find x fs s) s r n (leb→le 2 f.bytes w.0) (found_some fs x s r n w.1) e
+found_passes p Says s h [] x r n t e = absurd cc
+found_passes p Says s h (f ∷ fs) x r n t e = go (eqb x f.mark) (found_passes p Says s h fs x r n (and_r (p f) (every_format p fs) t)) e
+  where
+    go : (b : Bool) → (find x fs s ≡ found r n → Says r n) → cond b (found (f.kind s) f.bytes) (find x fs s) ≡ found r n → Says r n
+    go true later e = let same = same_found (f.kind s) r f.bytes n e in rw (← same.0, ← same.1) (h f (and_l (p f) (every_format p fs) t))
+    go false later e = later e
 
 head_sized : (s : List ℕ) (r : Record) (n : ℕ) → head_record s ≡ found r n → (2 ≤ n) × (n ≤ length s)
 unfolding head_record known formats
 head_sized s r n e =
     let w = in_whole (length s) (known s) r n e in
-    (found_some formats _ s r n tt w.0, w.1)
+    (found_passes (λ f. leb 2 f.bytes) (λ r n. 2 ≤ n) s (λ f t. leb→le 2 f.bytes t) formats _ r n tt w.0, w.1)
 
 -- where there is none, the number is 2
 abbrev Two : Outcome Found → Type 0
@@ -173,7 +167,7 @@ step_found s h e = go (head_record s) e
     go (given f) e =
         let i : ◌≡◌ {A = Head} (record { found = f.kind; bytes = f.bytes }) h = cc in
         rw (← i) refl
-    go (refused k) e = let z : ◌≡◌ {A = ℕ} 0 1 = cc in absurd (omega arith)
+    go (refused k) e = absurd cc
 
 pub step_used : (s : List ℕ) (f : Option Head) (h : Head) → f ≡ step s → f ≡ Some h → (1 ≤ h.bytes) × (h.bytes ≤ length s)
 step_used s f h e k = let w = head_sized s h.found h.bytes (step_found s h (sym e ∙ k)) in (omega (arith, w.0), w.1)
@@ -229,30 +223,5 @@ rest_stop (b ∷ bs) e = rw e
 
 -- ---- the part `&l[n..]` of a slice, as the borrow checker gives it
 
-pub part : {A : Type 0} (n : ℕ) (l : List A) → take (length l - n) (drop n l) ≡ drop n l
-part n l = take_all (length l - n) (drop n l) (simp length-drop (omega arith))
-
 pub length_part : {A : Type 0} (n : ℕ) (l : List A) → length (take (length l - n) (drop n l)) ≡ length l - n
-length_part n l = ap length (part n l) ∙ length-drop n l
-
--- ---- the longest record of a table
-
--- how many bytes a record has, by the number that its mark spells; 0 where the table has none
-abbrev pub size_in : List Format → ℕ → ℕ
-size_in [] m = 0
-size_in (f ∷ fs) m = cond (eqb m f.mark) f.bytes (size_in fs m)
-
--- records that all have n bytes at most
-abbrev pub within : ℕ → List Format → Bool
-within n [] = true
-within n (f ∷ fs) = cond (leb f.bytes n) (within n fs) false
-
-pub size_within : (n : ℕ) (fs : List Format) (x : ℕ) → T (within n fs) → size_in fs x ≤ n
-size_within n [] x t = omega arith
-size_within n (f ∷ fs) x t =
-    let w = split (leb f.bytes n) (within n fs) t in
-    go (eqb x f.mark) (leb→le f.bytes n w.0) (size_within n fs x w.1)
-  where
-    go : (b : Bool) → f.bytes ≤ n → size_in fs x ≤ n → cond b f.bytes (size_in fs x) ≤ n
-    go true h k = h
-    go false h k = k
+length_part n l = ap length (take_rest l n) ∙ length-drop n l

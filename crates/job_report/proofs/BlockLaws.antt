@@ -19,19 +19,18 @@ use Rattle.units.specs.Refusals.{number_of, outcome}
 use Rattle.units.specs.declared.refusal.Refusal.{Refusal}
 use Rattle.units.specs.declared.refusal.Refusal.TheVariants as no
 use Rattle.planner_rules.specs.Questions.{ask}
-use Rattle.planner_rules.specs.Pages.{area_pages, page_at, pages_in, holds_area, numbered, area_numbered, spot_of}
+use Rattle.planner_rules.specs.Pages.{area_pages, holds_area, numbered, area_numbered, spot_of}
 use Rattle.planner_rules.proofs.Laws.{split}
 use Rattle.planner_rules.proofs.NoTen.{not_given}
-use Rattle.planner_rules.proofs.PageLaws.{numbered_take, page_count}
-use Rattle.planner_rules.proofs.QuestionLaws.{both}
+use Rattle.planner_rules.proofs.PageLaws.{numbered_take}
 use Rattle.job_report.specs.declared.blocks.Block.{Block}
 use Rattle.job_report.specs.Lines.{page_line, PutAt}
 use Rattle.job_report.specs.Blocks.{lines_from, held, block_lines, area_of, pages_on, block_pages, BlockPut, There, LinesHeld}
 use Rattle.job_report.proofs.TextLaws.{and_then_lem, put_none}
 use Rattle.job_report.proofs.SpotLaws.{placed, own_page}
-
-never : {b : Bool} → b ≡ true → b ≡ false → ⊥
-never a b = let e : true ≡ false = sym a ∙ b in let z : ◌≡◌ {A = ℕ} 0 1 = cc in omega arith
+use Rattle.std.proofs.lemmas.Bool.{and_parts}
+use Rattle.planner_rules.proofs.AreaPages.{area_length}
+use Rattle.planner_rules.proofs.Demand.{ask_yes}
 
 -- ---- pages by number
 
@@ -55,11 +54,6 @@ unfolding numbered
 numbered-drop zero pages n = let e : 0 + n ≡ n = omega arith in rw e
 numbered-drop (suc b) [] n = refl
 numbered-drop (suc b) (x ∷ pages) n = let e : suc b + n ≡ suc (b + n) = omega arith in rw e (numbered-drop b pages n)
-
--- how many pages an area has
-pub area_count : (p : Plan) (a : AreaPlan) (rows columns : List ℕ) → length (area_pages p.order a rows columns) ≡ pages_in a
-unfolding area_pages
-area_count p a rows columns = page_count a.row_runs a.column_runs (page_at rows columns a) p.order
 
 -- ---- how many pages a block holds
 
@@ -112,7 +106,7 @@ one_line n p pages = append-nil (page_line n p)
 -- where it ends there is no room, or the number is past the count
 pub shut_told : {X : Type 0} (bytes last pages most : ℕ) → (leb bytes last && leb pages most) ≡ false → (last < bytes → X) → (most < pages → X) → X
 shut_told bytes last pages most e f g =
-    split bytes last (λ h. split pages most (λ l. absurd (never (rw (le-leb bytes last h, le-leb pages most l)) e)) g) f
+    split bytes last (λ h. split pages most (λ l. let yes : (leb bytes last && leb pages most) ≡ true = rw (le-leb bytes last h, le-leb pages most l) in absurd cc) g) f
 
 module _ (from : ℕ) (rest : List Page) where
   -- k pages have their lines in so many bytes at the start of the array, which was `old`; the block holds these and what it holds after them
@@ -229,7 +223,7 @@ module _ (p : Plan) (n : ℕ) (s : Spot) (rows columns : List ℕ) where
 
     pub turn : (bytes k : ℕ) → (leb bytes 65280 && leb k (p.pages - n)) ≡ true → Turn bytes k
     turn bytes k e =
-        let t = both (leb bytes 65280) (leb k (p.pages - n)) e in
+        let t = and_parts (leb bytes 65280) (leb k (p.pages - n)) e in
         let few = leb-true k (p.pages - n) t.1 in
         let at = placed p n s w.found in
         record {
@@ -261,12 +255,7 @@ module _ (p : Plan) (n : ℕ) (rows columns : List ℕ) where
 
     -- the runs of the area are held
     pub first_there : (first : Page) → answer ≡ Ok first → There p n s rows columns
-    first_there first e = record { found = found; holds = go (holds_area (area_of p s) rows columns) refl (first_is ∙ ap outcome e) }
-      where
-        go : (b : Bool) → holds_area (area_of p s) rows columns ≡ b → ask 11 b (numbered (area_pages p.order (area_of p s) rows columns) 1) ≡ given first
-            → holds_area (area_of p s) rows columns ≡ true
-        go true i j = i
-        go false i j = absurd (not_given first 11 (sym j))
+    first_there first e = record { found = found; holds = (ask_yes 11 _ _ first (first_is ∙ ap outcome e)).0 }
 
     pub block_given : (first : Page) → answer ≡ Ok first → (b : Block) (old new : List ℕ) → LinesHeld n (pages_on p rows columns n s) b old new
         → BlockPut (block_pages p rows columns n) n (Ok b) old new
@@ -283,5 +272,5 @@ module _ (p : Plan) (n : ℕ) (rows columns : List ℕ) where
             → BlockPut (ask 11 b (given (pages_on p rows columns n s))) n (Err k) old old
         go true j =
             let own = own_page p n s found in
-            absurd (omega (arith, there_none (area_pages p.order (area_of p s) rows columns) 0 (number_of k) j, area_count p (area_of p s) rows columns, own))
+            absurd (omega (arith, there_none (area_pages p.order (area_of p s) rows columns) 0 (number_of k) j, area_length p.order (area_of p s) rows columns, own))
         go false j = let same : 11 ≡ number_of k = cc in record { answer = ap refused (sym same); array_is = refl }

@@ -14,11 +14,8 @@ use Rattle.std.specs.Prelude.{Some, None}
 use Rattle.planner_rules.specs.Areas.{no_plan}
 use Rattle.planner_rules.specs.Pages.{pages_in, spot_from, spot_of}
 use Rattle.planner_rules.proofs.Laws.{split}
-use Rattle.planner_rules.proofs.QuestionLaws.{both}
 use Rattle.job_report.specs.Blocks.{area_of}
-
-pub no_spot : {X : Type 0} (s : Spot) → None ≡ Some s → X
-no_spot s e = let z : ◌≡◌ {A = ℕ} 0 1 = cc in absurd (omega arith)
+use Rattle.std.proofs.lemmas.Bool.{and_parts}
 
 -- a spot among the areas from the k-th on, of a page that has so many pages before it
 pub record Within (areas : List AreaPlan) (k before : ℕ) (s : Spot) : Type 0 where
@@ -29,7 +26,7 @@ pub record Within (areas : List AreaPlan) (k before : ℕ) (s : Spot) : Type 0 w
 
 pub spot_within : (areas : List AreaPlan) (k before : ℕ) (s : Spot) → spot_from k before areas ≡ Some s → Within areas k before s
 unfolding spot_from
-spot_within [] k before s e = no_spot s e
+spot_within [] k before s e = absurd cc
 spot_within (a ∷ areas) k before s e =
     split (suc before) (pages_in a)
     (λ h.
@@ -56,9 +53,9 @@ unfolding spot_of
 placed p n s e = go (leb 1 n && leb n p.pages) refl e
   where
     go : (b : Bool) → (leb 1 n && leb n p.pages) ≡ b → cond b (spot_from 0 (n - 1) p.areas.items) None ≡ Some s → Placed p n s
-    go false i j = no_spot s j
+    go false i j = absurd cc
     go true i j =
-        let asked = both (leb 1 n) (leb n p.pages) i in
+        let asked = and_parts (leb 1 n) (leb n p.pages) i in
         let w = spot_within p.areas.items 0 (n - 1) s j in
         record {
           from_one = leb-true 1 n asked.0;

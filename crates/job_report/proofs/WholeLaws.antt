@@ -25,8 +25,9 @@ use Rattle.job_report.specs.Lines.{head_lines}
 use Rattle.job_report.specs.Blocks.{lines_from, held, block_lines, block_of, area_of, pages_on, pages_at, block_pages, BlockPut}
 use Rattle.job_report.specs.Report.{line_before, areas_lines, report_lines}
 use Rattle.job_report.proofs.TextLaws.{lines_within}
-use Rattle.job_report.proofs.SpotLaws.{Placed, placed, own_page, spot_within, no_spot}
-use Rattle.job_report.proofs.BlockLaws.{area_count, on_count, held_within, held_some, lines_add}
+use Rattle.job_report.proofs.SpotLaws.{Placed, placed, own_page, spot_within}
+use Rattle.job_report.proofs.BlockLaws.{on_count, held_within, held_some, lines_add}
+use Rattle.planner_rules.proofs.AreaPages.{area_length}
 
 -- ---- one block
 
@@ -54,7 +55,7 @@ module _ (p : Plan) (rows columns : List ℕ) (n : ℕ) (b : Block) (old new : L
           arith,
           length-take (p.pages + 1 - n) (drop s.before own),
           length-drop s.before own,
-          area_count p (area_of p s) rows columns,
+          area_length p.order (area_of p s) rows columns,
           own_page p n s found,
           (placed p n s found).to_count,
         )
@@ -62,7 +63,7 @@ module _ (p : Plan) (rows columns : List ℕ) (n : ℕ) (b : Block) (old new : L
     on_area : length (pages_on p rows columns n s) ≤ pages_in (area_of p s) - s.before
     unfolding pages_on
     on_area =
-        omega (arith, length-take (p.pages + 1 - n) (drop s.before own), length-drop s.before own, area_count p (area_of p s) rows columns)
+        omega (arith, length-take (p.pages + 1 - n) (drop s.before own), length-drop s.before own, area_length p.order (area_of p s) rows columns)
 
     on_take : (k : ℕ) → k ≤ p.pages + 1 - n → take k (pages_on p rows columns n s) ≡ take k (drop s.before own)
     unfolding pages_on
@@ -185,7 +186,7 @@ module _ (p : Plan) (rows columns : ℕ → List ℕ) where
         tail_own k before n a areas (omega arith) ∙ ap (λ (l : List ℕ). cond (ltb 0 before) [] (line_before k a) ++ l) rest
       where
         own_count : length (drop before (pages_of k a)) ≡ pages_in a - before
-        own_count = omega (arith, length-drop before (pages_of k a), area_count p a (rows k) (columns k))
+        own_count = omega (arith, length-drop before (pages_of k a), area_length p.order a (rows k) (columns k))
 
         in_it : before + m < pages_in a → tail_lines k (before + m) (n + m) (a ∷ areas)
             ≡ lines_from (n + m) (drop m (drop before (pages_of k a))) ++ lines_of_areas (k + 1) (n + (pages_in a - before)) areas
@@ -215,7 +216,7 @@ module _ (p : Plan) (rows columns : ℕ → List ℕ) where
         ≡ cond (ltb 0 s.before) [] (line_before s.area (get_or areas (s.area - k) no_plan))
         ++ (lines_from n (take m (drop s.before (pages_of s.area (get_or areas (s.area - k) no_plan)))) ++ tail_lines k (before + m) (n + m) areas)
     unfolding spot_from
-    tail_step k before n [] s e f h = no_spot s f
+    tail_step k before n [] s e f h = absurd cc
     tail_step k before n (a ∷ areas) s e f h =
         split (suc before) (pages_in a)
         (λ l.

@@ -9,7 +9,7 @@ use native.Mathlib.Omega.{arith}
 use lib.Dec.{ltb, eqb}
 use lib.ListN.{length, take, drop, length-map}
 use lib.Seq.{take_all}
-use Rattle.std.proofs.lemmas.List.{append-nil, take-append-le}
+use Rattle.std.proofs.lemmas.List.{append-nil, take-append-le, take_rest}
 use borrow.Author.Tests.{eq-eqb, ne_eqb, eqb-true, lt-ltb, le-ltb}
 use Rattle.arrayvec.specs.ArrayVec.{ArrayVec}
 use Rattle.job_records.specs.declared.records.Range.{Range}
@@ -24,7 +24,7 @@ use Rattle.job_walk.specs.declared.sorted.SortedJob.{SortedJob}
 use Rattle.job_records.specs.Marks.{place}
 use Rattle.job_walk.specs.Walk.{before, first_of, in_place, Sorted}
 use Rattle.job_walk.proofs.Arms.{only_area}
-use Rattle.job_records.proofs.RecordLaws.{records_more, records_stop, step_used, part, length_part}
+use Rattle.job_records.proofs.RecordLaws.{records_more, records_stop, step_used, length_part}
 
 -- ---- marks that never fall
 
@@ -101,7 +101,7 @@ module _ (s : List ℕ) {f : Option Head} (e : f ≡ before (step s)) where
     pub walk_on : records s ≡ h.found ∷ records (take (length s - h.bytes) (drop h.bytes s))
     walk_on =
         let g = goes (step s) h (sym e ∙ k) in
-        rw (part h.bytes s) (records_more s h g.0 walk_used.some walk_used.within g.1)
+        rw (take_rest s h.bytes) (records_more s h g.0 walk_used.some walk_used.within g.1)
 
     pub walk_yes : (j : ℕ) → rank h.found ≡ j → marked j (records s) ≡ h.found ∷ marked j (records (take (length s - h.bytes) (drop h.bytes s)))
     unfolding marked

@@ -1,6 +1,6 @@
 -- What the definition of the union (`specs/Union.antt` of planner_rules) comes to: an area that stands twice, and one area. Assumes nothing.
-use mathlib.Core.Path.{◌≡◌, refl, ap}
-use mathlib.Core.Bool.{Bool, true, false, cond, ◌||◌}
+use mathlib.Core.Path.{◌≡◌, ap}
+use mathlib.Core.Bool.{Bool, cond, or_self_left}
 use mathlib.Core.List.{List, [], ◌∷◌}
 use Prim.Native.Nat.{ℕ, ◌+◌, ◌-◌, ◌*◌, ◌≤◌, ◌<◌}
 use native.Mathlib.Omega.{arith}
@@ -11,17 +11,13 @@ use Rattle.planner_areas.proofs.Totals.{cell, total_none, total_to, total_same}
 
 -- ---- an area that stands twice counts once
 
-twice : (a b : Bool) → (a || (a || b)) ≡ (a || b)
-twice true b = refl
-twice false b = refl
-
 pub counted_once : (g : PrintRange) (gs : List PrintRange) → union_cells (g ∷ g ∷ gs) ≡ union_cells (g ∷ gs)
 unfolding union_cells cells_in in_some
 counted_once g gs =
     total_same 1048576 (λ (r : ℕ). total 16384 (cell (g ∷ g ∷ gs) r)) (λ (r : ℕ). total 16384 (cell (g ∷ gs) r))
     (λ r.
     total_same 16384 (cell (g ∷ g ∷ gs) r) (cell (g ∷ gs) r)
-    (λ c. ap (λ (b : Bool). cond b 1 0) (twice (in_area g r c) (in_some gs r c))))
+    (λ c. ap (λ (b : Bool). cond b 1 0) (or_self_left (in_area g r c) (in_some gs r c))))
 
 -- ---- one area in the grid has its rows times its columns
 

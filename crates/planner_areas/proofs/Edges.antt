@@ -1,8 +1,8 @@
 -- Laws of cells in areas: between row edges, and in a stretch of a row (`specs/Edges.antt`). Assumes nothing.
 use mathlib.Core.Path.{◌≡◌, refl, ap}
-use mathlib.Core.Bool.{Bool, true, false, ◌&&◌, ◌||◌}
+use mathlib.Core.Bool.{Bool, true, false, ◌&&◌}
 use mathlib.Core.List.{List, [], ◌∷◌}
-use Prim.Native.Nat.{ℕ, zero, suc, ◌+◌, ◌≤◌, ◌<◌, min}
+use Prim.Native.Nat.{ℕ, suc, ◌+◌, ◌≤◌, ◌<◌, min}
 use native.Mathlib.Omega.{arith}
 use lib.ListN.{length, get_or}
 use borrow.Author.Count.{below_more}
@@ -13,6 +13,7 @@ use Rattle.planner_rules.specs.Areas.{no_range}
 use Rattle.planner_rules.specs.Union.{between, in_area, in_some}
 use Rattle.planner_areas.specs.declared.union.Stretch.{Stretch}
 use Rattle.planner_areas.specs.Edges.{Nearer, Free, ClearOf, Clear, Grown, StretchOf}
+use Rattle.std.proofs.lemmas.List.Recursion.{or_at, or_from_places}
 
 -- ---- areas one by one
 
@@ -24,23 +25,16 @@ unfolding in_some
 alike [] r c r' c' e = refl
 alike (g ∷ gs) r c r' c' e = rw (e 0 (omega arith), alike gs r c r' c' (λ k h. e (suc k) (omega arith)))
 
-or_true : (a : Bool) {b : Bool} → b ≡ true → (a || b) ≡ true
-or_true true e = refl
-or_true false e = e
-
 -- a cell of an area lies in some
 some_held : (gs : List PrintRange) (k row column : ℕ) → k < length gs → in_area (get_or gs k no_range) row column ≡ true → in_some gs row column ≡ true
 unfolding in_some
-some_held [] k r c h e = absurd (omega arith)
-some_held (g ∷ gs) zero r c h e = rw e
-some_held (g ∷ gs) (suc k) r c h e = or_true (in_area g r c) (some_held gs k r c (omega arith) e)
+some_held gs k r c h e = or_at (λ gs. in_some gs r c) (λ g. in_area g r c) refl (λ _ _. refl) gs k no_range h e
 
 -- a cell of no area lies in none
 pub none_held : (gs : List PrintRange) (row column : ℕ) → ((k : ℕ) → k < length gs → in_area (get_or gs k no_range) row column ≡ false)
     → in_some gs row column ≡ false
 unfolding in_some
-none_held [] r c e = refl
-none_held (g ∷ gs) r c e = rw (e 0 (omega arith), none_held gs r c (λ k h. e (suc k) (omega arith)))
+none_held gs r c e = or_from_places (λ gs. in_some gs r c) (λ g. in_area g r c) refl (λ _ _. refl) gs no_range e
 
 -- ---- between row edges
 

@@ -6,53 +6,44 @@ use Prim.Native.Nat.{ℕ, zero, suc, ◌+◌, ◌-◌, ◌*◌, ◌≤◌}
 use native.Mathlib.Omega.{arith}
 use lib.ListN.{length, take, drop, length-append}
 use lib.Seq.{drop-drop, drop_at}
-use Rattle.units.specs.Outcome.{given, refused}
+use Rattle.units.specs.Outcome.{given}
 use Rattle.planner_rules.specs.declared.planning.PrintRange.{PrintRange}
 use Rattle.planner_rules.specs.Runs.{Run}
-use Rattle.planner_rules.specs.Areas.{over_areas, every_area}
+use Rattle.planner_rules.specs.Areas.{over_areas, every_area, no_range}
 use Rattle.planner_rules.specs.Lent.{flat, run_numbers}
 use Rattle.planner_rules.specs.Pages.{numbered, joined, after_runs}
-use Rattle.planner_rules.proofs.QuestionLaws.{both}
 use Rattle.planner_rules.proofs.Lent.{flat_append, flat-length}
+use Rattle.std.proofs.lemmas.List.Recursion.{and_at}
+use Rattle.planner_rules.proofs.PageLaws.{numbered_at}
 
 -- ---- one of a list by its number
-
-no_none : {A B : Type 0} (n : ℕ) (x : A) → refused n ≡ given x → B
-no_none n x e = let z : ◌≡◌ {A = ℕ} 0 1 = cc in absurd (omega arith)
 
 -- what is made of it stands at the same number
 pub numbered-map : {A B : Type 0} (f : A → B) (xs : List A) (n : ℕ) (x : A) → numbered xs n ≡ given x → numbered (map f xs) n ≡ given (f x)
 unfolding numbered
-numbered-map f [] n x e = no_none 14 x e
-numbered-map f (y ∷ xs) zero x e = no_none 14 x e
+numbered-map f [] n x e = absurd cc
+numbered-map f (y ∷ xs) zero x e = absurd cc
 numbered-map f (y ∷ xs) (suc zero) x e = let same : y ≡ x = cc in ap (λ z. given (f z)) same
 numbered-map f (y ∷ xs) (suc (suc n)) x e = numbered-map f xs (suc n) x e
 
 -- what is asked of every area holds of it
 pub every_one : (p : PrintRange → Bool) (gs : List PrintRange) (n : ℕ) (g : PrintRange) → every_area p gs ≡ true → numbered gs n ≡ given g → p g ≡ true
-unfolding numbered every_area
-every_one p [] n g h e = no_none 14 g e
-every_one p (f ∷ gs) zero g h e = no_none 14 g e
-every_one p (f ∷ gs) (suc zero) g h e = let same : f ≡ g = cc in subst (λ (x : PrintRange). p x ≡ true) same (both (p f) (every_area p gs) h).0
-every_one p (f ∷ gs) (suc (suc n)) g h e = every_one p gs (suc n) g (both (p f) (every_area p gs) h).1 e
+unfolding every_area
+every_one p gs n g h e =
+    let at = numbered_at gs n g no_range e in
+    subst (λ (x : PrintRange). p x ≡ true) at.2 (and_at (every_area p) p refl (λ _ _. refl) gs (n - 1) no_range (omega (arith, at.0, at.1)) h)
 
 -- with what stands before it, it is no more than all
 pub before_and_it : {A : Type 0} (f : A → ℕ) (xs : List A) (n : ℕ) (x : A) → numbered xs n ≡ given x
     → over_areas f (take (n - 1) xs) + f x ≤ over_areas f xs
 unfolding numbered over_areas
-before_and_it f [] n x e = no_none 14 x e
-before_and_it f (y ∷ xs) zero x e = no_none 14 x e
+before_and_it f [] n x e = absurd cc
+before_and_it f (y ∷ xs) zero x e = absurd cc
 before_and_it f (y ∷ xs) (suc zero) x e = let same : y ≡ x = cc in rw same (omega arith)
 before_and_it f (y ∷ xs) (suc (suc n)) x e =
     let a : suc (suc n) - 1 ≡ suc n = omega arith in
     let b : suc n - 1 ≡ n = omega arith in
     rw a (omega (arith, rw b at (before_and_it f xs (suc n) x e)))
-
--- the first n of what is made of some
-pub take-map : {A B : Type 0} (f : A → B) (n : ℕ) (xs : List A) → take n (map f xs) ≡ map f (take n xs)
-take-map f zero xs = refl
-take-map f (suc n) [] = refl
-take-map f (suc n) (x ∷ xs) = ap (λ l. f x ∷ l) (take-map f n xs)
 
 -- of what is made of areas
 pub over_map : {A B : Type 0} (f : B → ℕ) (g : A → B) (xs : List A) → over_areas f (map g xs) ≡ over_areas (λ (x : A). f (g x)) xs
@@ -87,8 +78,8 @@ module _ {A : Type 0} (runs_of : A → List Run) where
 
   pub from_area : (xs : List A) (n : ℕ) (x : A) (tail : List ℕ) → numbered xs n ≡ given x → FromArea xs n x tail
   unfolding numbered over_areas joined
-  from_area [] n x tail e = no_none 14 x e
-  from_area (y ∷ xs) zero x tail e = no_none 14 x e
+  from_area [] n x tail e = absurd cc
+  from_area (y ∷ xs) zero x tail e = absurd cc
   from_area (y ∷ xs) (suc zero) x tail e =
       let same : y ≡ x = cc in
       record {

@@ -1,20 +1,20 @@
 -- Laws of the loops over all areas: one that counts them, and one that writes their runs. Assumes nothing.
-use mathlib.Core.Path.{◌≡◌, refl, sym, ap, ◌∙◌}
+use mathlib.Core.Path.{◌≡◌, sym, ap, ◌∙◌}
 use mathlib.Core.List.{List, [], ◌∷◌, ◌++◌, map}
-use Prim.Native.Nat.{ℕ, zero, suc, ◌+◌, ◌<◌}
+use Prim.Native.Nat.{ℕ, ◌+◌, ◌<◌}
 use native.Mathlib.Numerals.{add-one}
 use native.Mathlib.Omega.{arith}
-use lib.ListN.{length, get_or, take, length-map}
+use lib.ListN.{length, get_or, take}
 use lib.Seq.{take-suc}
-use Rattle.planner_rules.specs.declared.pages.AreaPlan.{AreaPlan}
 use Rattle.planner_rules.specs.declared.planning.PrintRange.{PrintRange}
 use Rattle.planner_rules.specs.declared.planning.AreaNotes.{AreaNotes}
 use Rattle.planner_rules.specs.declared.planning.CountedArea.{CountedArea}
 use Rattle.planner_rules.specs.declared.planning.CountedAreas.{CountedAreas}
-use Rattle.planner_rules.specs.Areas.{no_range, no_plan, over_areas}
+use Rattle.planner_rules.specs.Areas.{no_range, over_areas}
 use Rattle.planner_rules.specs.Pages.{pages_in}
 use Rattle.planner_rules.specs.Plan.{Sheet, Sides, AreaLayout, plan_in, noted, as_count, area_layout, layouts_of}
 use Rattle.planner_rules.specs.Steps.{counted_of, Added, FewAll}
+use Rattle.std.proofs.lemmas.List.{map_push}
 
 -- ---- lists with one more
 
@@ -22,15 +22,6 @@ over_more : {A : Type 0} (f : A → ℕ) (xs : List A) (x : A) → over_areas f 
 unfolding over_areas
 over_more f [] x = omega arith
 over_more f (y ∷ xs) x = omega (arith, over_more f xs x)
-
-map_more : {A B : Type 0} (f : A → B) (xs : List A) (x : A) → map f (xs ++ x ∷ []) ≡ map f xs ++ f x ∷ []
-map_more f [] x = refl
-map_more f (y ∷ xs) x = ap (λ (l : List _). f y ∷ l) (map_more f xs x)
-
-map_at : {A B : Type 0} (f : A → B) (xs : List A) (k : ℕ) (a : A) (b : B) → k < length xs → get_or (map f xs) k b ≡ f (get_or xs k a)
-map_at f [] k a b h = absurd (omega arith)
-map_at f (x ∷ xs) zero a b h = refl
-map_at f (x ∷ xs) (suc k) a b h = map_at f xs k a b (omega arith)
 
 -- ---- counted areas
 
@@ -49,7 +40,7 @@ few_none = record {
 -- one more
 counted_more : (ls : List AreaLayout) (l : AreaLayout) (r : CountedAreas) → Added r (counted_of ls) l.counted → r ≡ counted_of (ls ++ l ∷ [])
 counted_more ls l r w =
-    let areas : r.areas.items ≡ map plan_in (ls ++ l ∷ []) = w.plans_are ∙ sym (map_more plan_in ls l) in
+    let areas : r.areas.items ≡ map plan_in (ls ++ l ∷ []) = w.plans_are ∙ sym (map_push plan_in ls l) in
     let sums : (f : AreaLayout → ℕ) (n : ℕ) → n ≡ over_areas f ls + f l → n ≡ over_areas f (ls ++ l ∷ []) = λ f n e. e ∙ sym (over_more f ls l) in
     let note : (f : AreaNotes → ℕ) (n : ℕ) → n ≡ noted f ls + f l.counted.notes → n ≡ noted f (ls ++ l ∷ []) =
     λ f n e. sums (λ (k : AreaLayout). f k.counted.notes) n e in
@@ -83,15 +74,6 @@ module _ (c : Sides) (s : Sheet) (gs : List PrintRange) (k : ℕ) (g : PrintRang
   counted_next all r a ea eg w =
       let ls = layouts_of c s (take k gs) in
       let next : layouts_of c s (take (k + 1) gs) ≡ ls ++ area_layout c s g ∷ [] =
-      rw (add-one, take-suc gs k no_range h, ← e) (map_more (area_layout c s) (take k gs) g) in
+      rw (add-one, take-suc gs k no_range h, ← e) (map_push (area_layout c s) (take k gs) g) in
       let added : Added r (counted_of ls) (area_layout c s g).counted = rw (← ea, ← eg) w in
       counted_more ls (area_layout c s g) r added ∙ ap counted_of (sym next)
-
-  -- what it came to
-  pub plan_is : (plans : List AreaPlan) (a : AreaPlan) → plans ≡ map plan_in (layouts_of c s gs) → a ≡ get_or plans k no_plan
-      → a ≡ plan_in (area_layout c s g)
-  plan_is plans a ep ea =
-      let ls = layouts_of c s gs in
-      ea ∙ ap (λ (p : List AreaPlan). get_or p k no_plan) ep
-      ∙ map_at plan_in ls k (area_layout c s no_range) no_plan (omega (arith, length-map gs (area_layout c s)))
-      ∙ ap plan_in (map_at (area_layout c s) gs k no_range (area_layout c s no_range) h ∙ ap (area_layout c s) (sym e))

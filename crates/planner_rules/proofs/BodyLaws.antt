@@ -18,13 +18,14 @@ use Rattle.planner_rules.specs.Pages.{or_empty}
 use Rattle.planner_rules.specs.Plan.{AxisInput, title_of, start_of, body_of, space_on, cut_runs, page_runs}
 use Rattle.planner_rules.specs.Division.{◌∈◌, Division, kept_breaks, InOneRun, FewestRuns}
 use Rattle.planner_rules.specs.Demand.{IsBody, Bare, body_indexes, body_sizes, capacity_beside}
-use Rattle.planner_rules.proofs.Laws.{rising-take, rising-drop, length-mid, split}
+use Rattle.planner_rules.proofs.Laws.{rising-take, rising-drop, split}
 use Rattle.planner_rules.proofs.EndLaws.{below-le}
 use Rattle.planner_rules.proofs.Places.{below_up_to, below_past_it}
 use Rattle.planner_rules.proofs.Whole.{axis_division}
 use Rattle.planner_rules.proofs.OneRun.{axis_covered}
 use Rattle.planner_rules.proofs.Fewest.{axis_fewest_runs, kept_plain}
 use Rattle.planner_rules.proofs.Cuts.{counts}
+use Rattle.std.proofs.lemmas.List.Edits.{length-between}
 
 -- ---- places of indexes
 
@@ -50,14 +51,14 @@ module _ (a : AxisInput) where
   pub body_few : length (body_indexes a) ≤ length a.indexes
   body_few =
       let h = below-le (a.last + 1) a.indexes in
-      omega (arith, length-mid from to a.indexes h, h)
+      omega (arith, length-between a.indexes from to h, h)
 
   module _ (even : length a.indexes ≡ length a.sizes) where
     -- the body has as many indexes as sizes
     pub body_even : length (body_indexes a) ≡ length (body_sizes a)
     body_even =
         let h = below-le (a.last + 1) a.indexes in
-        length-mid from to a.indexes h ∙ sym (length-mid from to a.sizes (omega arith))
+        length-between a.indexes from to h ∙ sym (length-between a.sizes from to (omega arith))
 
   module _ (rising : Rising a.indexes) where
     pub body_rising : Rising (body_indexes a)
@@ -70,7 +71,7 @@ module _ (a : AxisInput) where
         let low : from ≤ k = below_up_to (start_of a) a.indexes k h (omega (arith, b.from_start)) in
         let high : k < to = below_past_it (a.last + 1) a.indexes rising k h (omega (arith, b.to_last)) in
         let back : from + (k - from) ≡ k = omega arith in
-        let many = length-mid from to a.indexes (below-le (a.last + 1) a.indexes) in (
+        let many = length-between a.indexes from to (below-le (a.last + 1) a.indexes) in (
           k - from,
           omega arith,
           get_or-take (to - from) (drop from a.indexes) (k - from) 0 (omega arith) ∙ get_or-drop from a.indexes (k - from) 0 ∙ rw back e,
@@ -83,7 +84,7 @@ module _ (a : AxisInput) where
         let is : List ℕ = a.indexes in
         let most = below-le (a.last + 1) is in
         let k : ℕ = from + j in
-        let many : length (body_indexes a) ≡ to - from = length-mid from to is most in
+        let many : length (body_indexes a) ≡ to - from = length-between is from to most in
         let in_to : k < to = omega arith in
         let inside : k < length is = omega arith in
         let same : get_or is k 0 ≡ i = sym (get_or-take (to - from) (drop from is) j 0 (omega arith) ∙ get_or-drop from is j 0) ∙ e in

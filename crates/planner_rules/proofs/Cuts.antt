@@ -1,21 +1,23 @@
 -- The runs of an axis from kept cut to kept cut: what holds of each run of each stretch holds of each run of the axis. Assumes nothing.
-use mathlib.Core.Path.{◌≡◌, refl, sym, ap}
+use mathlib.Core.Path.{◌≡◌, refl, sym, ap, ◌∙◌}
 use mathlib.Core.Logic.{◌⊎◌, inl, inr, ⊎_elim, ⊎_map}
 use mathlib.Core.Bool.{cond}
 use mathlib.Core.List.{List, [], ◌∷◌, ◌++◌, map}
 use Prim.Native.Nat.{ℕ, zero, suc, ◌+◌, ◌-◌, ◌≤◌, ◌<◌}
-use native.Mathlib.Nat.{lt_irrefl, sub_self, sub-zero, zero-sub, suc-sub-suc}
+use native.Mathlib.Nat.{lt_irrefl, sub_self}
 use native.Mathlib.Omega.{arith}
-use lib.ListN.{length, take, drop}
-use lib.Seq.{take-nil, drop-drop}
+use lib.ListN.{length, drop}
+use lib.Seq.{drop-drop}
 use lib.Dec.{ltb}
 use Rattle.planner_rules.specs.declared.runs.Frame.{Frame}
 use Rattle.planner_rules.specs.declared.runs.Cut.{Cut}
 use Rattle.planner_rules.specs.Slots.{mid, below}
-use Rattle.planner_rules.specs.Runs.{Run, runs_by, runs, kept, placed, next_cut, first_marked, stretch, axis_runs}
+use Rattle.planner_rules.specs.Runs.{Run, runs_by, runs, kept, placed, next_cut, first_marked, stretch, axis_runs, with_mark}
 use Rattle.planner_rules.specs.Division.{◌∈◌}
-use Rattle.planner_rules.proofs.Laws.{either_lt, length-mid, step, none, split}
+use Rattle.planner_rules.proofs.Laws.{either_lt, step, none, split}
 use Rattle.planner_rules.proofs.Division.{Chain, done, link, chain_append, chain_end}
+use Rattle.std.proofs.lemmas.List.Edits.{length-between}
+use Rattle.std.proofs.lemmas.Slice.{between_is}
 
 abbrev pub slots_of : Run → ℕ
 slots_of r = r.slots
@@ -34,14 +36,8 @@ kept_cuts k fs ls is prev (b ∷ bs) =
 
 -- ---- a part of a part
 
-drop-take : {A : Type 0} (n m : ℕ) (l : List A) → drop n (take m l) ≡ take (m - n) (drop n l)
-drop-take zero m l = rw (sub-zero m)
-drop-take (suc n) zero l = rw (zero-sub (suc n))
-drop-take (suc n) (suc m) [] = sym (take-nil (suc m - suc n))
-drop-take (suc n) (suc m) (x ∷ l) = rw (suc-sub-suc m n) (drop-take n m l)
-
 drop-mid : {A : Type 0} (n p e : ℕ) (l : List A) → drop n (mid p e l) ≡ mid (p + n) e l
-drop-mid n p e l = let d : e - p - n ≡ e - (p + n) = omega arith in rw (drop-take, drop-drop, d)
+drop-mid n p e l = let d : e - p - n ≡ e - (p + n) = omega arith in sym (between_is (drop p l) n (e - p)) ∙ rw (drop-drop, d)
 
 -- ---- between two cuts
 
@@ -52,7 +48,7 @@ Taken at R is ss p e = let r = at (mid p e is) (mid p e ss) in (1 ≤ r.slots) �
 module _ (at : List ℕ → List ℕ → Run) (R : ℕ → Run → Type 0) (is ss : List ℕ) (a e : ℕ) (even : length is ≡ length ss) (inside : e ≤ length ss)
     (good : (p : ℕ) → a ≤ p → p < e → Taken at R is ss p e) where
   none_left : (p : ℕ) → p ≡ e → Chain slots_of R p (runs_by at zero (mid p e is) (mid p e ss)) e
-  none_left p h = rw (none at (mid p e is) (mid p e ss) (simp length-mid (omega arith))) (chain_end h)
+  none_left p h = rw (none at (mid p e is) (mid p e ss) (simp length-between (omega arith))) (chain_end h)
 
   from : (f p : ℕ) → a ≤ p → p ≤ e → e ≤ p + f → Chain slots_of R p (runs_by at zero (mid p e is) (mid p e ss)) e
   from zero p h k d = none_left p (omega arith)
@@ -60,17 +56,13 @@ module _ (at : List ℕ → List ℕ → Run) (R : ℕ → Run → Type 0) (is s
       split e p (λ l. none_left p (omega arith))
       (λ l. let g = good p h l in
       let n : ℕ = (at (mid p e is) (mid p e ss)).slots in
-      let i = length-mid p e is (omega arith) in
-      let s = length-mid p e ss inside in
+      let i = length-between is p e (omega arith) in
+      let s = length-between ss p e inside in
       rw (step at (mid p e is) (mid p e ss) (omega arith) (omega arith) g.0, drop-mid n p e is, drop-mid n p e ss)
       (link g.0 g.2 (from f (p + n) (omega arith) g.1 (omega arith))))
 
   pub runs_chain : a ≤ e → Chain slots_of R a (runs_by at zero (mid a e is) (mid a e ss)) e
   runs_chain h = from e a (omega arith) h (omega arith)
-
--- a run with the mark m
-abbrev pub marked : ℕ → Run → Run
-marked m r = record { first = r.first; last = r.last; size = r.size; slots = r.slots; grown = r.grown; manual = m }
 
 past_chain : (a : ℕ) {Q R : ℕ → Run → Type 0} → ((p : ℕ) (r : Run) → a < p → Q p r → R p r) → {p : ℕ} {rs : List Run} {n : ℕ} → a < p
     → Chain slots_of Q p rs n → Chain slots_of R p rs n
@@ -78,7 +70,7 @@ past_chain a f h done = done
 past_chain a f h (link z q c) = link z (f _ _ h q) (past_chain a f (omega arith) c)
 
 -- where the first run is marked: R has to hold of the run at a with that mark, and of runs past a as they are
-pub marked_chain : (m a : ℕ) {Q R : ℕ → Run → Type 0} → ((r : Run) → Q a r → R a (marked m r)) → ((p : ℕ) (r : Run) → a < p → Q p r → R p r)
+pub marked_chain : (m a : ℕ) {Q R : ℕ → Run → Type 0} → ((r : Run) → Q a r → R a (with_mark m r)) → ((p : ℕ) (r : Run) → a < p → Q p r → R p r)
     → {rs : List Run} {n : ℕ} → Chain slots_of Q a rs n → Chain slots_of R a (first_marked m rs) n
 unfolding first_marked
 marked_chain m a f g done = done

@@ -37,27 +37,29 @@ use Rattle.planner_rules.specs.Division.{LiesIn, InOneRun}
 use Rattle.planner_rules.specs.Fitting.{Chosen}
 use Rattle.planner_rules.specs.Demand.{Finished, IsArea, areas_before, pages_before, rows_from, columns_from, IsOwn, OnPage, OnOnePage, CoversPairs}
 use Rattle.planner_rules.specs.Demand.{Bare, FewestPlan, Exceeds, EachReaches, LargestPlan}
-use Rattle.planner_rules.proofs.QuestionLaws.{both, rising_of}
+use Rattle.planner_rules.proofs.QuestionLaws.{rising_of}
 use Rattle.planner_rules.proofs.Lent.{stands, runs_length, field_at, flat-length}
 use Rattle.planner_rules.proofs.PageLaws.{vertical_of, horizontal_of, before_of, numbered_take, page_after}
 use Rattle.planner_rules.proofs.PageLaws.{vertical_below, horizontal_below, before_of_place, before_below, vertical_is, horizontal_is}
-use Rattle.planner_rules.proofs.AreaLists.{numbered-map, every_one, before_and_it, take-map, over_map}
+use Rattle.planner_rules.proofs.AreaLists.{numbered-map, every_one, before_and_it, over_map}
 use Rattle.planner_rules.proofs.AreaLists.{over_same, how_many, together_length, from_area}
 use Rattle.planner_rules.proofs.AreaPages.{own_page}
 use Rattle.planner_rules.proofs.PlanLaws.{formed_of}
 use Rattle.planner_rules.proofs.BodyLaws.{body_even, page_runs_cover, bare_total, page_runs_fewest}
 use Rattle.planner_rules.proofs.Largest.{Plain, scale_chosen}
 use Rattle.planner_rules.proofs.NoTen.{sides_given}
+use Rattle.std.proofs.lemmas.Bool.{and_parts}
+use Rattle.std.proofs.lemmas.List.{take-map}
 
 -- ---- what a plan that was given says of the questions
 
 pub ask_yes : {A : Type 0} (n : ℕ) (b : Bool) (o : Outcome A) (x : A) → ask n b o ≡ given x → (b ≡ true) × (o ≡ given x)
 ask_yes n true o x e = (refl, e)
-ask_yes n false o x e = let z : ◌≡◌ {A = ℕ} 0 1 = cc in absurd (omega arith)
+ask_yes n false o x e = absurd cc
 
 pub then_yes : {A B : Type 0} (o : Outcome A) (f : A → Outcome B) (y : B) → and_then o f ≡ given y → (x : A) × (o ≡ given x) × (f x ≡ given y)
 then_yes (given x) f y e = (x, refl, e)
-then_yes (refused n) f y e = let z : ◌≡◌ {A = ℕ} 0 1 = cc in absurd (omega arith)
+then_yes (refused n) f y e = absurd cc
 
 same_sides : {o : Outcome Sides} {x c : Sides} → o ≡ given x → o ≡ given c → x ≡ c
 same_sides e f = cc
@@ -132,14 +134,14 @@ sound : (s : Sheet) (areas : List PrintRange) → formed s areas ≡ true → in
 unfolding in_grid
 sound s areas six seven eight =
     let even = formed_of s areas six in
-    let rise = both (rising_within (limit_of Rows) s.row_indexes) (rising_within (limit_of Columns) s.column_indexes) eight in
+    let rise = and_parts (rising_within (limit_of Rows) s.row_indexes) (rising_within (limit_of Columns) s.column_indexes) eight in
     let merges = all_within (limit_of Rows) s.merge_last_rows && all_within (limit_of Columns) s.merge_last_columns in
     record {
       rows_even = even.rows_even;
       columns_even = even.columns_even;
       rows_rise = rising_of (limit_of Rows) s.row_indexes rise.0;
       columns_rise = rising_of (limit_of Columns) s.column_indexes rise.1;
-      inside = (both merges (every_area inside_grid areas) seven).1;
+      inside = (and_parts merges (every_area inside_grid areas) seven).1;
     }
 
 pub record Done (s : Sheet) (areas : List PrintRange) (plan : Plan) (rows columns : List ℕ) : Type 0 where
@@ -170,7 +172,7 @@ module _ (s : Sheet) (areas : List PrintRange) (rows₀ columns₀ rows columns 
       let same : k ≡ l = cc in
       let q : Planned (given k) r rows₀ columns₀ rows columns =
       subst (λ (o : Outcome Layout). Planned o r rows₀ columns₀ rows columns) (e ∙ sym last) p in
-      let count = both (leb 1 (length areas)) (leb (length areas) 8) y.four in
+      let count = and_parts (leb 1 (length areas)) (leb (length areas) 8) y.four in
       subst (λ (l : Layout). Done s areas l.plan rows columns) same (record {
         sides = c;
         sides_are = y.sides_are;
@@ -272,7 +274,7 @@ module _ (s : Sheet) (areas : List PrintRange) (plan : Plan) (rows columns : Lis
         let so_many : ℕ = over_areas (how_many (λ (l : AreaLayout). l.rows)) (take (n - 1) ls) in
         let many : row_runs (areas_before plan n) ≡ so_many = ap row_runs before_are ∙ rows_of (take (n - 1) gs)
         ∙ ap (over_areas (how_many (λ (l : AreaLayout). l.rows))) (sym (take-map (area_layout c s) (n - 1) gs)) in
-        let two = both (leb g.last_row last_row) (leb g.last_column last_column) range_in_grid in
+        let two = and_parts (leb g.last_row last_row) (leb g.last_column last_column) range_in_grid in
         rw (row_count g) (shows (rows_in s g) (area_layout c s g).rows (rows_from plan n rows) f.others d.is_sound.rows_even
         (leb-true _ _ two.0) d.is_sound.rows_rise (ap (λ (k : ℕ). after_runs k rows) many ∙ ap (after_runs so_many) d.rows_are ∙ f.from_it))
 
@@ -284,7 +286,7 @@ module _ (s : Sheet) (areas : List PrintRange) (plan : Plan) (rows columns : Lis
         let so_many : ℕ = over_areas (how_many (λ (l : AreaLayout). l.columns)) (take (n - 1) ls) in
         let many : column_runs (areas_before plan n) ≡ so_many = ap column_runs before_are ∙ columns_of (take (n - 1) gs)
         ∙ ap (over_areas (how_many (λ (l : AreaLayout). l.columns))) (sym (take-map (area_layout c s) (n - 1) gs)) in
-        let two = both (leb g.last_row last_row) (leb g.last_column last_column) range_in_grid in
+        let two = and_parts (leb g.last_row last_row) (leb g.last_column last_column) range_in_grid in
         rw (column_count g) (shows (columns_in s g) (area_layout c s g).columns (columns_from plan n columns) f.others d.is_sound.columns_even
         (leb-true _ _ two.1) d.is_sound.columns_rise (ap (λ (k : ℕ). after_runs k columns) many ∙ ap (after_runs so_many) d.columns_are ∙ f.from_it))
 

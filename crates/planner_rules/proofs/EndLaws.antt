@@ -13,13 +13,14 @@ use Rattle.std.specs.Prelude.{Option, Some, None}
 use Rattle.planner_rules.specs.declared.titles.Span.{Span}
 use Rattle.planner_rules.specs.declared.titles.Title.{Title}
 use Rattle.planner_rules.specs.declared.titles.Title.TheVariants.{Pair}
-use Rattle.planner_rules.proofs.Laws.{part, rest, either, either_lt}
+use Rattle.planner_rules.proofs.Laws.{part, either, either_lt}
 use lib.Dec.{leb, ltb}
 use Rattle.planner_rules.specs.declared.runs.RunEnd.{RunEnd}
 use Rattle.planner_rules.specs.declared.runs.Frame.{Frame}
 use Rattle.planner_rules.specs.Slots.{below, through}
 use Rattle.planner_rules.specs.Titles.{holds, title_holds}
 use Rattle.planner_rules.specs.Runs.{merge_step, merged, again, resumed, resumption, filled, taken, holding}
+use Rattle.std.proofs.lemmas.List.{take_rest}
 
 -- ---- slots below a limit
 
@@ -69,7 +70,7 @@ module _ (title : Title) (f l cap n : ℕ) (is ss : List ℕ) (h : title ≡ Pai
   unfolding resumption title_holds
   goes_on p =
       let q : holds f l (get_or is n 0) ≡ true = p in
-      rw (h, q, rest n is, rest n ss)
+      rw (h, q, take_rest is n, take_rest ss n)
 
   pub ends_there : title_holds (Pair f l) (get_or is n 0) ≡ false → n ≡ resumption title cap n is ss
   unfolding resumption title_holds

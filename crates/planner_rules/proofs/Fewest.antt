@@ -8,7 +8,7 @@ use native.Mathlib.Omega.{arith}
 use lib.ListN.{length, get_or, take, drop}
 use lib.Seq.{take-add, take-take}
 use lib.Dec.{leb, ltb}
-use borrow.Author.Tests.{le-leb, lt-leb, lt-ltb, le-ltb}
+use borrow.Author.Tests.{lt-ltb, le-ltb, leb-true, leb-false}
 use Rattle.planner_rules.specs.declared.titles.Title.{Title}
 use Rattle.planner_rules.specs.declared.titles.Title.TheVariants.{Absent}
 use Rattle.planner_rules.specs.declared.runs.Frame.{Frame}
@@ -20,12 +20,14 @@ use Rattle.planner_rules.specs.Runs.{Run, more, natural, capacity_at, filled, re
 use Rattle.planner_rules.specs.Runs.{moved, placed, kept, next_cut, stretch, axis_runs}
 use Rattle.planner_rules.specs.Lent.{firsts, lasts, sizes}
 use Rattle.planner_rules.specs.Division.{Fewest, FewestRuns, kept_breaks}
-use Rattle.planner_rules.proofs.Laws.{sum-append, either, natural_pos, natural-le, length-mid, split}
+use Rattle.planner_rules.proofs.Laws.{sum-append, either, natural_pos, natural-le, split}
 use Rattle.planner_rules.proofs.AxisLaws.{placed_zero, placed_past, placed_moved, kept_yes, kept_low}
 use Rattle.planner_rules.proofs.Division.{Chain, done, link, Counts, chain_le, chain_counts, division_of, total, Good, cuts_from, within_from}
 use Rattle.planner_rules.proofs.Division.{chain_of}
 use Rattle.planner_rules.proofs.Cuts.{kept_cuts, counts, slots_of, Stretch, marked_chain, runs_chain, axis_chain, kept_ordered, ordered_in}
 use Rattle.planner_rules.proofs.Whole.{axis_tells}
+use Rattle.std.proofs.lemmas.List.Edits.{length-between}
+use Rattle.std.proofs.lemmas.Bool.{cond_both}
 
 -- ---- runs none of which could be one slot longer are the fewest
 
@@ -65,7 +67,7 @@ abbrev Fills : ℕ → ℕ → List ℕ → ℕ → Type 0
 Fills cap s xs n = (1 ≤ n → s + sum (take n xs) ≤ cap) × (n < length xs → cap < s + sum (take (suc n) xs))
 
 either_le : (P : ℕ → Type 0) (a b : ℕ) {x y : ℕ} → (a ≤ b → P x) → (b < a → P y) → P (cond (leb a b) x y)
-either_le P a b f g = split a b (λ h. rw (le-leb a b h) (f h)) (λ h. rw (lt-leb a b h) (g h))
+either_le P a b {x} {y} f g = cond_both (leb a b) x y P (λ e. f (leb-true a b e)) (λ e. g (leb-false a b e))
 
 more_fills : (cap s : ℕ) (xs : List ℕ) → Fills cap s xs (more cap s xs)
 unfolding more sum
@@ -109,7 +111,7 @@ Greedy cap cuts xs p m = Good cap cuts xs p m × (p + m < length xs → ¬ (Good
 greedy : (cap : ℕ) (cuts xs : List ℕ) (a e : ℕ) → Stretch cuts (length xs) a e
     → (p m : ℕ) → a ≤ p → p < e → m ≡ natural cap (mid p e xs) → (1 ≤ m) × (p + m ≤ e) × Greedy cap cuts xs p m
 greedy cap cuts xs a e s p m h l n =
-    let len = length-mid p e xs s.inside in
+    let len = length-between xs p e s.inside in
     let f = natural_fills cap (mid p e xs) m n in
     let low : 1 ≤ m = omega (arith, natural_pos cap (mid p e xs) (omega arith)) in
     let high : p + m ≤ e = omega (arith, natural-le cap (mid p e xs)) in

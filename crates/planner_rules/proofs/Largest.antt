@@ -2,7 +2,7 @@
 -- division that meets its target and whose runs all fit the page. Assumes nothing.
 use mathlib.Core.Path.{◌≡◌, refl, sym, ap, ◌∙◌}
 use mathlib.Core.Logic.{◌↔◌, ◌⊎◌, inl, inr, ⊎_elim}
-use mathlib.Core.Bool.{Bool, true, false, cond, true≢false, ◌&&◌}
+use mathlib.Core.Bool.{true, cond, ◌&&◌}
 use mathlib.Core.List.{List, [], ◌∷◌, ◌++◌, map}
 use Prim.Native.Nat.{ℕ, zero, suc, ◌+◌, ◌-◌, ◌*◌, ◌/◌, ◌^◌, ◌≤◌, ◌<◌, max}
 use native.Mathlib.Nat.{le-div_iff_mul-le, mul-le-mul_left, mul-le-mul_right, le_trans, add-zero, div-le_self}
@@ -32,6 +32,8 @@ use Rattle.planner_rules.proofs.Whole.{axis_tells}
 use Rattle.planner_rules.proofs.Fewest.{axis_fewest}
 use Rattle.planner_rules.proofs.Halving.{fit_chosen}
 use Rattle.planner_rules.proofs.Cuts.{counts, kept_cuts}
+use Rattle.std.proofs.lemmas.Bool.{and_parts, and_from}
+use Rattle.units.proofs.Signs.{inside}
 
 -- ---- slots of runs
 
@@ -160,13 +162,9 @@ module _ (side headings p : ℕ) (low : 0 < p) (high : p ≤ 1000) (room : headi
 
 -- ---- capacity and fitting as the planner finds them
 
-inside : (n : ℕ) → n < 2 ^ 63 → in_i64 (pos n) ≡ given (pos n)
-unfolding in_i64
-inside n h = rw (lt-ltb n (2 ^ 63) h)
-
 -- never under 1
 one-pos : (n : ℕ) → n < 2 ^ 63 → nat_abs (at_least_one (in_i64 (pos n))) ≡ max 1 n
-one-pos n h = rw (inside n h) (split 1 n (λ l. rw (le-leb 1 n l) (omega arith)) (λ l. rw (lt-leb 1 n l) (omega arith)))
+one-pos n h = rw (inside (pos n) h) (split 1 n (λ l. rw (le-leb 1 n l) (omega arith)) (λ l. rw (lt-leb 1 n l) (omega arith)))
 
 one-neg : (n : ℕ) → nat_abs (at_least_one (in_i64 (negsuc n))) ≡ 1
 unfolding in_i64
@@ -182,7 +180,7 @@ pub capacity_is : (n h p : ℕ) → 0 < p → n * 1000 / p < 2 ^ 63 → units (u
 unfolding unscaled_capacity
 capacity_is n h p low k =
     let q : ℕ = n * 1000 / p in
-    rw (ne_eqb p 0 (λ e. omega arith), inside q k, add-zero, inside q k) (less_one q h k)
+    rw (ne_eqb p 0 (λ e. omega arith), inside (pos q) k, add-zero, inside (pos q) k) (less_one q h k)
 
 -- a size scaled and rounded, beside a side within i64
 fits_side_lem : (s : Space) (n p x : ℕ) → s.side ≡ pos n → n < 2 ^ 63 → fits_side s p x ≡ leb ((p * x + 500) / 1000) n
@@ -200,10 +198,6 @@ runs_whole k fs ls is ss even =
     rw (take_all (length ss - 0) is (omega arith), take_all (length ss - 0) ss (omega arith)) (unmarked k fs ls is ss)
 
 -- ---- the test of an axis is the demand's
-
-both_true : (a b : Bool) → ((a && b) ≡ true) ↔ ((a ≡ true) × (b ≡ true))
-both_true true b = ((λ e. (refl, e)), λ e. e.1)
-both_true false b = ((λ e. absurd (true≢false (sym e))), λ e. absurd (true≢false (sym e.0)))
 
 meets_is : (target n : ℕ) → (meets target n ≡ true) ↔ MeetsTarget target n
 meets_is zero n = ((λ e z. absurd (z refl)), λ h. refl)
@@ -234,13 +228,13 @@ module _ (s : Space) (b : Body) (n : ℕ) (plain : Plain s b n) (p : ℕ) (low :
   all_fit_lem : (rs : List Run) → all_fit s b p rs ≡ true → (z : ℕ) → z ∈ sizes rs → Rounded z
   unfolding all_fit
   all_fit_lem [] e z x'' = elim x'' [ ]
-  all_fit_lem (r ∷ rs) e z (inl i) = rw i (leb-true _ n (sym (run_fits r) ∙ ((both_true (fits_side s p (rendered s b r)) _).0 e).0))
-  all_fit_lem (r ∷ rs) e z (inr i) = all_fit_lem rs ((both_true (fits_side s p (rendered s b r)) _).0 e).1 z i
+  all_fit_lem (r ∷ rs) e z (inl i) = rw i (leb-true _ n (sym (run_fits r) ∙ (and_parts (fits_side s p (rendered s b r)) _ e).0))
+  all_fit_lem (r ∷ rs) e z (inr i) = all_fit_lem rs (and_parts (fits_side s p (rendered s b r)) _ e).1 z i
 
   fit_all : (rs : List Run) → ((z : ℕ) → z ∈ sizes rs → Rounded z) → all_fit s b p rs ≡ true
   unfolding all_fit
   fit_all [] f = refl
-  fit_all (r ∷ rs) f = (both_true _ _).1 (run_fits r ∙ le-leb _ n (f r.size (inl refl)), fit_all rs (λ z i. f z (inr i)))
+  fit_all (r ∷ rs) f = and_from _ _ (run_fits r ∙ le-leb _ n (f r.size (inl refl))) (fit_all rs (λ z i. f z (inr i)))
 
   runs_fit_lem : (rs : List Run) → (runs_fit s b p rs ≡ true) ↔ ((z : ℕ) → z ∈ sizes rs → Rounded z)
   unfolding runs_fit
@@ -270,7 +264,7 @@ module _ (s : Space) (b : Body) (n : ℕ) (plain : Plain s b n) (p : ℕ) (low :
   unfolding axis_passes
   passes_reaches target e =
       let rs : List Run = runs_at s b p in
-      let (fit, met) = (both_true _ _).0 e in
+      let (fit, met) = and_parts _ _ e in
       record {
         slots = counts rs;
         division = runs_fewest.division;
@@ -288,7 +282,7 @@ module _ (s : Space) (b : Body) (n : ℕ) (plain : Plain s b n) (p : ℕ) (low :
       let rounded : (z : ℕ) → z ∈ sizes rs → Rounded z = λ z i.
       let (run, j, e) = of_map sum z (pieces (counts rs) b.sizes) (rw runs_tell at i) in
       rw e (fits_rounded n s.headings p low high plain.room run (fit run j)) in
-      (both_true _ _).1 ((runs_fit_lem rs).1 rounded, (meets_is target (length rs)).1 (rw many at met))
+      and_from _ _ ((runs_fit_lem rs).1 rounded) ((meets_is target (length rs)).1 (rw many at met))
 
   pub passes_is : (target : ℕ) → (axis_passes s b target p ≡ true) ↔ Reaches n s.headings target b.sizes p
   passes_is target = (passes_reaches target, reaches_passes target)
@@ -303,6 +297,5 @@ scale_chosen rs cs rb cb height width high wide r c =
     fit_chosen _ _
     (λ p l h. let i = passes_is rs rb height r p (omega arith) h high in
     let j = passes_is cs cb width c p (omega arith) h wide in
-    let both = both_true (axis_passes rs rb high p) (axis_passes cs cb wide p) in
-    ((λ e. let (u, v) = both.0 e in (i.0 u, j.0 v)), λ g. both.1 (i.1 g.0, j.1 g.1)))
+    ((λ e. let (u, v) = and_parts (axis_passes rs rb high p) (axis_passes cs cb wide p) e in (i.0 u, j.0 v)), λ g. and_from _ _ (i.1 g.0) (j.1 g.1)))
     (λ p q l g. (reaches_lower height rs.headings high rb.sizes p q l g.0, reaches_lower width cs.headings wide cb.sizes p q l g.1))

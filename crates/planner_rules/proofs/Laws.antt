@@ -1,5 +1,5 @@
 -- Laws of filling, of lists of runs and of parts of slots (`specs/Slots.antt`, `specs/Runs.antt`), for the loops of `planner`. Assumes nothing.
-use mathlib.Core.Path.{◌≡◌, refl, sym, ap, ◌∙◌, subst}
+use mathlib.Core.Path.{◌≡◌, refl, sym, ap, ◌∙◌}
 use mathlib.Core.List.{List, [], ◌∷◌, ◌++◌}
 use Prim.Native.Nat.{ℕ, zero, suc, pred, ◌+◌, ◌-◌, ◌≤◌, ◌<◌, ◌^◌, min}
 use native.Mathlib.Nat.{not-suc-le-zero, lt_of_not-le}
@@ -7,14 +7,17 @@ use native.Mathlib.Decide.{dec_le}
 use native.Mathlib.Numerals.{add-one}
 use native.Mathlib.Omega.{arith}
 use lib.ListN.{length, get_or, take, drop, length-take, length-drop, drop_of_length-le, get_or-eq_default}
-use lib.Seq.{take-add, drop-cons, drop-drop, drop-length, take_all, get_or-drop, get_or-take, length-take-le}
-use borrow.Author.Tests.{le-leb, lt-leb, lt-ltb, le-ltb}
-use mathlib.Core.Bool.{Bool, true, false, cond, not, ◌&&◌, and-true}
+use lib.Seq.{take-add, drop-cons, drop-drop, drop-length, get_or-drop, get_or-take, length-take-le}
+use borrow.Author.Tests.{le-leb, lt-leb, ltb-true, ltb-false}
+use mathlib.Core.Bool.{Bool, true, false, cond, not, ◌&&◌, and-true, and_assoc, and_comm}
 use mathlib.Core.Logic.{◌⊎◌, inl, inr}
 use lib.Dec.{leb, ltb, lit<}
 use Rattle.planner_rules.specs.Slots.{Small, Rising, Slots, sum, mid}
 use Rattle.planner_rules.specs.Titles.{no_merge}
 use Rattle.planner_rules.specs.Runs.{more, natural, Run, runs_by}
+use Rattle.std.proofs.lemmas.List.{take_rest}
+use Rattle.std.proofs.lemmas.List.Edits.{length-between}
+use Rattle.std.proofs.lemmas.Bool.{cond_both}
 
 -- what holds of both is true of the one picked
 pub either {ℓ} : {X : Type ℓ} (P : X → Type 0) (b : Bool) {x y : X} → P x → P y → P (cond b x y)
@@ -113,12 +116,8 @@ step at (i ∷ is) (s ∷ ss) h e p = go (at (i ∷ is) (s ∷ ss)) p
 abbrev pub part : {A : Type 0} → ℕ → List A → List A
 part n l = take (length l - n) (drop n l)
 
--- it is what is left after n
-pub rest : {A : Type 0} (n : ℕ) (l : List A) → part n l ≡ drop n l
-rest n l = take_all (length l - n) (drop n l) (simp length-drop (omega arith))
-
 pub length_part : {A : Type 0} (n : ℕ) (l : List A) → length (part n l) ≡ length l - n
-length_part n l = ap length (rest n l) ∙ length-drop n l
+length_part n l = ap length (take_rest l n) ∙ length-drop n l
 
 -- indexes still rise in a part
 
@@ -135,7 +134,7 @@ small-drop n l s = record { few = simp length-drop (omega (arith, s.few)); each 
 -- a turn of a loop that takes run after run: the run at the head, and the runs of the parts after it
 pub turn : (at : List ℕ → List ℕ → Run) (n : ℕ) (is ss : List ℕ) → Slots is ss → 0 < length ss → n ≡ (at is ss).slots → 1 ≤ n
     → runs_by at zero is ss ≡ at is ss ∷ runs_by at zero (part n is) (part n ss)
-turn at n is ss h p e q = rw (rest n is, rest n ss, e) (step at is ss (omega arith) h.even (omega arith))
+turn at n is ss h p e q = rw (take_rest is n, take_rest ss n, e) (step at is ss (omega arith) h.even (omega arith))
 
 -- no slots, no runs
 pub none : (at : List ℕ → List ℕ → Run) (is ss : List ℕ) → length ss ≤ 0 → runs_by at zero is ss ≡ []
@@ -166,10 +165,7 @@ module _ (p : ℕ → ℕ → Bool) where
   none_left (f ∷ fs) = refl
 
   swap : (a b c : Bool) → a && (b && c) ≡ (b && a) && c
-  swap true true c = refl
-  swap true false c = refl
-  swap false true c = refl
-  swap false false c = refl
+  swap a b c = sym (and_assoc a b c) ∙ ap (λ (t : Bool). t && c) (and_comm a b)
 
   -- one merge more is asked, whatever was found before it
   pub none_asked : (fs ls : List ℕ) (f l : ℕ) (gs ms : List ℕ) (so_far all : Bool) → fs ≡ f ∷ gs → ls ≡ l ∷ ms
@@ -243,24 +239,17 @@ small-take n l h s = record { few = simp length-take-le (omega (arith, s.few)); 
         ]
 
 -- the same with what the test says
-pub either_lt {ℓ} : {X : Type ℓ} (P : X → Type 0) (a b : ℕ) {x y : X} → (a < b → P x) → (b ≤ a → P y) → P (cond (ltb a b) x y)
-either_lt P a b {x} {y} f g =
-    elim (dec_le (suc a) b) [
-      | yes h ↦ subst (λ (t : Bool). P (cond t x y)) (sym (lt-ltb a b h)) (f h)
-      | no h ↦ subst (λ (t : Bool). P (cond t x y)) (sym (le-ltb a b (omega (arith, lt_of_not-le h)))) (g (omega (arith, lt_of_not-le h)))
-    ]
+pub either_lt : {X : Type 0} (P : X → Type 0) (a b : ℕ) {x y : X} → (a < b → P x) → (b ≤ a → P y) → P (cond (ltb a b) x y)
+either_lt P a b {x} {y} f g = cond_both (ltb a b) x y P (λ e. f (ltb-true a b e)) (λ e. g (ltb-false a b e))
 
 -- ---- the part `&l[a..e]`
-
-pub length-mid : {A : Type 0} (a e : ℕ) (l : List A) → e ≤ length l → length (mid a e l) ≡ e - a
-length-mid a e l h = length-take-le (e - a) (drop a l) (simp length-drop (omega arith))
 
 pub small-mid : (a e : ℕ) (l : List ℕ) → e ≤ length l → Small l → Small (mid a e l)
 small-mid a e l h s = small-take (e - a) (drop a l) (simp length-drop (omega arith)) (small-drop a l s)
 
 pub slots_mid : (a e : ℕ) (is ss : List ℕ) → e ≤ length ss → Slots is ss → Slots (mid a e is) (mid a e ss)
 slots_mid a e is ss h s = record {
-  even = length-mid a e is (omega (arith, s.even)) ∙ sym (length-mid a e ss h);
+  even = length-between is a e (omega (arith, s.even)) ∙ sym (length-between ss a e h);
   small = small-mid a e ss h s.small;
   rising = rising-take (e - a) (drop a is) (rising-drop a is s.rising);
 }

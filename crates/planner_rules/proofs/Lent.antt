@@ -1,17 +1,18 @@
 -- A loop that writes a lent list from its front, and runs in it, one after another. Assumes nothing.
 use mathlib.Core.Path.{◌≡◌, refl, sym, ap, ◌∙◌}
-use mathlib.Core.List.{List, [], ◌∷◌, ◌++◌, map, append-nil, append_assoc}
+use mathlib.Core.List.{List, [], ◌∷◌, ◌++◌, map, append-nil, append_assoc, map-map}
 use Prim.Native.Nat.{ℕ, zero, suc, ◌+◌, ◌*◌, ◌-◌, ◌≤◌, ◌<◌}
 use native.Mathlib.Numerals.{add-one}
 use native.Mathlib.Omega.{arith}
 use lib.ListN.{length, get_or, take, drop, set, length-set, take-append-drop, length-append, length-drop, drop_of_length-le}
 use lib.Seq.{take-suc-set, drop-set-lt, append_snoc, drop-drop, get_or-drop, length-take-le, take_at, drop_at}
 use borrow.Rule.Slice.PartMut.{put_mid}
-use Rattle.planner_rules.proofs.Laws.{part, rest}
+use Rattle.planner_rules.proofs.Laws.{part}
 use Rattle.planner_rules.specs.Slots.{written}
 use Rattle.planner_rules.specs.Runs.{Run}
 use Rattle.planner_rules.specs.Lent.{run_numbers, numbers_of, flat, room_in, number_at, first_run, runs_in, firsts, lasts, sizes, Room, RoomAt, Written}
 use Rattle.planner_rules.specs.Lent.{WrittenAt}
+use Rattle.std.proofs.lemmas.List.{take_rest}
 
 -- `new` is `old` with the first k values of `whole` written to its front; `left` are the values to come
 pub record Wrote (whole old : List ℕ) (k : ℕ) (left new : List ℕ) : Type 0 where
@@ -66,18 +67,6 @@ unfolding runs_in flat
 runs_bare [] more = refl
 runs_bare (r ∷ rs) more = ap (λ (l : List Run). bare r ∷ l) (runs_bare rs more)
 
-same_firsts : (rs : List Run) → firsts (map bare rs) ≡ firsts rs
-same_firsts [] = refl
-same_firsts (r ∷ rs) = ap (λ (l : List ℕ). r.first ∷ l) (same_firsts rs)
-
-same_lasts : (rs : List Run) → lasts (map bare rs) ≡ lasts rs
-same_lasts [] = refl
-same_lasts (r ∷ rs) = ap (λ (l : List ℕ). r.last ∷ l) (same_lasts rs)
-
-same_sizes : (rs : List Run) → sizes (map bare rs) ≡ sizes rs
-same_sizes [] = refl
-same_sizes (r ∷ rs) = ap (λ (l : List ℕ). r.size ∷ l) (same_sizes rs)
-
 -- what stands first in a list after runs were written to its front
 pub record Stands (rs : List Run) (l : List ℕ) : Type 0 where
   pub firsts_are : firsts (runs_in (length rs) l) ≡ firsts rs
@@ -87,7 +76,7 @@ pub record Stands (rs : List Run) (l : List ℕ) : Type 0 where
 pub stands : (rs : List Run) (old new : List ℕ) → new ≡ written (flat rs) old → Stands rs new
 stands rs old new w =
     let e = ap (runs_in (length rs)) w ∙ runs_bare rs (drop (length (flat rs)) old) in
-    record { firsts_are = ap firsts e ∙ same_firsts rs; lasts_are = ap lasts e ∙ same_lasts rs; sizes_are = ap sizes e ∙ same_sizes rs }
+    record { firsts_are = ap firsts e ∙ map-map (λ (r : Run). r.first) bare rs; lasts_are = ap lasts e ∙ map-map (λ (r : Run). r.last) bare rs; sizes_are = ap sizes e ∙ map-map (λ (r : Run). r.size) bare rs }
 
 pub runs_length : (n : ℕ) (l : List ℕ) → length (runs_in n l) ≡ n
 unfolding runs_in
@@ -125,7 +114,7 @@ pub put_rest : (at : ℕ) (vs old new : List ℕ) → new ≡ written vs (part a
     → put_mid at (length old - at) old new ≡ take at old ++ written vs (drop at old)
 put_rest at vs old new e =
     let z : drop (length old - at) (drop at old) ≡ [] = drop_of_length-le (drop at old) {i = length old - at} (simp length-drop (omega arith)) in
-    ap (λ (p : List ℕ). take at old ++ (p ++ drop (length old - at) (drop at old))) (e ∙ ap (written vs) (rest at old))
+    ap (λ (p : List ℕ). take at old ++ (p ++ drop (length old - at) (drop at old))) (e ∙ ap (written vs) (take_rest old at))
     ∙ ap (λ (p : List ℕ). take at old ++ (written vs (drop at old) ++ p)) z
     ∙ ap (λ (p : List ℕ). take at old ++ p) (append-nil (written vs (drop at old)))
 

@@ -21,7 +21,7 @@ use Rattle.planner_rules.specs.Areas.{over_areas}
 use Rattle.planner_rules.specs.Lent.{room_in}
 use Rattle.planner_rules.specs.Pages.{pages_in, areas_pages, pages_of, row_runs, column_runs, holds_runs, numbered, page_numbered, list_pages, pages_lent}
 use Rattle.planner_rules.specs.Pages.{page_count, walk_from}
-use Rattle.planner_rules.proofs.PageLaws.{tag, value_or, numbered_first, numbered_take}
+use Rattle.planner_rules.proofs.PageLaws.{numbered_first, numbered_take}
 use Rattle.planner_rules.proofs.AreaPages.{areas_length, walk_past, walk_more}
 use Rattle.planner_rules.proofs.PagesCode.{rooms_of}
 
@@ -71,9 +71,9 @@ module _ {A : Type 0} where
   filled_suc : (i : ℕ) (xs ys : List A) (x : A) → numbered xs (suc i) ≡ given x → i < length ys → set (take i xs ++ drop i ys) i x ≡ take (suc i) xs ++ drop
       (suc i) ys
   unfolding numbered
-  filled_suc i [] ys x e h = let z : ◌≡◌ {A = ℕ} 0 1 = ap tag e in absurd (omega arith)
+  filled_suc i [] ys x e h = absurd cc
   filled_suc i (z ∷ xs) [] x e h = absurd (omega arith)
-  filled_suc zero (z ∷ xs) (y ∷ ys) x e h = ap (λ (w : A). w ∷ ys) (sym (ap (value_or x) e))
+  filled_suc zero (z ∷ xs) (y ∷ ys) x e h = let same : z ≡ x = cc in ap (λ (w : A). w ∷ ys) (sym same)
   filled_suc (suc i) (z ∷ xs) (y ∷ ys) x e h = ap (λ (l : List A). z ∷ l) (filled_suc i xs ys x e (omega arith))
 
   -- one more
@@ -154,8 +154,8 @@ pages_lent_lem p rows columns ys = all_lent (holds_runs p rows columns) (leb (le
 -- where every question up to 13 is answered yes, a page by number is one of the list
 by_number : (b d : Bool) (xs ys : List Page) (n k : ℕ) → two b d (length xs) ≡ given n → k ≤ n
     → numbered (pages_lent (two b d (length xs)) xs ys) k ≡ ask 11 b (numbered xs k)
-by_number false d xs ys n k e h = let z : ◌≡◌ {A = ℕ} 0 1 = ap tag e in absurd (omega arith)
-by_number true false xs ys n k e h = let z : ◌≡◌ {A = ℕ} 0 1 = ap tag e in absurd (omega arith)
+by_number false d xs ys n k e h = absurd cc
+by_number true false xs ys n k e h = absurd cc
 by_number true true xs ys n k e h = let z : length xs ≡ n = ap count_in e in numbered_first xs (drop (length xs) ys) k (omega arith)
 
 -- "For a plan left as it was answered, both give the same pages, numbers 1 to its count.": of any plan whose list was written, the k-th of

@@ -12,7 +12,7 @@ use Rattle.planner_rules.specs.declared.titles.Span.{Span}
 use Rattle.planner_rules.specs.Titles.{holds, no_merge}
 use Rattle.planner_rules.specs.Runs.{nearer, holding, holding_onto}
 use Rattle.planner_rules.proofs.Laws.{drop_back, run_out, split}
-use Rattle.planner_rules.proofs.QuestionLaws.{both}
+use Rattle.std.proofs.lemmas.Bool.{and_parts}
 
 -- ---- one merge
 
@@ -30,7 +30,7 @@ nearer_free : (lo hi f l b : ℕ) (held : Option Span) → not (holds f l b) ≡
 nearer_free lo hi f l b held h =
     split b f (λ p. nearer_late lo f (min l hi) b held p)
     (λ p.
-    split b l (λ q. let z = rw (lt-ltb f b p, le-leb b l q) at h in let w : ◌≡◌ {A = ℕ} 0 1 = cc in absurd (omega arith))
+    split b l (λ q. let z = rw (lt-ltb f b p, le-leb b l q) at h in absurd cc)
     (λ q. nearer_short hi (max f lo) l b held q))
 
 -- ---- from the last one back
@@ -58,7 +58,7 @@ module _ (lo hi b : ℕ) (held : Option Span) where
   onto_free [] ls h = refl
   onto_free (f ∷ fs) [] h = refl
   onto_free (f ∷ fs) (l ∷ ls) h =
-      let e = both (not (holds f l b)) (no_merge (λ f l. holds f l b) fs ls) h in
+      let e = and_parts (not (holds f l b)) (no_merge (λ f l. holds f l b) fs ls) h in
       nearer_free lo hi f l b (holding_onto lo hi b fs ls held) e.0 ∙ onto_free fs ls e.1
 
 -- ---- a part of the merges

@@ -2,7 +2,7 @@
 -- of moderate lengths are given, and the questions refuse with other numbers. Assumes nothing.
 use mathlib.Core.Path.{◌≡◌, refl, sym, ap, ◌∙◌}
 use mathlib.Core.List.{List, [], ◌∷◌}
-use mathlib.Core.Bool.{Bool, true, false, cond, true≢false, ◌&&◌, ◌||◌}
+use mathlib.Core.Bool.{Bool, true, false, cond, true≢false, ◌&&◌, ◌||◌, or-true}
 use Prim.Native.Nat.{ℕ, zero, suc, ◌+◌, ◌*◌, ◌/◌, ◌^◌, ◌≤◌, ◌<◌}
 use native.Mathlib.Omega.{arith}
 use native.Mathlib.Nat.{div-le_self, mul-le-mul, le_trans}
@@ -102,17 +102,13 @@ abbrev pub early : List ℕ
 early = 4 ∷ 6 ∷ 7 ∷ 15 ∷ 8 ∷ 9 ∷ []
 
 pub not_given : {A : Type 0} (a : A) (k : ℕ) → given a ≡ refused k → ⊥
-not_given a k e = let z : ◌≡◌ {A = ℕ} 0 1 = cc in omega arith
+not_given a k e = cc
 
 -- a question and what comes after it
 ask_numbers : {A : Type 0} (n k : ℕ) (b : Bool) (rest : Outcome A) (ns : List ℕ) → (rest ≡ refused k → among k ns ≡ true) → ask n b rest ≡ refused k
     → among k (n ∷ ns) ≡ true
 unfolding among
-ask_numbers n k true rest ns f e = rw (f e) (or_true (eqb n k))
-  where
-    or_true : (b : Bool) → (b || true) ≡ true
-    or_true true = refl
-    or_true false = refl
+ask_numbers n k true rest ns f e = rw (f e) (or-true (eqb n k))
 ask_numbers n k false rest ns f e = let same : n ≡ k = cc in rw (eq-eqb n k same)
 
 none_given : {A : Type 0} (a : A) (k : ℕ) → given a ≡ refused k → among k [] ≡ true

@@ -2,31 +2,20 @@
 use mathlib.Core.Path.{◌≡◌, refl, sym, ap, ◌∙◌}
 use mathlib.Core.List.{List, [], ◌∷◌, ◌++◌, map}
 use Prim.Native.Nat.{ℕ, zero, suc, ◌+◌, ◌-◌, ◌*◌, ◌/◌, ◌%◌, ◌≤◌, ◌<◌}
-use native.Mathlib.Nat.{mod-lt, mod-eq_of_lt, mod-eq-sub-mod, div-eq_of_lt, div-eq-sub-div, div-lt_iff_lt-mul, div-add-mod', add-zero}
+use native.Mathlib.Nat.{mod-eq_of_lt, mod-eq-sub-mod, div-eq_of_lt, div-eq-sub-div, div-add-mod', add-zero}
 use lib.Arith.{digits_lt, digits_div, digits_mod}
 use native.Mathlib.Omega.{arith}
 use lib.ListN.{length, get_or, take, length-take, length-append}
-use Rattle.units.specs.Outcome.{Outcome, given, refused}
+use Rattle.units.specs.Outcome.{given, refused}
 use Rattle.planner_rules.specs.declared.pages.PageOrder.{PageOrder}
 use Rattle.planner_rules.specs.declared.pages.PageOrder.TheVariants.{DownThenOver, OverThenDown}
 use Rattle.planner_rules.specs.Pages.{up_from, joined, in_order, numbered, place_of}
 use Rattle.planner_rules.proofs.Laws.{split}
+use Rattle.std.proofs.lemmas.Nat.{div_below, mod_below}
 
 -- ---- one of a list by its number
 
 module _ {A : Type 0} where
-  -- whether there is a value, and the value or another
-  abbrev pub tag : Outcome A → ℕ
-  tag (given a) = 1
-  tag (refused n) = 0
-
-  abbrev pub value_or : A → Outcome A → A
-  value_or d (given a) = a
-  value_or d (refused n) = d
-
-  no_given : {n : ℕ} {x : A} → refused n ≡ given x → ⊥
-  no_given e = let z : ◌≡◌ {A = ℕ} 0 1 = ap tag e in omega arith
-
   pub numbered_zero : (xs : List A) → numbered xs 0 ≡ refused 14
   unfolding numbered
   numbered_zero [] = refl
@@ -43,9 +32,9 @@ module _ {A : Type 0} where
   -- what has a number stands in the list
   pub numbered_at : (xs : List A) (n : ℕ) (x d : A) → numbered xs n ≡ given x → (1 ≤ n) × (n ≤ length xs) × (get_or xs (n - 1) d ≡ x)
   unfolding numbered
-  numbered_at [] n x d e = absurd (no_given e)
-  numbered_at (y ∷ xs) zero x d e = absurd (no_given e)
-  numbered_at (y ∷ xs) (suc zero) x d e = (omega arith, omega arith, ap (value_or d) e)
+  numbered_at [] n x d e = absurd cc
+  numbered_at (y ∷ xs) zero x d e = absurd cc
+  numbered_at (y ∷ xs) (suc zero) x d e = (omega arith, omega arith, cc)
   numbered_at (y ∷ xs) (suc (suc n)) x d e =
       let rest = numbered_at xs (suc n) x d e in
       let one : suc n - 1 ≡ n = omega arith in
@@ -162,21 +151,15 @@ module _ (n m i : ℕ) (h : i < n * m) where
   wide : 0 < m
   wide = split m 0 (λ z. let e : m ≡ 0 = omega arith in absurd (omega (arith, rw e at h))) (λ z. z)
 
-  line_below : i / m < n
-  line_below = (div-lt_iff_lt-mul wide).1 h
-
-  place_below : i % m < m
-  place_below = mod-lt i wide
-
 module _ (rows columns : ℕ) where
   module _ (before : ℕ) (h : before < rows * columns) where
     pub vertical_below : (order : PageOrder) → vertical_of order rows columns before < rows
-    vertical_below DownThenOver = place_below columns rows before (omega arith)
-    vertical_below OverThenDown = line_below rows columns before h
+    vertical_below DownThenOver = mod_below before rows (wide columns rows before (omega arith))
+    vertical_below OverThenDown = div_below before columns rows (wide rows columns before h) h
 
     pub horizontal_below : (order : PageOrder) → horizontal_of order rows columns before < columns
-    horizontal_below DownThenOver = line_below columns rows before (omega arith)
-    horizontal_below OverThenDown = place_below rows columns before h
+    horizontal_below DownThenOver = div_below before rows columns (wide columns rows before (omega arith)) (omega arith)
+    horizontal_below OverThenDown = mod_below before columns (wide rows columns before h)
 
     pub before_of_place : (order : PageOrder) → before_of order rows columns (vertical_of order rows columns before) (horizontal_of order rows columns before)
         ≡ before

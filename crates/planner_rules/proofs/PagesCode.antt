@@ -21,10 +21,10 @@ use Rattle.planner_rules.specs.Lent.{run_numbers, room_in, number_at}
 use Rattle.planner_rules.specs.Pages.{run_at, page_at, pages_in, area_pages, after_runs, areas_pages, pages_of, row_runs, column_runs}
 use Rattle.planner_rules.specs.Pages.{runs_held, holds_runs, numbered, page_numbered, spot_from, spot_of, area_numbered, place_of}
 use Rattle.planner_rules.specs.Pages.{area_page_after, walk_from, Stands, spot_page}
-use Rattle.planner_rules.proofs.QuestionLaws.{both}
 use Rattle.planner_rules.proofs.PageLaws.{numbered_zero, numbered_take, numbered_take_past}
 use Rattle.planner_rules.proofs.AreaPages.{area_page_is, area_page_none, walk_ends, walk_past, walk_page, walk_none}
 use Rattle.planner_rules.proofs.Laws.{split}
+use Rattle.std.proofs.lemmas.Bool.{and_parts}
 
 -- ---- the place of a page
 
@@ -117,7 +117,7 @@ unfolding runs_held
 rooms_of p rows columns h =
     let rows_wanted = row_runs p.areas.items in
     let columns_wanted = column_runs p.areas.items in
-    let rooms = both (leb rows_wanted (room_in rows)) (leb columns_wanted (room_in columns)) h in
+    let rooms = and_parts (leb rows_wanted (room_in rows)) (leb columns_wanted (room_in columns)) h in
     (leb-true rows_wanted (room_in rows) rooms.0, leb-true columns_wanted (room_in columns) rooms.1)
 
 -- the page that is asked for stands at a spot

@@ -23,7 +23,8 @@ use Rattle.planner_rules.specs.Runs.{Run, runs_by, runs, first_marked, stretch, 
 use Rattle.planner_rules.specs.Lent.{Written, room_in, flat}
 use Rattle.planner_rules.specs.Partition.{first_no, fits, partition, frame_of, body_runs, body_tally, room_for, Answered}
 use Rattle.planner_rules.proofs.Laws.{either_lt}
-use Rattle.planner_rules.proofs.QuestionLaws.{asked_no, asked_yes, no_number, both, slots_of}
+use Rattle.planner_rules.proofs.QuestionLaws.{asked_no, asked_yes, no_number, slots_of}
+use Rattle.std.proofs.lemmas.Bool.{and_parts}
 
 -- ---- what the first no says of the whole
 
@@ -62,9 +63,9 @@ module _ (limit : ℕ) (s : AxisSetup) (is ss fs ls bs list : List ℕ) (n : ℕ
   is_asked h bound =
       let z0 : 0 ≡ n = omega arith in
       let y = goes six seven (rising_within limit is) (all_small ss) (z0 ∙ e) in
-      let three = (both (equally_long is ss && equally_long fs ls && leb s.first s.last) (all_ordered fs ls) y.0).0 in
-      let two = (both (equally_long is ss && equally_long fs ls) (leb s.first s.last) three).0 in
-      let one = (both (equally_long is ss) (equally_long fs ls) two).0 in
+      let three = (and_parts (equally_long is ss && equally_long fs ls && leb s.first s.last) (all_ordered fs ls) y.0).0 in
+      let two = (and_parts (equally_long is ss && equally_long fs ls) (leb s.first s.last) three).0 in
+      let one = (and_parts (equally_long is ss) (equally_long fs ls) two).0 in
       record { slots = slots_of limit is ss bound (eqb-true (length is) (length ss) one) y.2 y.3; goes_on = rw (y.0, y.1, y.2, y.3) }
 
 -- ---- no slots

@@ -5,7 +5,7 @@ use mathlib.Core.List.{List, [], ◌∷◌, map}
 use Prim.Native.Nat.{ℕ, zero, suc, ◌+◌, ◌^◌, ◌≤◌, ◌<◌}
 use native.Mathlib.Omega.{arith}
 use lib.Dec.{leb}
-use lib.ListN.{length, get_or, length-append}
+use lib.ListN.{length, get_or}
 use borrow.Author.Tests.{leb-true, eqb-true, le-leb, lt-leb}
 use Rattle.units.specs.Outcome.{Outcome, given, refused, and_then}
 use Rattle.planner_rules.specs.declared.titles.Widened.{Widened}
@@ -28,10 +28,13 @@ use Rattle.planner_rules.specs.Plan.{area_layout, layouts_of, Layout, plan_in}
 use Rattle.planner_rules.specs.Plan.{plan_of, row_runs_of, column_runs_of, layout, formed, in_grid, rises, small, questioned, within_limit, room_for, planned}
 use Rattle.planner_rules.specs.Plan.{counted, scale_at, area_room, numbered_area, area_written, Planned, Counted, counts_of, AreaWrote, room_no, first_no}
 use Rattle.planner_rules.specs.Steps.{asked, sides_in, TitleReady, TitlesFew, Settled, FineAreas, SharedBy, counted_of, plan_from}
-use Rattle.planner_rules.proofs.QuestionLaws.{asked_no, asked_yes, no_number, both, slots_of}
+use Rattle.planner_rules.proofs.QuestionLaws.{asked_no, asked_yes, no_number, slots_of}
 use Rattle.planner_rules.proofs.TitleLaws.{ignored_le, expanded_le}
 use Rattle.planner_rules.proofs.PageLaws.{numbered_zero, numbered_past}
 use Rattle.planner_rules.proofs.AreaLaws.{onto}
+use Rattle.std.proofs.lemmas.Bool.{and_parts}
+use Rattle.std.proofs.lemmas.List.Recursion.{and_at}
+use Rattle.planner_rules.proofs.AreaLists.{how_many, together_length, over_map, over_same}
 
 -- ---- the questions
 
@@ -105,9 +108,7 @@ goes_on s areas y = rw (y.four, y.six, y.seven, y.fifteen, y.eight, y.nine)
 
 every_at : (p : PrintRange → Bool) (gs : List PrintRange) → every_area p gs ≡ true → (k : ℕ) → k < length gs → p (get_or gs k no_range) ≡ true
 unfolding every_area
-every_at p [] h k l = absurd (omega arith)
-every_at p (g ∷ gs) h zero l = (both (p g) (every_area p gs) h).0
-every_at p (g ∷ gs) h (suc k) l = every_at p gs (both (p g) (every_area p gs) h).1 k (omega arith)
+every_at p gs h k l = and_at (every_area p) p refl (λ _ _. refl) gs k no_range l h
 
 -- what 6 says, one by one
 pub record Formed (s : Sheet) (gs : List PrintRange) : Type 0 where
@@ -125,19 +126,19 @@ formed_of s gs h =
     let of_rows = rows && row_merges && all_ordered s.merge_first_rows s.merge_last_rows in
     let of_columns = columns && column_merges && all_ordered s.merge_first_columns s.merge_last_columns in
     let merges = equally_long s.merge_first_rows s.merge_first_columns in
-    let all = both (of_rows && of_columns && merges) (every_area upright gs) h in
-    let axes = both of_rows of_columns (both (of_rows && of_columns) merges all.0).0 in
-    let of = both (rows && row_merges) (all_ordered s.merge_first_rows s.merge_last_rows) axes.0 in
-    let ofc = both (columns && column_merges) (all_ordered s.merge_first_columns s.merge_last_columns) axes.1 in
+    let all = and_parts (of_rows && of_columns && merges) (every_area upright gs) h in
+    let axes = and_parts of_rows of_columns (and_parts (of_rows && of_columns) merges all.0).0 in
+    let of = and_parts (rows && row_merges) (all_ordered s.merge_first_rows s.merge_last_rows) axes.0 in
+    let ofc = and_parts (columns && column_merges) (all_ordered s.merge_first_columns s.merge_last_columns) axes.1 in
     record {
-      rows_even = eqb-true _ _ (both rows row_merges of.0).0;
-      columns_even = eqb-true _ _ (both columns column_merges ofc.0).0;
+      rows_even = eqb-true _ _ (and_parts rows row_merges of.0).0;
+      columns_even = eqb-true _ _ (and_parts columns column_merges ofc.0).0;
       all_upright = all.1;
     }
 
 module _ (s : Sheet) (areas : List PrintRange) (y : Yes s areas) where
   few_areas : length areas ≤ 8
-  few_areas = leb-true _ _ (both (leb 1 (length areas)) (leb (length areas) 8) y.four).1
+  few_areas = leb-true _ _ (and_parts (leb 1 (length areas)) (leb (length areas) 8) y.four).1
 
   inside : (all_within (limit_of Rows) s.merge_last_rows ≡ true) × (all_within (limit_of Columns) s.merge_last_columns ≡ true)
       × (every_area inside_grid areas ≡ true)
@@ -145,8 +146,8 @@ module _ (s : Sheet) (areas : List PrintRange) (y : Yes s areas) where
   inside =
       let rows = all_within (limit_of Rows) s.merge_last_rows in
       let columns = all_within (limit_of Columns) s.merge_last_columns in
-      let all = both (rows && columns) (every_area inside_grid areas) y.seven in
-      let axes = both rows columns all.0 in
+      let all = and_parts (rows && columns) (every_area inside_grid areas) y.seven in
+      let axes = and_parts rows columns all.0 in
       (axes.0, axes.1, all.1)
 
   pub row_merges_inside : all_within (limit_of Rows) s.merge_last_rows ≡ true
@@ -159,15 +160,15 @@ module _ (s : Sheet) (areas : List PrintRange) (y : Yes s areas) where
   unfolding limit_of
   row_slots =
       slots_of (limit_of Rows) s.row_indexes s.row_sizes (omega arith) (formed_of s areas y.six).rows_even
-      (both (rising_within (limit_of Rows) s.row_indexes) (rising_within (limit_of Columns) s.column_indexes) y.eight).0
-      (both (all_small s.row_sizes) (all_small s.column_sizes) y.nine).0
+      (and_parts (rising_within (limit_of Rows) s.row_indexes) (rising_within (limit_of Columns) s.column_indexes) y.eight).0
+      (and_parts (all_small s.row_sizes) (all_small s.column_sizes) y.nine).0
 
   pub column_slots : Slots s.column_indexes s.column_sizes
   unfolding limit_of
   column_slots =
       slots_of (limit_of Columns) s.column_indexes s.column_sizes (omega arith) (formed_of s areas y.six).columns_even
-      (both (rising_within (limit_of Rows) s.row_indexes) (rising_within (limit_of Columns) s.column_indexes) y.eight).1
-      (both (all_small s.row_sizes) (all_small s.column_sizes) y.nine).1
+      (and_parts (rising_within (limit_of Rows) s.row_indexes) (rising_within (limit_of Columns) s.column_indexes) y.eight).1
+      (and_parts (all_small s.row_sizes) (all_small s.column_sizes) y.nine).1
 
   fine_areas : FineAreas areas
   fine_areas =
@@ -177,8 +178,8 @@ module _ (s : Sheet) (areas : List PrintRange) (y : Yes s areas) where
             let g = get_or areas k no_range in
             let up : upright g ≡ true = every_at upright areas (formed_of s areas y.six).all_upright k h in
             let inn : inside_grid g ≡ true = every_at inside_grid areas inside.2 k h in
-            let ups = both (leb g.first_row g.last_row) (leb g.first_column g.last_column) up in
-            let ins = both (leb g.last_row 1048575) (leb g.last_column 16383) inn in
+            let ups = and_parts (leb g.first_row g.last_row) (leb g.first_column g.last_column) up in
+            let ins = and_parts (leb g.last_row 1048575) (leb g.last_column 16383) inn in
             record {
               rows_upright = leb-true _ _ ups.0;
               columns_upright = leb-true _ _ ups.1;
@@ -265,10 +266,10 @@ relay_area o q r rows₀ columns₀ rows columns e w = subst (λ (x : Outcome Ar
 runs_long : (f : AreaLayout → List Run) (n : AreaLayout → ℕ) (c : Sides) (s : Sheet)
     → ((g : PrintRange) → n (area_layout c s g) ≡ length (f (area_layout c s g)))
     → (gs : List PrintRange) → length (joined (map f (layouts_of c s gs))) ≡ over_areas n (layouts_of c s gs)
-unfolding joined over_areas
-runs_long f n c s h [] = refl
-runs_long f n c s h (g ∷ gs) =
-    omega (arith, length-append (f (area_layout c s g)) (joined (map f (layouts_of c s gs))), h g, runs_long f n c s h gs)
+runs_long f n c s h gs =
+    together_length f (layouts_of c s gs) ∙ over_map (how_many f) (area_layout c s) gs
+    ∙ over_same (λ (g : PrintRange). how_many f (area_layout c s g)) (λ (g : PrintRange). n (area_layout c s g)) (λ g. sym (h g)) gs
+    ∙ sym (over_map n (area_layout c s) gs)
 
 module _ (c : Sides) (s : Sheet) (gs : List PrintRange) where
   rows_long : length (row_runs_of (layouts_of c s gs)) ≡ (counted_of (layouts_of c s gs)).rows
@@ -314,7 +315,7 @@ module _ (c : Sides) (s : Sheet) (gs : List PrintRange) where
 
       pub runs_fit_lem : (length (row_runs_of (layouts_of c s gs)) ≤ row_room) × (length (column_runs_of (layouts_of c s gs)) ≤ column_room)
       runs_fit_lem =
-          let f = both (leb (length (row_runs_of (layouts_of c s gs))) row_room) (leb (length (column_runs_of (layouts_of c s gs))) column_room) both_yes.0 in
+          let f = and_parts (leb (length (row_runs_of (layouts_of c s gs))) row_room) (leb (length (column_runs_of (layouts_of c s gs))) column_room) both_yes.0 in
           (leb-true _ _ f.0, leb-true _ _ f.1)
 
   -- 12 alone

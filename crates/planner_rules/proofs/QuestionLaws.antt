@@ -10,7 +10,7 @@ use lib.Bits.{bit_or, or_lt, or_add_and, and_le_l, and_le_r}
 use lib.Dec.{leb, ltb}
 use Rattle.std.specs.Prelude.{fold}
 use Rattle.std.specs.List.{list_all, zip}
-use lib.ListN.{length, get_or, drop}
+use lib.ListN.{length, get_or}
 use borrow.Author.Tests.{le-leb, lt-leb, leb-true, ltb-true}
 use Rattle.planner_rules.specs.declared.planning.PrintRange.{PrintRange}
 use Rattle.planner_rules.specs.Areas.{every_area}
@@ -20,6 +20,8 @@ use Rattle.units.specs.Refusals.{number_of}
 use Rattle.units.specs.declared.refusal.Refusal.{Refusal}
 use Rattle.units.specs.declared.refusal.Refusal.TheVariants as no
 use Rattle.planner_rules.specs.Questions.{ask, no_or, all_ordered, all_within, rising, rising_within, all_small}
+use Rattle.std.proofs.lemmas.Bool.{and_parts}
+use Rattle.std.proofs.lemmas.List.Recursion.{same_from_clauses}
 
 -- ---- questions one after another, and the number of the first no
 
@@ -74,13 +76,12 @@ ordered_all (f ∷ fs) (l ∷ ls) = ap (λ (b : Bool). leb f l && b) (ordered_al
 
 pub every_all : (p : PrintRange → Bool) (gs : List PrintRange) → list_all p gs ≡ every_area p gs
 unfolding every_area
-every_all p [] = refl
-every_all p (g ∷ gs) = ap (λ (b : Bool). p g && b) (every_all p gs)
+every_all p = same_from_clauses (list_all p) (every_area p) (λ x b. p x && b) refl (λ _ _. refl) (λ _ _. refl)
 
 pub within_all : (limit : ℕ) (xs : List ℕ) → list_all (λ x. leb x limit) xs ≡ all_within limit xs
 unfolding all_within
-within_all limit [] = refl
-within_all limit (x ∷ xs) = ap (λ (b : Bool). leb x limit && b) (within_all limit xs)
+within_all limit =
+    same_from_clauses (list_all (λ x. leb x limit)) (all_within limit) (λ x b. leb x limit && b) refl (λ _ _. refl) (λ _ _. refl)
 
 -- the bits of two numbers together make a number within 30 bits, if both are
 or-small : (a b : ℕ) → leb (bit_or a b) 1073741823 ≡ (leb a 1073741823 && leb b 1073741823)
@@ -111,37 +112,25 @@ pub bits_small : (l : List ℕ) → leb (fold bit_or 0 l) 1073741823 ≡ all_sma
 unfolding all_small
 bits_small l = bits_from 0 l
 
-pub rising_end : (n : ℕ) (l : List ℕ) → length l ≤ n + 1 → rising (drop n l) ≡ true
-unfolding rising
-rising_end zero [] h = refl
-rising_end zero (i ∷ []) h = refl
-rising_end zero (i ∷ (j ∷ is)) h = absurd (omega arith)
-rising_end (suc n) [] h = refl
-rising_end (suc n) (i ∷ is) h = rising_end n is (omega arith)
-
 -- ---- what a "yes" says
-
-pub both : (a b : Bool) → (a && b) ≡ true → (a ≡ true) × (b ≡ true)
-both true b h = (refl, h)
-both false b h = (h, cc)
 
 pub within_each : (limit : ℕ) (l : List ℕ) → all_within limit l ≡ true → (k : ℕ) → get_or l k 0 ≤ limit
 unfolding all_within
 within_each limit [] h k = omega arith
-within_each limit (x ∷ l) h zero = leb-true x limit (both (leb x limit) (all_within limit l) h).0
-within_each limit (x ∷ l) h (suc k) = within_each limit l (both (leb x limit) (all_within limit l) h).1 k
+within_each limit (x ∷ l) h zero = leb-true x limit (and_parts (leb x limit) (all_within limit l) h).0
+within_each limit (x ∷ l) h (suc k) = within_each limit l (and_parts (leb x limit) (all_within limit l) h).1 k
 
 rising_tail : (i : ℕ) (is : List ℕ) → rising (i ∷ is) ≡ true → rising is ≡ true
 unfolding rising
 rising_tail i [] h = refl
-rising_tail i (j ∷ is) h = (both (ltb i j) (rising (j ∷ is)) h).1
+rising_tail i (j ∷ is) h = (and_parts (ltb i j) (rising (j ∷ is)) h).1
 
 rising_head : (i : ℕ) (is : List ℕ) → rising (i ∷ is) ≡ true → (k : ℕ) → k < length is → i < get_or is k 0
 unfolding rising
 rising_head i [] h k p = absurd (omega arith)
-rising_head i (j ∷ is) h zero p = ltb-true i j (both (ltb i j) (rising (j ∷ is)) h).0
+rising_head i (j ∷ is) h zero p = ltb-true i j (and_parts (ltb i j) (rising (j ∷ is)) h).0
 rising_head i (j ∷ is) h (suc k) p =
-    let b = both (ltb i j) (rising (j ∷ is)) h in
+    let b = and_parts (ltb i j) (rising (j ∷ is)) h in
     omega (arith, ltb-true i j b.0, rising_head j is b.1 k (omega arith))
 
 -- of two places the later has the greater index
@@ -178,7 +167,7 @@ place_le is h (suc k) q = omega (arith, place_le is h k (omega arith), rises is 
 pub few : (limit : ℕ) (is : List ℕ) → rising_within limit is ≡ true → length is ≤ limit + 1
 unfolding rising_within
 few limit is h =
-    let b = both (rising is) (all_within limit is) h in
+    let b = and_parts (rising is) (all_within limit is) h in
     elim (dec_le (length is) 0) [
       | yes p ↦ omega arith
       | no p ↦ omega (arith, lt_of_not-le p, place_le is b.0 (length is - 1) (omega (arith, lt_of_not-le p)), within_each limit is b.1 (length is - 1))
@@ -186,7 +175,7 @@ few limit is h =
 
 pub rising_of : (limit : ℕ) (is : List ℕ) → rising_within limit is ≡ true → (j k : ℕ) → j < k → k < length is → get_or is j 0 < get_or is k 0
 unfolding rising_within
-rising_of limit is h = rises is (both (rising is) (all_within limit is) h).0
+rising_of limit is h = rises is (and_parts (rising is) (all_within limit is) h).0
 
 pub small_each : (ss : List ℕ) → all_small ss ≡ true → (k : ℕ) → get_or ss k 0 < 2 ^ 30
 unfolding all_small

@@ -3,7 +3,7 @@ use mathlib.Core.Path.{◌≡◌, refl, sym, ap, ◌∙◌}
 use mathlib.Core.Bool.{Bool, true, false, ◌&&◌, and-true, and-false}
 use mathlib.Core.List.{List, [], ◌∷◌}
 use Prim.Native.Nat.{ℕ, zero, suc, ◌+◌, ◌≤◌, ◌<◌}
-use native.Mathlib.Nat.{add-zero, zero-add}
+use native.Mathlib.Nat.{add-zero}
 use native.Mathlib.Omega.{arith}
 use lib.ListN.{length}
 use borrow.Author.Tests.{ne_eqb, lt-ltb, le-ltb, le-leb, lt-leb, leb-false}
@@ -47,9 +47,6 @@ abbrev pub pass_from : Space → Body → ℕ → ℕ → ℕ → List Run → B
 pass_from s b target p n rs = all_fit s b p rs && meets target (n + length rs)
 
 module _ (s : Space) (b : Body) (target p : ℕ) where
-  pub from_none : (rs : List Run) → pass_from s b target p 0 rs ≡ all_fit s b p rs && meets target (length rs)
-  from_none rs = rw zero-add
-
   -- one run more is too many
   pub too_many : (n : ℕ) (rs : List Run) → 1 ≤ length rs → meets target (n + 1) ≡ false → false ≡ pass_from s b target p n rs
   too_many n rs h e = rw (meets_more target (n + 1) (n + length rs) (omega arith) e) (sym (and-false (all_fit s b p rs)))

@@ -23,10 +23,8 @@ use Rattle.planner_rules.specs.Titles.{widened_from, widened}
 use Rattle.planner_rules.specs.Questions.{all_within}
 use Rattle.planner_rules.proofs.Laws.{either, slots_mid}
 use Rattle.planner_rules.proofs.EndLaws.{below-le}
-use Rattle.planner_rules.proofs.QuestionLaws.{both}
-
-abbrev pub span : ℕ → ℕ → Span
-span f l = record { first = f; last = l }
+use Rattle.std.proofs.lemmas.Bool.{and_parts}
+use Rattle.planner_rules.specs.Runs.{span}
 
 -- ---- one pass
 
@@ -74,7 +72,7 @@ widen_to-not s f l h = picked (leb f s.last) (leb s.first l) (leb s.first f && l
   where
     within : (leb s.first f && leb l s.last) ≡ true → span (min s.first f) (max s.last l) ≡ s
     within w =
-        let e = both (leb s.first f) (leb l s.last) w in
+        let e = and_parts (leb s.first f) (leb l s.last) w in
         let low : min s.first f ≡ s.first = omega (arith, leb-true s.first f e.0) in
         let high : max s.last l ≡ s.last = omega (arith, leb-true l s.last e.1) in
         ap₂ span low high
@@ -91,7 +89,7 @@ unfolding pass no_merge
 pass_none s [] ls h = refl
 pass_none s (f ∷ fs) [] h = refl
 pass_none s (f ∷ fs) (l ∷ ls) h =
-    let e = both (not (widens s f l)) (no_merge (widens s) fs ls) h in rw (widen_to-not s f l e.0) (pass_none s fs ls e.1)
+    let e = and_parts (not (widens s f l)) (no_merge (widens s) fs ls) h in rw (widen_to-not s f l e.0) (pass_none s fs ls e.1)
 
 -- t reaches as far as s both ways
 pub record Wider (s t : Span) : Type 0 where
@@ -160,11 +158,7 @@ inside s (f ∷ fs) (l ∷ ls) = one s f l + inside s fs ls
 
 one-le : (s : Span) (f l : ℕ) → one s f l ≤ 1
 unfolding one
-one-le s f l = go (leb s.first f && leb l s.last)
-  where
-    go : (b : Bool) → cond b 1 0 ≤ 1
-    go true = omega arith
-    go false = omega arith
+one-le s f l = either (λ (n : ℕ). n ≤ 1) (leb s.first f && leb l s.last) (omega arith) (omega arith)
 
 one_in : (s : Span) (f l : ℕ) → s.first ≤ f → l ≤ s.last → one s f l ≡ 1
 unfolding one
@@ -229,7 +223,7 @@ same_refl s = rw (eq-eqb s.first s.first refl, eq-eqb s.last s.last refl)
 pub same_eq : (s t : Span) → same_span s t ≡ true → s ≡ t
 unfolding same_span
 same_eq s t h =
-    let b = both (eqb s.first t.first) (eqb s.last t.last) h in
+    let b = and_parts (eqb s.first t.first) (eqb s.last t.last) h in
     ap₂ span (eqb-true s.first t.first b.0) (eqb-true s.last t.last b.1)
 
 module _ (fs ls : List ℕ) where
@@ -237,10 +231,7 @@ module _ (fs ls : List ℕ) where
   pub more : (s : Span) → still fs ls s ≡ false → inside s fs ls < inside (pass fs ls s) fs ls
   unfolding still
   more s h =
-      ⊎_elim (λ e. let z : true ≡ false = sym (same_refl s) ∙ (sym (ap (same_span s) e) ∙ h) in absurd (never z)) (λ p. p) (takes_in fs ls s)
-    where
-      never : true ≡ false → ⊥
-      never e = let z : ◌≡◌ {A = ℕ} 0 1 = cc in omega arith
+      ⊎_elim (λ e. let z : true ≡ false = sym (same_refl s) ∙ (sym (ap (same_span s) e) ∙ h) in absurd cc) (λ p. p) (takes_in fs ls s)
 
   pub passes_still : (k : ℕ) (s : Span) (n : ℕ) → still fs ls s ≡ true → passes fs ls k (still fs ls s) s n ≡ expanded_to s n
   unfolding passes
@@ -323,7 +314,7 @@ unfolding pass all_within
 pass-within limit [] ls s h k = k
 pass-within limit (f ∷ fs) [] s h k = k
 pass-within limit (f ∷ fs) (l ∷ ls) s h k =
-    let b = both (leb l limit) (all_within limit ls) h in
+    let b = and_parts (leb l limit) (all_within limit ls) h in
     pass-within limit fs ls (widen_to s f l) b.1 (widen_to-within limit s f l k (leb-true l limit b.0))
 
 module _ (limit : ℕ) (fs ls : List ℕ) (h : all_within limit ls ≡ true) where
@@ -350,7 +341,7 @@ module _ (limit : ℕ) (fs ls : List ℕ) (h : all_within limit ls ≡ true) whe
 
   normal_pair : (title : Title) (f l : ℕ) → (normalized limit title).title ≡ Pair f l → (f ≤ l) × (l ≤ limit)
   unfolding normalized
-  normal_pair Absent f l t = let z : ◌≡◌ {A = ℕ} 0 1 = cc in absurd (omega arith)
+  normal_pair Absent f l t = absurd cc
   normal_pair (Pair a b) f l t = go (leb a b) (leb b limit) refl refl t
     where
       kept : Normalized
@@ -359,8 +350,8 @@ module _ (limit : ℕ) (fs ls : List ℕ) (h : all_within limit ls ≡ true) whe
       go : (x y : Bool) → leb a b ≡ x → leb b limit ≡ y → (cond (x && y) kept (record { title = Absent; ignored = 1 })).title ≡ Pair f l → (f ≤ l)
           × (l ≤ limit)
       go true true p q t = let e : a ≡ f = cc in let e' : b ≡ l = cc in omega (arith, leb-true a b p, leb-true b limit q)
-      go true false p q t = let z : ◌≡◌ {A = ℕ} 0 1 = cc in absurd (omega arith)
-      go false y p q t = let z : ◌≡◌ {A = ℕ} 0 1 = cc in absurd (omega arith)
+      go true false p q t = absurd cc
+      go false y p q t = absurd cc
 
   -- a widened title is in order and within the limit
   pub widened_pair : (title : Title) (g m : ℕ) → (widened limit title fs ls).title ≡ Pair g m → (g ≤ m) × (m ≤ limit)
@@ -369,7 +360,7 @@ module _ (limit : ℕ) (fs ls : List ℕ) (h : all_within limit ls ≡ true) whe
     where
       go : (x : Title) → ((f l : ℕ) → x ≡ Pair f l → (f ≤ l) × (l ≤ limit)) → (widened_from fs ls x (normalized limit title).ignored).title ≡ Pair g m
           → (g ≤ m) × (m ≤ limit)
-      go Absent p t = let z : ◌≡◌ {A = ℕ} 0 1 = cc in absurd (omega arith)
+      go Absent p t = absurd cc
       go (Pair f l) p t = omega (arith, p f l refl, expand_reach f l g m (p f l refl).1 t)
 
 met_widens : (s : Span) (f l : ℕ) → f ≤ s.last → s.first ≤ l → ((widen_to s f l).first ≤ f) × (l ≤ (widen_to s f l).last)

@@ -16,10 +16,11 @@ use Rattle.planner_rules.specs.Runs.{Run, run_of, natural, again, resumed, resum
 use Rattle.planner_rules.specs.Lent.{firsts, lasts, sizes, marks}
 use Rattle.planner_rules.specs.Division.{◌∈◌, Division, starts_from, pieces, first_of, last_of, Tells, MarkedAt, MarksKept}
 use Rattle.planner_rules.specs.Pages.{joined}
-use Rattle.planner_rules.proofs.Laws.{either, natural_pos, natural-le, length-mid}
+use Rattle.planner_rules.proofs.Laws.{either, natural_pos, natural-le}
 use Rattle.planner_rules.proofs.EndLaws.{merged_within}
 use Rattle.planner_rules.proofs.Division.{Chain, done, link, chain_counts, division_of, join_pieces}
 use Rattle.planner_rules.proofs.Cuts.{kept_cuts, counts, slots_of, runs_chain, marked_chain, axis_chain, kept_ordered, ordered_in}
+use Rattle.std.proofs.lemmas.List.Edits.{length-between}
 
 -- ---- a run takes at least one slot, and at most all
 
@@ -78,8 +79,8 @@ module _ (k : Frame) (fs ls is ss bs : List ℕ) (even : length is ≡ length ss
   run_within : (p e : ℕ) → e ≤ length ss → p < e → let r = run k fs ls (mid p e is) (mid p e ss) in (1 ≤ r.slots) × (p + r.slots ≤ e)
   unfolding run run_end
   run_within p e inside l =
-      let i = length-mid p e is (omega arith) in
-      let s = length-mid p e ss inside in
+      let i = length-between is p e (omega arith) in
+      let s = length-between ss p e inside in
       let t = taken-within k (mid p e is) (mid p e ss) (omega arith) (omega arith) in
       omega (arith, merged_within k.lo k.hi fs ls (taken k (mid p e is) (mid p e ss)) (mid p e is) t.0 t.1)
 

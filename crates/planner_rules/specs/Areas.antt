@@ -10,7 +10,7 @@ use Rattle.planner_rules.specs.declared.planning.PrintRange.{PrintRange}
 abbrev pub one_to_eight : ℕ → Bool
 one_to_eight n = leb 1 n && leb n 8
 
--- a test that every area passes
+-- a test that every area passes: std's `list_all`, in the word of the sentences on areas
 unfoldable pub every_area : (PrintRange → Bool) → List PrintRange → Bool
 every_area p [] = true
 every_area p (g ∷ gs) = p g && every_area p gs
@@ -29,7 +29,7 @@ inside_grid g = leb g.last_row last_row && leb g.last_column last_column
 abbrev pub no_plan : AreaPlan
 no_plan = record { permille = 0; unreachable = 0; row_runs = 0; column_runs = 0; rows_empty = false; columns_empty = false }
 
--- "add up over the areas"
+-- "add up over the areas": std's `sum_by`, in its own words, as the sentence has them
 unfoldable pub over_areas : {A : Type 0} → (A → ℕ) → List A → ℕ
 over_areas f [] = 0
 over_areas f (x ∷ xs) = f x + over_areas f xs

@@ -13,7 +13,7 @@ run_numbers = 4
 abbrev pub numbers_of : Run → List ℕ
 numbers_of r = r.first ∷ r.last ∷ r.size ∷ r.manual ∷ []
 
--- the numbers of runs, one run after another
+-- the numbers of runs, one run after another: std's `flat_map` of `numbers_of`, named since many promises speak of it
 unfoldable pub flat : List Run → List ℕ
 flat [] = []
 flat (r ∷ rs) = numbers_of r ++ flat rs

@@ -92,12 +92,12 @@ page_at rows columns a v h = record {
   columns = run_at columns a.columns_empty h;
 }
 
--- the numbers from k on, so many
+-- the numbers from k on, so many: std's `range_with_len`, in the words of the pages' order below
 unfoldable pub up_from : ℕ → ℕ → List ℕ
 up_from k zero = []
 up_from k (suc n) = k ∷ up_from (suc k) n
 
--- lists one after another
+-- lists one after another: std's `flat_map` of each list as it is
 unfoldable pub joined : {A : Type 0} → List (List A) → List A
 joined [] = []
 joined (xs ∷ rest) = xs ++ joined rest

@@ -28,7 +28,7 @@ all_ordered (f ∷ fs) (l ∷ ls) = leb f l && all_ordered fs ls
 abbrev pub well_formed : ℕ → ℕ → List ℕ → List ℕ → List ℕ → List ℕ → Bool
 well_formed first last is ss fs ls = equally_long is ss && equally_long fs ls && leb first last && all_ordered fs ls
 
--- 7: "every MR inside the grid", whose last index is the limit
+-- 7: "every MR inside the grid", whose last index is the limit; std's `list_all`, in its own words, as the sentence has them
 unfoldable pub all_within : ℕ → List ℕ → Bool
 all_within limit [] = true
 all_within limit (l ∷ ls) = leb l limit && all_within limit ls

@@ -129,7 +129,7 @@ runs_by at (suc k) (i ∷ is) (s ∷ ss) = runs_by at k is ss
 unfoldable pub runs : Frame → List ℕ → List ℕ → List ℕ → List ℕ → List Run
 runs k fs ls is ss = runs_by (run k fs ls) zero is ss
 
--- how many expansions they count
+-- how many expansions they count: std's `sum_by` of each run's, in its own words
 unfoldable pub expansions : List Run → ℕ
 expansions [] = 0
 expansions (r ∷ rs) = r.grown + expansions rs

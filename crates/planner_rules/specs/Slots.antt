@@ -16,12 +16,12 @@ pub record Slots (indexes sizes : List ℕ) : Type 0 where
   pub small : Small sizes
   pub rising : Rising indexes
 
--- the sum of some sizes
+-- the sum of some sizes: std's `sum`, written out beside the other words for slots
 unfoldable pub sum : List ℕ → ℕ
 sum [] = 0
 sum (x ∷ xs) = x + sum xs
 
--- how many slots at the front have an index below the limit: "first slot not below" it
+-- how many slots at the front have an index below the limit: "first slot not below" it; std's `prefix_len`, in its own words, as the sentence has them
 unfoldable pub below : ℕ → List ℕ → ℕ
 below k [] = 0
 below k (i ∷ is) = cond (ltb i k) (suc (below k is)) 0
@@ -31,7 +31,7 @@ unfoldable pub through : ℕ → List ℕ → ℕ
 through k [] = 0
 through k (i ∷ is) = cond (ltb 0 (through k is)) (suc (through k is)) (cond (leb i k) 1 0)
 
--- the slots from one place to another
+-- the slots from one place to another: std's `between`, which is the name of a test in `Union.antt`
 abbrev pub mid : {A : Type 0} → ℕ → ℕ → List A → List A
 mid a e xs = take (e - a) (drop a xs)
 

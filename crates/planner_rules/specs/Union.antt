@@ -10,7 +10,7 @@ between first last x = leb first x && leb x last
 abbrev pub in_area : PrintRange → ℕ → ℕ → Bool
 in_area g row column = between g.first_row g.last_row row && between g.first_column g.last_column column
 
--- "lying in at least one area"
+-- "lying in at least one area": std's `list_any`, in its own words, as the sentence has them
 unfoldable pub in_some : List PrintRange → ℕ → ℕ → Bool
 in_some [] row column = false
 in_some (g ∷ gs) row column = in_area g row column || in_some gs row column

@@ -14,6 +14,8 @@ use borrow.Author.Tests.{eqb-false}
 use Rattle.units.specs.Outcome.{Outcome, given, refused}
 use Rattle.units.specs.Units.{half_up, whole_units, nearest_units}
 use Rattle.units.proofs.Doubling.{digits, doubled}
+use Rattle.std.proofs.lemmas.Bool.{and_parts}
+use mathlib.Core.Bool.{and-true}
 
 -- ---- a / b to the nearest whole number, by a * 2 / b
 halves : (a b : ℕ) → 0 < b → half_up a b ≡ a * 2 / b / 2 + a * 2 / b % 2

@@ -10,8 +10,8 @@ use borrow.Author.Tests.{leb-true}
 use Rattle.job_walk.proofs.WalkLaws.{sorted_first}
 use Rattle.job_questions.specs.Pass.{answer}
 use Rattle.job_questions.proofs.PassLaws.{no_here, yes_here, none_no, sorted_after, areas_after}
-use Rattle.planner_rules.proofs.QuestionLaws.{both}
 use Rattle.job_questions.proofs.first_no.Goals as goal
+use Rattle.std.proofs.lemmas.Bool.{and_parts}
 
 -- question 4, by the test that was made of the areas
 placed_right : (t : State) (b : Bool) {v : Bool} → b ≡ one_to_eight t.items.areas → t.ordered && b ≡ v → t.ordered && one_to_eight t.items.areas ≡ v
@@ -41,12 +41,12 @@ returns-then-not-t-2 c =
     (yes_here _ _ _ _ c.if-not-t.false (yes_here _ _ _ _ c.if-not-equally_long-t.false (no_here _ _ _ c.if-not-t-2.true)))
 
 pub invariant_of-job : goal.invariant_of-job
-invariant_of-job c = record { sorted = sorted_first _ (sorted_after c.args.t _ c.requires (both c.args.t.ordered _ c.if-not-t-contains.false).0) }
+invariant_of-job c = record { sorted = sorted_first _ (sorted_after c.args.t _ c.requires (and_parts c.args.t.ordered _ c.if-not-t-contains.false).0) }
 
 pub cells_ok-held-requires : goal.cells_ok-held-requires
 cells_ok-held-requires c =
     let four = placed_right c.args.t c.contains.result (search rules) c.if-not-t-contains.false in
-    let few = both (leb 1 c.args.t.items.areas) (leb c.args.t.items.areas 8) (both c.args.t.ordered _ four).1 in
+    let few = and_parts (leb 1 c.args.t.items.areas) (leb c.args.t.items.areas 8) (and_parts c.args.t.ordered _ four).1 in
     omega (arith, areas_after c.args.t _ c.requires, leb-true _ _ few.1)
 
 pub returns-then-not-held : goal.returns-then-not-held

@@ -6,9 +6,9 @@ use Rattle.planner_rules.specs.declared.pages.AreaPlan.{AreaPlan}
 use Rattle.planner_rules.specs.declared.planning.RunCounts.{RunCounts}
 use Rattle.planner_rules.specs.Lent.{room_in}
 use Rattle.planner_rules.specs.Pages.{pages_in, holds_area, area_numbered}
-use Rattle.planner_rules.proofs.QuestionLaws.{both}
 use Rattle.planner_rules.proofs.PagesCode.{area_zero, area_past, area_found}
 use Rattle.planner_pages.proofs.area_page.Goals as goal
+use Rattle.std.proofs.lemmas.Bool.{and_parts}
 
 module _ (a : AreaPlan) (rows columns : List ℕ) (room : RunCounts) (e : (room.rows ≡ room_in rows) × (room.columns ≡ room_in columns)) (held : Bool)
     (h : held ≡ (leb a.row_runs room.rows && leb a.column_runs room.columns)) where
@@ -17,7 +17,7 @@ module _ (a : AreaPlan) (rows columns : List ℕ) (room : RunCounts) (e : (room.
 
   few : held ≡ true → (a.row_runs ≤ room_in rows) × (a.column_runs ≤ room_in columns)
   few y =
-      let halves = both (leb a.row_runs room.rows) (leb a.column_runs room.columns) (sym h ∙ y) in
+      let halves = and_parts (leb a.row_runs room.rows) (leb a.column_runs room.columns) (sym h ∙ y) in
       (omega (arith, e.0, leb-true a.row_runs room.rows halves.0), omega (arith, e.1, leb-true a.column_runs room.columns halves.1))
 
 pub returns-then-not-runs_held : goal.returns-then-not-runs_held

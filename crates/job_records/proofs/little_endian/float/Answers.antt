@@ -2,11 +2,12 @@
 use mathlib.Core.Path.{refl}
 use lib.Ieee.{of_bits, of_fields, div, odd}
 use Rattle.job_records.specs.LittleEndian.{f64_of}
-use Rattle.job_records.proofs.NumberLaws.{nan_pattern, no_nan_pattern}
+use Rattle.job_records.proofs.NumberLaws.{nan_pattern}
 use Rattle.job_records.proofs.little_endian.float.Goals as goal
+use Rattle.std.proofs.lemmas.Float.{not_nan_f64_bits}
 
 pub float_from_bits-result : goal.float_from_bits-result
-float_from_bits-result c = no_nan_pattern c.args.bits c.if-bits-gt-INFINITY.false
+float_from_bits-result c = not_nan_f64_bits c.args.bits c.if-bits-gt-INFINITY.false
 
 pub returns-then-bits-gt-INFINITY : goal.returns-then-bits-gt-INFINITY
 unfolding of_bits of_fields div odd

@@ -8,7 +8,7 @@ use Rattle.planner_rules.specs.Scale.{space_of}
 use Rattle.planner_rules.specs.Pages.{overflowing}
 use Rattle.planner_rules.proofs.AxisLaws.{stretch_length, stretch_expansions, axis_more, axis_end, shifts_more, shifts_end, expansions-append}
 use Rattle.planner_rules.proofs.OverflowLaws.{stretch_overflowing, overflowing_append}
-use Rattle.planner_rules.proofs.Laws.{length-mid}
+use Rattle.std.proofs.lemmas.List.Edits.{length-between}
 use Rattle.planner_rules.proofs.EndLaws.{bit_is, bit_few}
 use Rattle.planner.proofs.runs.Cutter.count_axis.Goals as goal
 
@@ -46,7 +46,7 @@ loop-b-preserved c =
     (rw (c.part.ensures.indexes_are, c.part.ensures.sizes_are) at t.ensures.counts) in
     let here = stretch k fs ls is ss l.prev p in
     let there = axis_runs k fs ls is ss p (drop (l.b-index + 1) bs) in
-    let len = length-mid l.prev p ss (omega (arith, inside.1, c.args.slots.are.even)) in
+    let len = length-between ss l.prev p (omega (arith, inside.1, c.args.slots.are.even)) in
     let more = axis_more k fs ls is ss l.prev l.b-index bs cut.result (omega arith) cut.ensures.value in
     let shifted = shifts_more k fs ls is ss l.prev l.b-index bs cut.result (omega arith) cut.ensures.value in (
       omega (arith, inside.1, c.args.slots.are.even),

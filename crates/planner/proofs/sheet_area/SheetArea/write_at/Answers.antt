@@ -12,8 +12,8 @@ use Rattle.planner_rules.specs.Steps.{sides_in, Writable, rows_at, columns_at}
 use Rattle.planner_rules.proofs.AreaLaws.{as_long, writable, rows_filled, columns_filled}
 use Rattle.planner_rules.proofs.Lent.{room_runs}
 use Rattle.planner_rules.proofs.PlanLaws.{refuses_area, answers_area, runs_held}
-use Rattle.planner_rules.proofs.QuestionLaws.{both}
 use Rattle.planner.proofs.sheet_area.SheetArea.write_at.Goals as goal
+use Rattle.std.proofs.lemmas.Bool.{and_parts}
 
 -- an area that was counted at a permille, and two lent lists
 module _ (x : Shared) (s : Sheet) (g : PrintRange) (p : ℕ) (k : CountedArea) (e : k ≡ counted_at (sides_in x) (rows_in s g) (columns_in s g) (scale_at p))
@@ -42,7 +42,7 @@ module _ (x : Shared) (s : Sheet) (g : PrintRange) (p : ℕ) (k : CountedArea) (
 
   module _ (h : held ≡ true) where
     halves : (leb k.area.row_runs (room_in rows) ≡ true) × (leb k.area.column_runs (room_in columns) ≡ true)
-    halves = both (leb k.area.row_runs (room_in rows)) (leb k.area.column_runs (room_in columns)) h
+    halves = and_parts (leb k.area.row_runs (room_in rows)) (leb k.area.column_runs (room_in columns)) h
 
     rows_fit : length laid.rows ≤ room_in rows
     rows_fit = omega (arith, long, leb-true k.area.row_runs (room_in rows) halves.0)
