@@ -225,3 +225,24 @@ rest_stop (b ∷ bs) e = rw e
 
 pub length_part : {A : Type 0} (n : ℕ) (l : List A) → length (take (length l - n) (drop n l)) ≡ length l - n
 length_part n l = ap length (take_rest l n) ∙ length-drop n l
+
+-- ---- the longest record of a table
+
+-- how many bytes a record has, by the number that its mark spells; 0 where the table has none
+abbrev pub size_in : List Format → ℕ → ℕ
+size_in [] m = 0
+size_in (f ∷ fs) m = cond (eqb m f.mark) f.bytes (size_in fs m)
+
+-- records that all have n bytes at most
+abbrev pub within : ℕ → List Format → Bool
+within n [] = true
+within n (f ∷ fs) = leb f.bytes n && within n fs
+
+pub size_within : (n : ℕ) (fs : List Format) (x : ℕ) → T (within n fs) → size_in fs x ≤ n
+size_within n [] x t = omega arith
+size_within n (f ∷ fs) x t =
+    go (eqb x f.mark) (leb→le f.bytes n (and_l (leb f.bytes n) (within n fs) t)) (size_within n fs x (and_r (leb f.bytes n) (within n fs) t))
+  where
+    go : (b : Bool) → f.bytes ≤ n → size_in fs x ≤ n → cond b f.bytes (size_in fs x) ≤ n
+    go true h k = h
+    go false h k = k

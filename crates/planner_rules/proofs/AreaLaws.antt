@@ -75,6 +75,14 @@ onto x s =
     sheet_of x.settings x.rows.asked x.columns.asked s.row_indexes s.row_sizes s.column_indexes s.column_sizes
     s.merge_first_rows s.merge_first_columns s.merge_last_rows s.merge_last_columns s.row_breaks s.column_breaks
 
+-- what was made ready is so of its own range
+module _ (x : Shared) (g : PrintRange) (is js : List ℕ) (r : ReadyArea) (e : r ≡ ready_in x g is js) where
+  pub range_is : r.range ≡ g
+  range_is = ap (λ (q : ReadyArea). q.range) e
+
+  pub ready_is : r ≡ ready_in x r.range is js
+  ready_is = e ∙ ap (λ (h : PrintRange). ready_in x h is js) (sym range_is)
+
 module _ (x : Shared) (s : Sheet) (y : Settled x s) (g : PrintRange) where
   abbrev rows : AxisInput
   rows = rows_in (onto x s) g
@@ -153,6 +161,23 @@ unfolding area_layout area_at counted_at
 area_few c s g a e cut =
     let few = scale_few s.settings c (rows_in s g) (columns_in s g) in
     record { cut = cut; clamped_few = rw e few.0; unreachable_few = rw e few.1 }
+
+-- an area that was counted at the scale that was chosen for it
+pub chosen_counted : (x : Shared) (s : Sheet) → Settled x s → (g : PrintRange) (r : ReadyArea) → r ≡ ready_in x g s.row_indexes s.column_indexes
+    → (z : Scale) → z ≡ cond x.settings.fit (fit_scale
+    (λ p. fit_passes r.rows.fit s.merge_first_rows s.merge_last_rows (within r.rows s.row_indexes) (within r.rows s.row_sizes) p
+    && fit_passes r.columns.fit s.merge_first_columns s.merge_last_columns (within r.columns s.column_indexes)
+    (within r.columns s.column_sizes) p)) (fixed_scale x.settings.percent)
+    → (a : CountedArea) → a ≡ area_from
+    (ready_cut r.rows z.permille s.row_indexes s.row_sizes s.merge_first_rows s.merge_last_rows (looked_at x.settings.fit s.row_breaks))
+    (ready_cut r.columns z.permille s.column_indexes s.column_sizes s.merge_first_columns s.merge_last_columns
+    (looked_at x.settings.fit s.column_breaks)) z
+    → FewCut a → (a ≡ (area_layout (sides_in x) (onto x s) g).counted) × Few a
+unfolding area_layout area_at
+chosen_counted x s y g r e z q a w few =
+    let made = w ∙ counted_is x s y g r e z
+    ∙ ap (counted_at (sides_in x) (rows_in (onto x s) g) (columns_in (onto x s) g)) (scale_is x s y g r e z q) in
+    (made, area_few (sides_in x) (onto x s) g a made few)
 
 -- ---- runs that are written
 
