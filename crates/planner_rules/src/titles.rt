@@ -36,10 +36,10 @@ impl Title {
     pub fn holds(self, b: u32) -> bool
         ensures { result ≡ title_holds self b }
     {
-        match self {
-            Title::Absent => false,
-            Title::Pair(first, last) => Span { first, last }.holds(b),
-        }
+        let Title::Pair(first, last) = self else {
+            return false;
+        };
+        Span { first, last }.holds(b)
     }
 
     // Whether a slot with this index lies past the title's last.
@@ -47,10 +47,10 @@ impl Title {
     pub fn is_passed_by(self, index: u32) -> bool
         ensures { result ≡ past_title self index }
     {
-        match self {
-            Title::Absent => false,
-            Title::Pair(_, last) => index > last,
-        }
+        let Title::Pair(_, last) = self else {
+            return false;
+        };
+        index > last
     }
 }
 
@@ -61,7 +61,8 @@ pub struct Normalized {
     pub ignored: u64,
 }
 
-// A pair of a first and a last index: a title while merges widen it, or a merge that holds a boundary. In order by first, then last.
+// A pair of a first and a last index: a title while merges widen it, or a merge that holds a boundary. In order by first, then last. Not a part of
+// `Title`, `Stretch` and `Frame`: their definitions take two numbers, as document 01's sentences do.
 #[derive(Clone, Copy, PartialEq, Eq, PartialOrd, Ord)]
 pub struct Span {
     pub first: u32,
