@@ -144,8 +144,11 @@ pub fn widen_title(axis: Axis, title: Title, merges: MergeList) -> Result<Widene
 pub fn body_start(title: Title, first: u32) -> u64
     ensures { result ≡ body_start title first }
 {
-    match title {
-        Title::Pair(from, to) if from <= first && first <= to => u64::from(to) + 1,
-        _ => u64::from(first),
+    let Title::Pair(from, to) = title else {
+        return u64::from(first);
+    };
+    if from <= first && first <= to {
+        return u64::from(to) + 1;
     }
+    u64::from(first)
 }
