@@ -85,16 +85,16 @@ fn runs_pass(page: ScaledPage, cutter: Cutter, target: u16, slots: Measured) -> 
     let mut rest = slots;
     let mut count = 0;
     // What is left says how far it is, as where runs are counted; and it is asked before the next run is cut.
-    while !rest.sizes.is_empty() {
+    while let Some(head) = rest.some() {
         count += 1;
         if !meets_target(target, count) {
             return false;
         }
-        let Reach { end, size } = cutter.run_end(rest);
-        if !run_fits(page, title, rest.indexes[0], size) {
+        let Reach { end, size } = cutter.run_end(head);
+        if !run_fits(page, title, head.slots.indexes[0], size) {
             return false;
         }
-        rest = rest.after(end.slots);
+        rest = head.slots.after(end.slots);
     }
     true
 }

@@ -7,8 +7,8 @@ pub loop-n-init : goal.loop-n-init
 loop-n-init c = (
   omega arith,
   omega arith,
-  omega (arith, c.args.slots.are.small.each 0),
-  resumed_start c.args.capacity c.args.last c.args.slots.indexes.now c.args.slots.sizes.now (omega (arith, c.args.slots.are.even)) (omega arith),
+  omega (arith, c.args.head.slots.are.small.each 0),
+  resumed_start c.args.capacity c.args.last c.args.head.slots.indexes.now c.args.head.slots.sizes.now (omega (arith, c.args.head.slots.are.even)) (omega arith),
 )
 
 pub loop-n-preserved-then-next-capacity : goal.loop-n-preserved-then-next-capacity
@@ -17,20 +17,20 @@ loop-n-preserved-then-next-capacity c =
     let a = c.args in (
       omega arith,
       omega arith,
-      omega (arith, c.args.slots.are.small.each l.n),
+      omega (arith, c.args.head.slots.are.small.each l.n),
       omega (
         arith,
-        again_fits a.capacity a.last l.sum l.n a.slots.indexes.now a.slots.sizes.now (omega (arith, c.args.slots.are.even)) (omega arith) (omega arith),
+        again_fits a.capacity a.last l.sum l.n a.head.slots.indexes.now a.head.slots.sizes.now (omega (arith, c.args.head.slots.are.even)) (omega arith) (omega arith),
       ),
     )
 
-pub returns-then-slots-n-clause-value : goal.returns-then-slots-n-clause-value
-returns-then-slots-n-clause-value c =
+pub returns-then-head-n-clause-value : goal.returns-then-head-n-clause-value
+returns-then-head-n-clause-value c =
     let l = c.loop-n in
     let a = c.args in
     omega (
       arith,
-      again_stops a.capacity a.last l.sum l.n a.slots.indexes.now a.slots.sizes.now (omega (arith, c.args.slots.are.even)) (omega arith) (omega arith)
+      again_stops a.capacity a.last l.sum l.n a.head.slots.indexes.now a.head.slots.sizes.now (omega (arith, c.args.head.slots.are.even)) (omega arith) (omega arith)
           (omega arith),
     )
 
@@ -40,10 +40,10 @@ loop-n-preserved c =
     let a = c.args in (
       omega arith,
       omega arith,
-      omega (arith, c.args.slots.are.small.each l.n),
+      omega (arith, c.args.head.slots.are.small.each l.n),
       omega (
         arith,
-        again_title a.capacity a.last l.sum l.n a.slots.indexes.now a.slots.sizes.now (omega (arith, c.args.slots.are.even)) (omega arith) (omega arith)
+        again_title a.capacity a.last l.sum l.n a.head.slots.indexes.now a.head.slots.sizes.now (omega (arith, c.args.head.slots.are.even)) (omega arith) (omega arith)
             (omega arith),
       ),
     )
@@ -52,4 +52,4 @@ pub returns-clause-value : goal.returns-clause-value
 returns-clause-value c =
     let l = c.loop-n in
     let a = c.args in
-    omega (arith, again_end a.capacity a.last l.sum l.n a.slots.indexes.now a.slots.sizes.now (omega (arith, c.args.slots.are.even)))
+    omega (arith, again_end a.capacity a.last l.sum l.n a.head.slots.indexes.now a.head.slots.sizes.now (omega (arith, c.args.head.slots.are.even)))
