@@ -191,14 +191,12 @@ impl SettledSheet<'_> {
         if permille == 0 {
             return Err(Refusal::CoordinateOverflow);
         }
-        if number == 0 {
-            return Err(Refusal::NoSuchNumber);
-        }
-        if number > self.areas.len() as u64 {
-            return Err(Refusal::NoSuchNumber);
-        }
-        let range = self.areas[(number - 1) as usize];
-        self.ready(range).write_at(permille, row_runs, column_runs)
+        let place = number.checked_sub(1).ok_or(Refusal::NoSuchNumber)?;
+        let range = self
+            .areas
+            .get(place as usize)
+            .ok_or(Refusal::NoSuchNumber)?;
+        self.ready(*range).write_at(permille, row_runs, column_runs)
     }
 }
 
