@@ -2,6 +2,8 @@
 ghost use Rattle.std.specs.Prelude.{◌≡◌, ◌≤◌, ◌<◌, length, MatchOption};
 ghost use Rattle.planner_rules.specs.Slots.{Slots, mid};
 
+use planner_rules::SlotList;
+
 // Their indexes rise, their sizes are small, and they are equally many.
 #[derive(Clone, Copy)]
 pub(crate) struct Measured<'a> {
@@ -18,6 +20,16 @@ pub(crate) struct SomeSlots<'a> {
 }
 
 impl<'a> Measured<'a> {
+    // The slots of an axis, which the questions were asked of.
+    #[inline(always)]
+    pub(crate) fn of(list: SlotList<'a>) -> Measured<'a>
+        requires { Slots list.indexes.now list.sizes.now }
+        ensures { (result.indexes ≡ list.entry.indexes) × (result.sizes ≡ list.entry.sizes) }
+    {
+        let SlotList { indexes, sizes } = list;
+        Measured { indexes, sizes }
+    }
+
     // These slots, where there is one.
     #[inline(always)]
     pub(crate) fn some(self) -> Option<SomeSlots<'a>>
