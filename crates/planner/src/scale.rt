@@ -40,11 +40,8 @@ fn fits_side(page: ScaledPage, size: u64) -> bool
     requires { size ≤ 2 ^ 53 }
     ensures { result ≡ fits_side (space_of page.side) page.permille size }
 {
-    let answer = units::scale_fixed(length_of(size), page.permille);
-    match answer {
-        Ok(scaled) => scaled.raw() <= page.side.side.raw(),
-        Err(_) => false,
-    }
+    let side = page.side.side;
+    units::scale_fixed(length_of(size), page.permille).is_ok_and(|scaled| scaled <= side)
 }
 
 // What a run takes of a page: its size and the headings, and the titles where it lies past the title.
