@@ -16,11 +16,7 @@ pub(crate) struct Filling {
 pub(crate) fn total(slots: Measured) -> u64
     ensures { result ≡ sum slots.entry.sizes.now }
 {
-    let mut t = 0;
-    for size in slots.sizes {
-        t += *size;
-    }
-    t
+    slots.sizes.iter().sum()
 }
 
 // The sum of eight sizes.
