@@ -19,7 +19,7 @@ pub(crate) fn total(slots: Measured) -> u64
     slots.sizes.iter().sum()
 }
 
-// The sum of eight sizes.
+// The sum of eight sizes. Written out by pairs: the library's sum would be a loop inside the fill's, unless the compiler sees that there are eight.
 fn sum_of_eight(s: &[u64]) -> u64
     requires small { Small s.now }
     requires s_len { length s.now ≡ 8 }
@@ -31,7 +31,8 @@ fn sum_of_eight(s: &[u64]) -> u64
     low + high
 }
 
-// Fills a run by eight slots at a time, while the sum stays within the capacity: its first slot, and those that eight more take with them.
+// Fills a run by eight slots at a time, with one branch for them all, while the sum stays within the capacity: its first slot, and those that eight
+// more take with them.
 fn fill_by_eight(head: SomeSlots, capacity: u64) -> Filling
     ensures sizes_value { let ss = head.entry.slots.sizes.now in
         result.slots + more capacity result.sum (drop result.slots ss) ≡ natural capacity ss }

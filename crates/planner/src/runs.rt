@@ -237,7 +237,14 @@ impl Cutter<'_> {
         while let Some(head) = rest.some() {
             let Reach { end, size } = self.run_end(head);
             let n = end.slots;
-            at = put_run(list, at, head.slots.indexes[0], head.slots.indexes[n - 1], size, manual);
+            at = put_run(
+                list,
+                at,
+                head.slots.indexes[0],
+                head.slots.indexes[n - 1],
+                size,
+                manual,
+            );
             manual = false;
             rest = head.slots.after(n);
         }

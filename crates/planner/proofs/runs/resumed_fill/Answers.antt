@@ -14,13 +14,14 @@ loop-n-init c = (
 pub loop-n-preserved-then-next-capacity : goal.loop-n-preserved-then-next-capacity
 loop-n-preserved-then-next-capacity c =
     let l = c.loop-n in
-    let a = c.args in (
+    let a = c.args in
+    let slots = a.head.slots in (
       omega arith,
       omega arith,
-      omega (arith, c.args.head.slots.are.small.each l.n),
+      omega (arith, slots.are.small.each l.n),
       omega (
         arith,
-        again_fits a.capacity a.last l.sum l.n a.head.slots.indexes.now a.head.slots.sizes.now (omega (arith, c.args.head.slots.are.even)) (omega arith) (omega arith),
+        again_fits a.capacity a.last l.sum l.n slots.indexes.now slots.sizes.now (omega (arith, slots.are.even)) (omega arith) (omega arith),
       ),
     )
 
@@ -28,22 +29,24 @@ pub returns-then-head-n-clause-value : goal.returns-then-head-n-clause-value
 returns-then-head-n-clause-value c =
     let l = c.loop-n in
     let a = c.args in
+    let slots = a.head.slots in
     omega (
       arith,
-      again_stops a.capacity a.last l.sum l.n a.head.slots.indexes.now a.head.slots.sizes.now (omega (arith, c.args.head.slots.are.even)) (omega arith) (omega arith)
+      again_stops a.capacity a.last l.sum l.n slots.indexes.now slots.sizes.now (omega (arith, slots.are.even)) (omega arith) (omega arith)
           (omega arith),
     )
 
 pub loop-n-preserved : goal.loop-n-preserved
 loop-n-preserved c =
     let l = c.loop-n in
-    let a = c.args in (
+    let a = c.args in
+    let slots = a.head.slots in (
       omega arith,
       omega arith,
-      omega (arith, c.args.head.slots.are.small.each l.n),
+      omega (arith, slots.are.small.each l.n),
       omega (
         arith,
-        again_title a.capacity a.last l.sum l.n a.head.slots.indexes.now a.head.slots.sizes.now (omega (arith, c.args.head.slots.are.even)) (omega arith) (omega arith)
+        again_title a.capacity a.last l.sum l.n slots.indexes.now slots.sizes.now (omega (arith, slots.are.even)) (omega arith) (omega arith)
             (omega arith),
       ),
     )
@@ -52,4 +55,5 @@ pub returns-clause-value : goal.returns-clause-value
 returns-clause-value c =
     let l = c.loop-n in
     let a = c.args in
-    omega (arith, again_end a.capacity a.last l.sum l.n a.head.slots.indexes.now a.head.slots.sizes.now (omega (arith, c.args.head.slots.are.even)))
+    let slots = a.head.slots in
+    omega (arith, again_end a.capacity a.last l.sum l.n slots.indexes.now slots.sizes.now (omega (arith, slots.are.even)))
