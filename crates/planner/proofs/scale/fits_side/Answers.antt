@@ -1,5 +1,5 @@
 -- Whether a size fits is asked of the length that it has when scaled.
-use Rattle.std.proofs.Common.{◌≡◌, Bool, false, ℤ, pos, Result, Ok, Err, refl, ap, ◌∙◌, rules, tests}
+use Rattle.std.proofs.Common.{◌≡◌, Bool, false, ℤ, Result, Ok, Err, refl, ap, ◌∙◌, rules, tests}
 use Rattle.units.specs.declared.Fixed.{Fixed}
 use Rattle.units.specs.declared.refusal.Refusal.{Refusal}
 use Rattle.units.specs.Outcome.{Outcome}

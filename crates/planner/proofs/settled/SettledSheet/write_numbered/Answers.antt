@@ -1,8 +1,8 @@
 -- 10 and 14 refuse, and else the area with the number is written.
-use Rattle.std.proofs.Common.{◌≡◌, suc, ◌-◌, ◌<◌, ◌≤◌, length, get_or, refl, sym, arith, rules}
+use Rattle.std.proofs.Common.{◌≡◌, suc, ◌-◌, ◌<◌, ◌≤◌, length, get_or, sym, arith, rules}
 use Rattle.units.specs.Outcome.{refused}
 use Rattle.units.specs.Refusals.{outcome}
-use Rattle.planner_rules.specs.Steps.{FineArea, sides_in}
+use Rattle.planner_rules.specs.Steps.{sides_in}
 use Rattle.planner_rules.specs.Areas.{no_range}
 use Rattle.planner_rules.proofs.PlanLaws.{refuses_area, relay_area, no_permille, number_zero, number_past, number_is}
 use Rattle.planner.proofs.settled.SettledSheet.write_numbered.Goals as goal
