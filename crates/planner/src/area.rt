@@ -68,10 +68,7 @@ fn fitted<'a>(ready: Ready, axis: AxisLists<'a>) -> FittedAxis<'a>
     FittedAxis {
         fit: ready.fit,
         merges: axis.merges,
-        slots: Measured {
-            indexes: &axis.slots.indexes[ready.from..ready.to],
-            sizes: &axis.slots.sizes[ready.from..ready.to],
-        },
+        slots: Measured::of(axis.slots).part(ready.from, ready.to),
     }
 }
 

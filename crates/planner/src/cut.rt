@@ -50,7 +50,8 @@ pub(crate) fn count_cut(axis: FittedAxis, frame: Frame, permille: u16, breaks: &
     final_cut(tally, cut_overflows(page, tally.runs, counted.overflows))
 }
 
-// Writes the final cut of an axis, whose body is empty or not: the runs that its pages are made of. Its room: as at `write_empty`.
+// Writes the final cut of an axis, whose body is empty or not: the runs that its pages are made of. Its room: as at `write_empty`. `first` beside
+// `empty`, and no `Option` of it: the definition takes it of any runs (`or_empty first runs`), where room and list would be said of each case.
 pub(crate) fn write_cut(
     axis: FittedAxis,
     frame: Frame,

@@ -3,7 +3,7 @@ ghost use Rattle.std.specs.Prelude.{◌≡◌, ◌+◌, ◌*◌, ◌≤◌, ◌<
 ghost use Rattle.planner_rules.specs.Slots.{Small, sum};
 ghost use Rattle.planner_rules.specs.Runs.{more, natural};
 
-use crate::slots::Measured;
+use crate::slots::{Measured, SomeSlots};
 
 // The slots that a run has so far, and their sum.
 #[derive(Clone, Copy)]
@@ -16,14 +16,10 @@ pub(crate) struct Filling {
 pub(crate) fn total(slots: Measured) -> u64
     ensures { result ≡ sum slots.entry.sizes.now }
 {
-    let mut t = 0;
-    for size in slots.sizes {
-        t += *size;
-    }
-    t
+    slots.sizes.iter().sum()
 }
 
-// The sum of eight sizes.
+// The sum of eight sizes. Written out by pairs: the library's sum would be a loop inside the fill's, unless the compiler sees that there are eight.
 fn sum_of_eight(s: &[u64]) -> u64
     requires small { Small s.now }
     requires s_len { length s.now ≡ 8 }
@@ -35,19 +31,19 @@ fn sum_of_eight(s: &[u64]) -> u64
     low + high
 }
 
-// Fills a run by eight slots at a time, while the sum stays within the capacity: its first slot, and those that eight more take with them.
-fn fill_by_eight(slots: Measured, capacity: u64) -> Filling
-    requires some { 0 < length slots.sizes.now }
-    ensures sizes_value { let ss = slots.entry.sizes.now in
+// Fills a run by eight slots at a time, with one branch for them all, while the sum stays within the capacity: its first slot, and those that eight
+// more take with them.
+fn fill_by_eight(head: SomeSlots, capacity: u64) -> Filling
+    ensures sizes_value { let ss = head.entry.slots.sizes.now in
         result.slots + more capacity result.sum (drop result.slots ss) ≡ natural capacity ss }
-    ensures sum_value { result.sum ≡ sum (take result.slots slots.entry.sizes.now) }
-    ensures le_slots { (1 ≤ result.slots) × (result.slots ≤ length slots.entry.sizes.now) × (result.sum ≤ 1073741824 * result.slots) }
+    ensures sum_value { result.sum ≡ sum (take result.slots head.entry.slots.sizes.now) }
+    ensures le_slots { (1 ≤ result.slots) × (result.slots ≤ length head.entry.slots.sizes.now) × (result.sum ≤ 1073741824 * result.slots) }
 {
     let mut filling = Filling {
         slots: 1,
-        sum: slots.sizes[0],
+        sum: head.slots.sizes[0],
     };
-    for eight in slots.sizes[1..].chunks_exact(8) {
+    for eight in head.slots.sizes[1..].chunks_exact(8) {
         let sum = filling.sum + sum_of_eight(eight);
         if sum > capacity {
             return filling;
@@ -61,14 +57,13 @@ fn fill_by_eight(slots: Measured, capacity: u64) -> Filling
 }
 
 // What a run takes by filling alone: the first slot, and the next while the sum stays within the capacity.
-pub(crate) fn natural_fill(slots: Measured, capacity: u64) -> Filling
-    requires some { 0 < length slots.sizes.now }
-    ensures slots_value { result.slots ≡ natural capacity slots.entry.sizes.now }
-    ensures sum_value { result.sum ≡ sum (take result.slots slots.entry.sizes.now) }
-    ensures le_slots { (1 ≤ result.slots) × (result.slots ≤ length slots.entry.sizes.now) }
+pub(crate) fn natural_fill(head: SomeSlots, capacity: u64) -> Filling
+    ensures slots_value { result.slots ≡ natural capacity head.entry.slots.sizes.now }
+    ensures sum_value { result.sum ≡ sum (take result.slots head.entry.slots.sizes.now) }
+    ensures le_slots { (1 ≤ result.slots) × (result.slots ≤ length head.entry.slots.sizes.now) }
 {
-    let mut filling = fill_by_eight(slots, capacity);
-    for size in &slots.sizes[filling.slots..] {
+    let mut filling = fill_by_eight(head, capacity);
+    for size in &head.slots.sizes[filling.slots..] {
         let sum = filling.sum + *size;
         if sum > capacity {
             return filling;

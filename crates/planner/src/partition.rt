@@ -96,9 +96,6 @@ pub fn partition_axis_with_breaks(
         (call.body_runs setup is ss firsts lasts bs) result list.old list.new }
 {
     partition_refusal(axis.limit(), setup, lists)?;
-    let slots = Measured {
-        indexes: lists.slots.indexes,
-        sizes: lists.slots.sizes,
-    };
+    let slots = Measured::of(lists.slots);
     partition_body(setup, slots, lists.merges, lists.breaks, list)
 }

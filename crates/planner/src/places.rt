@@ -6,8 +6,8 @@ ghost use Rattle.planner_rules.specs.Runs.{moved};
 use crate::slots::Measured;
 use planner_rules::{Cut, Span};
 
-// How many slots have an index below the limit. Two such places bound the slots from one index to another: a title, a body and an area that is made
-// ready each make of none between them what the others do not, so that a function of both places would be no shorter.
+// How many slots have an index below the limit. Two such places bound the slots from one index to another. No function of both: of none between
+// them a title answers 0, a body an empty tally and an area a place twice, and a pair would need that it is ordered, and both values, in its contract.
 pub(crate) fn place_of(indexes: &[u32], limit: u64) -> usize
     requires { Rising indexes.now }
     ensures value { result ≡ below limit indexes.now }

@@ -71,8 +71,8 @@ fn plan_of(shared: &Shared, counted: CountedAreas) -> Plan
 
 impl SheetArea<'_> {
     // Counts an area that stands alone and, where its runs have room and its pages are within the limit, writes it. Beside `plan_several` for speed:
-    // there an area is made ready and its capacities are found twice, with which one area took longer than its bar
-    // (docs/DECISIONS.md, T-02, 17).
+    // there an area is made ready and its capacities are found twice, to be counted and to be written, which was among the things by which one area
+    // had become slower than it was before a plan took several (docs/DECISIONS.md, T-02, 17).
     #[inline(always)]
     fn plan(&self, row_runs: &mut [u64], column_runs: &mut [u64]) -> Result<Plan, Refusal>
         ensures { let of = self.now.sheet in
@@ -191,14 +191,9 @@ impl SettledSheet<'_> {
         if permille == 0 {
             return Err(Refusal::CoordinateOverflow);
         }
-        if number == 0 {
-            return Err(Refusal::NoSuchNumber);
-        }
-        if number > self.areas.len() as u64 {
-            return Err(Refusal::NoSuchNumber);
-        }
-        let range = self.areas[(number - 1) as usize];
-        self.ready(range).write_at(permille, row_runs, column_runs)
+        let place = number.checked_sub(1).ok_or(Refusal::NoSuchNumber)?;
+        let range = self.areas.get(place as usize).ok_or(Refusal::NoSuchNumber)?;
+        self.ready(*range).write_at(permille, row_runs, column_runs)
     }
 }
 

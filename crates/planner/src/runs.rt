@@ -12,7 +12,7 @@ use crate::filling::{Filling, natural_fill, total};
 use crate::page::ScaledPage;
 use crate::places::{moved_cut, place_of};
 use crate::scale::run_fits;
-use crate::slots::Measured;
+use crate::slots::{Measured, SomeSlots};
 use planner_cuts::{capacity_for, holding_merge, mark_of, merge_step};
 use planner_rules::{Cut, Frame, MergeList, RUN_NUMBERS, RunEnd, Span, Tally, Title};
 
@@ -46,26 +46,25 @@ pub(crate) struct Cutter<'a> {
 }
 
 // How many slots are taken on from a boundary that the title holds.
-fn resumed_fill(slots: Measured, capacity: u64, last: u32) -> usize
-    requires { 0 < length slots.sizes.now }
-    ensures value { result ≡ resumed capacity last slots.entry.indexes.now slots.entry.sizes.now }
-    ensures upper_bound { result ≤ length slots.entry.sizes.now }
+fn resumed_fill(head: SomeSlots, capacity: u64, last: u32) -> usize
+    ensures value { result ≡ resumed capacity last head.entry.slots.indexes.now head.entry.slots.sizes.now }
+    ensures upper_bound { result ≤ length head.entry.slots.sizes.now }
 {
-    let mut sum = slots.sizes[0];
+    let mut sum = head.slots.sizes[0];
     // By number, which is what is answered: the two lists zipped, numbered and without their first would say no more.
-    for n in 1..slots.sizes.len() {
-        let size = slots.sizes[n];
+    for n in 1..head.slots.sizes.len() {
+        let size = head.slots.sizes[n];
         let next = sum + size;
         if next <= capacity {
             sum = next;
             continue;
         }
-        if slots.indexes[n] > last {
+        if head.slots.indexes[n] > last {
             return n;
         }
         sum = size;
     }
-    slots.sizes.len()
+    head.slots.sizes.len()
 }
 
 // How many slots a run has after the title's resumption, where filling gave n and slots remain.
@@ -78,7 +77,10 @@ fn title_end(title: Title, capacity: u64, slots: Measured, n: usize) -> usize
         return n;
     };
     if title.holds(slots.indexes[n]) {
-        return n + resumed_fill(slots.after(n), capacity, last);
+        let head = SomeSlots {
+            slots: slots.after(n),
+        };
+        return n + resumed_fill(head, capacity, last);
     }
     n
 }
@@ -172,18 +174,18 @@ impl Cutter<'_> {
     }
 
     // Where a run that starts at the head of the slots ends, and its size.
-    pub(crate) fn run_end(self, slots: Measured) -> Reach
-        requires { 0 < length slots.sizes.now }
+    pub(crate) fn run_end(self, head: SomeSlots) -> Reach
         ensures grown_value { let merges = self.entry.merges in
-            let is = slots.entry.indexes.now in
-            let ss = slots.entry.sizes.now in
+            let is = head.entry.slots.indexes.now in
+            let ss = head.entry.slots.sizes.now in
             (result.end ≡ run_end self.entry.frame merges.firsts.now merges.lasts.now is ss)
             × (result.size ≡ sum (take result.end.slots ss)) }
-        ensures le_slots { (1 ≤ result.end.slots) × (result.end.slots ≤ length slots.entry.sizes.now) }
+        ensures le_slots { (1 ≤ result.end.slots) × (result.end.slots ≤ length head.entry.slots.sizes.now) }
     {
+        let slots = head.slots;
         let k = self.frame;
         let capacity = capacity_for(k, slots.indexes[0]);
-        let filling = natural_fill(slots, capacity);
+        let filling = natural_fill(head, capacity);
         let n = taken_slots(k, slots, filling.slots);
         let end = self.merged_end(slots.indexes, n);
         Reach {
@@ -207,12 +209,12 @@ impl Cutter<'_> {
         let mut grown = 0;
         let mut overflows = 0;
         // What is left says how far it is: an iterator over runs would hold this rest and that it shrinks in a contract of its own, for three loops.
-        while !rest.sizes.is_empty() {
-            let Reach { end, size } = self.run_end(rest);
+        while let Some(head) = rest.some() {
+            let Reach { end, size } = self.run_end(head);
             runs += 1;
             grown += u64::from(end.grown);
-            overflows += u64::from(!run_fits(page, title, rest.indexes[0], size));
-            rest = rest.after(end.slots);
+            overflows += u64::from(!run_fits(page, title, head.slots.indexes[0], size));
+            rest = head.slots.after(end.slots);
         }
         Counted {
             runs,
@@ -232,12 +234,19 @@ impl Cutter<'_> {
         let mut manual = mark;
         let mut at = 0;
         // What is left says how far it is, as where runs are counted.
-        while !rest.sizes.is_empty() {
-            let Reach { end, size } = self.run_end(rest);
+        while let Some(head) = rest.some() {
+            let Reach { end, size } = self.run_end(head);
             let n = end.slots;
-            at = put_run(list, at, rest.indexes[0], rest.indexes[n - 1], size, manual);
+            at = put_run(
+                list,
+                at,
+                head.slots.indexes[0],
+                head.slots.indexes[n - 1],
+                size,
+                manual,
+            );
             manual = false;
-            rest = rest.after(n);
+            rest = head.slots.after(n);
         }
         at
     }

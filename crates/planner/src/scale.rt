@@ -40,11 +40,8 @@ fn fits_side(page: ScaledPage, size: u64) -> bool
     requires { size ≤ 2 ^ 53 }
     ensures { result ≡ fits_side (space_of page.side) page.permille size }
 {
-    let answer = units::scale_fixed(length_of(size), page.permille);
-    match answer {
-        Ok(scaled) => scaled.raw() <= page.side.side.raw(),
-        Err(_) => false,
-    }
+    let side = page.side.side;
+    units::scale_fixed(length_of(size), page.permille).is_ok_and(|scaled| scaled <= side)
 }
 
 // What a run takes of a page: its size and the headings, and the titles where it lies past the title.
@@ -85,16 +82,16 @@ fn runs_pass(page: ScaledPage, cutter: Cutter, target: u16, slots: Measured) -> 
     let mut rest = slots;
     let mut count = 0;
     // What is left says how far it is, as where runs are counted; and it is asked before the next run is cut.
-    while !rest.sizes.is_empty() {
+    while let Some(head) = rest.some() {
         count += 1;
         if !meets_target(target, count) {
             return false;
         }
-        let Reach { end, size } = cutter.run_end(rest);
-        if !run_fits(page, title, rest.indexes[0], size) {
+        let Reach { end, size } = cutter.run_end(head);
+        if !run_fits(page, title, head.slots.indexes[0], size) {
             return false;
         }
-        rest = rest.after(end.slots);
+        rest = head.slots.after(end.slots);
     }
     true
 }

@@ -1,6 +1,8 @@
 // Measured slots that the questions were asked of, or a part of them.
-ghost use Rattle.std.specs.Prelude.{◌≡◌, ◌≤◌, length};
+ghost use Rattle.std.specs.Prelude.{◌≡◌, ◌≤◌, ◌<◌, length, MatchOption};
 ghost use Rattle.planner_rules.specs.Slots.{Slots, mid};
+
+use planner_rules::SlotList;
 
 // Their indexes rise, their sizes are small, and they are equally many.
 #[derive(Clone, Copy)]
@@ -10,7 +12,35 @@ pub(crate) struct Measured<'a> {
     ghost are: { Slots indexes.now sizes.now },
 }
 
+// Measured slots, at least one: a run starts at the first.
+#[derive(Clone, Copy)]
+pub(crate) struct SomeSlots<'a> {
+    pub slots: Measured<'a>,
+    ghost some: { 0 < length slots.sizes.now },
+}
+
 impl<'a> Measured<'a> {
+    // The slots of an axis, which the questions were asked of.
+    #[inline(always)]
+    pub(crate) fn of(list: SlotList<'a>) -> Measured<'a>
+        requires { Slots list.indexes.now list.sizes.now }
+        ensures { (result.indexes ≡ list.entry.indexes) × (result.sizes ≡ list.entry.sizes) }
+    {
+        let SlotList { indexes, sizes } = list;
+        Measured { indexes, sizes }
+    }
+
+    // These slots, where there is one.
+    #[inline(always)]
+    pub(crate) fn some(self) -> Option<SomeSlots<'a>>
+        ensures { MatchOption result (length self.entry.sizes.now ≡ 0) (λ head. head.slots ≡ self.entry) }
+    {
+        if self.sizes.is_empty() {
+            return None;
+        }
+        Some(SomeSlots { slots: self })
+    }
+
     // The slots from one place to another.
     pub(crate) fn part(self, from: usize, to: usize) -> Measured<'a>
         requires ordered { from ≤ to }

@@ -36,13 +36,9 @@ pub(crate) fn ready_title(axis: Axis, asked: Title, lists: AxisLists) -> ReadyTi
     ensures few { length lists.entry.merges.firsts.now < 2 ^ 63 }
 {
     let widened = widened_title(axis.limit(), asked, lists.merges);
-    let slots = Measured {
-        indexes: lists.slots.indexes,
-        sizes: lists.slots.sizes,
-    };
     ReadyTitle {
         asked,
         widened,
-        total: title_total(widened.title, slots),
+        total: title_total(widened.title, Measured::of(lists.slots)),
     }
 }

@@ -24,7 +24,8 @@ fn nearer(edge: u64, from: u64, nearest: u64) -> u64
     edge.min(nearest)
 }
 
-// The nearest row past `from` where an area starts or has ended, or the end of the grid.
+// The nearest row past `from` where an area starts or has ended, or the end of the grid. By a `for`: that the nearest so far is past `from`, which the
+// loop keeps, the closure of a fold would have to require and promise.
 fn next_edge(ranges: &[PrintRange], from: u64) -> u64
     requires { from < 1048576 }
     ensures { edges.Clear ranges.now from result }

@@ -39,7 +39,8 @@ fn earliest_of(merges: MergeList, clip: Span, b: u32, found: Option<Span>) -> Op
     let firsts = merges.firsts;
     let lasts = merges.lasts;
     let mut held = found;
-    // By number from the back: a zip from its back first drops what is longer, and its clause tells that item by item, which is no plainer.
+    // By number from the back, as the definition goes. As the `min` of a zip from the front, clipped, filtered and chained with what was found before,
+    // it was tried: that this is the definition's (`returns`) stayed unproved.
     for i in (0..firsts.len().min(lasts.len())).rev() {
         let clipped = Span {
             first: firsts[i].max(clip.first),

@@ -51,14 +51,17 @@ pub struct AxisLists<'a> {
     pub breaks: &'a [u32],
 }
 
-// What is handed over of a sheet. A merge has its rows in one axis and its columns in the other, at the same place.
+// What is handed over of a sheet. A merge has its rows in one axis and its columns in the other, at the same place. `RunLists`,
+// `RunCounts` and `Frames` are such pairs too, and not one generic `Axes<T>`: no function is for two of them, and a definition or a clause, which tells
+// from the name what a pair holds, would have to give its type.
 #[derive(Clone, Copy)]
 pub struct SheetLists<'a> {
     pub rows: AxisLists<'a>,
     pub columns: AxisLists<'a>,
 }
 
-// The runs of a plan, or of an area, as they were written: of the rows and of the columns, `RUN_NUMBERS` numbers a run.
+// The runs of a plan, or of an area, as they were written: of the rows and of the columns, `RUN_NUMBERS` numbers a run. A pair of
+// its own: as at `SheetLists`.
 #[derive(Clone, Copy)]
 pub struct RunLists<'a> {
     pub rows: &'a [u64],

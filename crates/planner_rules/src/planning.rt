@@ -25,7 +25,7 @@ pub struct Settings {
 }
 
 // An area of the sheet. Not one type with the `Range` of a record, whose columns are u16 as its bytes are: one of both would be generic over its
-// columns, and would stand below the planner and the records, in `units`, which has no cells.
+// columns, and would stand below the planner and the records, which know nothing of each other: in `units`, which has no cells.
 #[derive(Clone, Copy, Default)]
 pub struct PrintRange {
     pub first_row: u32,
@@ -43,7 +43,7 @@ pub struct Request<'a> {
     pub column_title: Title,
 }
 
-// How many runs of rows and of columns.
+// How many runs of rows and of columns. A pair of its own: as at `SheetLists`.
 #[derive(Clone, Copy, Default)]
 pub struct RunCounts {
     pub rows: usize,
@@ -85,14 +85,15 @@ pub struct ReadyArea {
     pub columns: Ready,
 }
 
-// What the runs of both its axes go by at a permille.
+// What the runs of both its axes go by at a permille. A pair of its own: as at `SheetLists`.
 #[derive(Clone, Copy)]
 pub struct Frames {
     pub rows: Frame,
     pub columns: Frame,
 }
 
-// The final cut of an axis: how many runs its pages are made of, whether its body is empty, and the notes on the cut.
+// The final cut of an axis: how many runs its pages are made of, whether its body is empty, and the notes on the cut. No `Tally` in it: its runs are at
+// least one, where those of a tally may be none.
 #[derive(Clone, Copy)]
 pub struct FinalCut {
     pub runs: usize,

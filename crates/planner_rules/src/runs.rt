@@ -4,8 +4,8 @@ use crate::titles::Title;
 // How many numbers a run has in a list of runs: first, last, size, and 1 where a manual break stands before it.
 pub const RUN_NUMBERS: usize = 4;
 
-// What the runs of an axis go by: two capacities, the title, and the stretch that merges are clipped to. No `Stretch` in it: each definition of
-// runs would name one field more.
+// What the runs of an axis go by: two capacities, the title, and the stretch that merges are clipped to. No `Stretch` in it: the
+// definitions `capacity_at`, `taken`, `run_end` and `placed` would name one field more, for one function that then copies none (`frame_at`).
 #[derive(Clone, Copy)]
 pub struct Frame {
     pub untitled: u64,

@@ -1,4 +1,4 @@
--- Each question in turn: those before it passed, and it stopped.
+-- Each question in turn: those before it passed, and it stopped. The chains: as at `plan_refusal`.
 use Rattle.std.proofs.Common.{◌≡◌, Bool, ◌&&◌, leb, Err, sym, ap, ◌∙◌, arith, rules}
 use Rattle.planner_rules.specs.Partition.{first_no}
 use Rattle.planner_rules.proofs.QuestionLaws.{stopped, passed}

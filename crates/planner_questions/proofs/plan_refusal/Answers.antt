@@ -1,4 +1,5 @@
--- Each question in turn: those before it passed, and it stopped.
+-- Each question in turn: those before it passed, and it stopped. A goal knows the calls before its own place only, so that the chains of two goals stay
+-- two: a lemma of one would take as arguments all that it says.
 use Rattle.std.proofs.Common.{◌≡◌, ◌&&◌, length, Err, sym, ◌∙◌, ap₂, arith, rules, tests}
 use Rattle.planner_rules.specs.Areas.{one_to_eight}
 use Rattle.planner_rules.specs.Titles.{limit_of}

@@ -26,29 +26,29 @@ eight_more cap s n xs p e h k =
 pub loop-eight-init : goal.loop-eight-init
 unfolding sum
 loop-eight-init c =
-    let xs = c.args.slots.sizes.now in (
+    let xs = c.args.head.slots.sizes.now in (
       search rules,
       ap chunks_exact_rest c.into_iter-eight-iterator.ensures.into_iter_gives ∙ c.chunks_exact-eight-items.ensures.rest
           ∙ take_all (length xs - 1) (drop 1 xs) (simp length-drop (omega arith)),
       omega arith,
       omega arith,
-      omega (arith, c.args.slots.are.small.each 0),
-      natural_start _ _ c.requires.some,
-      omega (arith, sum_one 0 xs c.requires.some),
+      omega (arith, c.args.head.slots.are.small.each 0),
+      natural_start _ _ c.args.head.some,
+      omega (arith, sum_one 0 xs c.args.head.some),
     )
 
 pub sum_of_eight-requires-clause-small : goal.sum_of_eight-requires-clause-small
 sum_of_eight-requires-clause-small c =
-    let xs = c.args.slots.sizes.now in
+    let xs = c.args.head.slots.sizes.now in
     let i = c.loop-eight.invariant in
     let s = c.in-Some.ensures.steps in
     let n = c.loop-eight.filling.slots in
     let are = eight_are n xs c.in-Some.eight.now _ (sym i.1 ∙ s.1.0) (s.1.1 ∙ i.0) in
-    subst Small are.0 (small-mid n (n + 8) xs are.2 c.args.slots.are.small)
+    subst Small are.0 (small-mid n (n + 8) xs are.2 c.args.head.slots.are.small)
 
 pub loop-eight-preserved : goal.loop-eight-preserved
 loop-eight-preserved c =
-    let xs = c.args.slots.sizes.now in
+    let xs = c.args.head.slots.sizes.now in
     let e = c.sum_of_eight.ensures in
     let i = c.loop-eight.invariant in
     let s = c.in-Some.ensures.steps in

@@ -8,7 +8,7 @@ use Rattle.planner.proofs.filling.fill_by_eight.Given as goal
 abbrev pub invariant-loop-eight : goal.invariant-loop-eight
 invariant-loop-eight l =
     let n = l.filling.slots in
-    let ss = l.slots.sizes.now in
+    let ss = l.head.slots.sizes.now in
     (chunks_exact_size l.eight-iterator ≡ 8) × (chunks_exact_rest l.eight-iterator ≡ drop n ss) × (1 ≤ n) × (n ≤ length ss)
     × (l.filling.sum ≤ 1073741824 * n) × (n + more l.capacity l.filling.sum (drop n ss) ≡ natural l.capacity ss)
     × (l.filling.sum ≡ sum (take n ss))

@@ -14,7 +14,7 @@ pub returns-then-sum-capacity-clause-slots_value : goal.returns-then-sum-capacit
 returns-then-sum-capacity-clause-slots_value c =
     let l = c.loop-size in
     let i = l.invariant in
-    let xs = c.args.slots.sizes.now in
+    let xs = c.args.head.slots.sizes.now in
     let n = l.filling.slots in
     let item = item_is xs _ _ l.size-index n i.1 i.0 in
     let within : n < length xs = omega (arith, left xs _ _ i.1) in
@@ -24,7 +24,7 @@ pub loop-size-preserved : goal.loop-size-preserved
 loop-size-preserved c =
     let l = c.loop-size in
     let i = l.invariant in
-    let xs = c.args.slots.sizes.now in
+    let xs = c.args.head.slots.sizes.now in
     let n = l.filling.slots in
     let item = item_is xs _ _ l.size-index n i.1 i.0 in
     let within : n < length xs = omega (arith, left xs _ _ i.1) in (
@@ -32,7 +32,7 @@ loop-size-preserved c =
       i.1,
       omega arith,
       omega (arith, within),
-      omega (arith, item, c.args.slots.are.small.each n),
+      omega (arith, item, c.args.head.slots.are.small.each n),
       rw item (omega (arith, i.5, more_yes c.args.capacity l.filling.sum n xs within (omega (arith, item)))),
       omega (arith, item, i.6, sum_one n xs within),
     )
@@ -41,5 +41,5 @@ pub returns-clause-slots_value : goal.returns-clause-slots_value
 returns-clause-slots_value c =
     let l = c.loop-size in
     let i = l.invariant in
-    let xs = c.args.slots.sizes.now in
+    let xs = c.args.head.slots.sizes.now in
     omega (arith, i.5, more_end c.args.capacity l.filling.sum l.filling.slots xs (omega (arith, left xs _ _ i.1)))

@@ -7,7 +7,7 @@ use Rattle.planner.proofs.filling.natural_fill.Given as goal
 abbrev pub invariant-loop-size : goal.invariant-loop-size
 invariant-loop-size l =
     let n = l.filling.slots in
-    let ss = l.slots.sizes.now in
+    let ss = l.head.slots.sizes.now in
     (n ≡ l.initial.filling.slots + l.size-index) × (l.size-items ≡ drop l.initial.filling.slots ss) × (1 ≤ n) × (n ≤ length ss)
     × (l.filling.sum ≤ 1073741824 * n) × (n + more l.capacity l.filling.sum (drop n ss) ≡ natural l.capacity ss)
     × (l.filling.sum ≡ sum (take n ss))

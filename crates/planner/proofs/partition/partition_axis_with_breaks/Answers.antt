@@ -27,15 +27,15 @@ returns-in_err-partition_refusal c =
     rw (p.1, p.2)
     (refuses _ (body_runs a.setup is ss fs ls a.lists.breaks.now) r a.list.now (is_refused _ _ _ _ _ _ _ _ _ asked (positive r)))
 
-pub invariant_of-slots : goal.invariant_of-slots
-invariant_of-slots c =
+pub of-slots-requires : goal.of-slots-requires
+of-slots-requires c =
     let a = c.args in
     let is = a.lists.slots.indexes.now in
     let ss = a.lists.slots.sizes.now in
     let fs = a.lists.merges.firsts.now in
     let ls = a.lists.merges.lasts.now in
     let asked = c.in_ok-partition_refusal.ensures ∙ ap (λ (n : ℕ). first_no n a.setup is ss fs ls) c.limit.ensures in
-    record { are = (is_asked (limit_of a.axis) a.setup is ss fs ls a.lists.breaks.now a.list.now _ asked (omega arith) (grid a.axis)).slots }
+    (is_asked (limit_of a.axis) a.setup is ss fs ls a.lists.breaks.now a.list.now _ asked (omega arith) (grid a.axis)).slots
 
 pub returns : goal.returns
 returns c =
@@ -46,4 +46,4 @@ returns c =
     let ls = a.lists.merges.lasts.now in
     let asked = c.in_ok-partition_refusal.ensures ∙ ap (λ (n : ℕ). first_no n a.setup is ss fs ls) c.limit.ensures in
     rw (is_asked (limit_of a.axis) a.setup is ss fs ls a.lists.breaks.now a.list.now _ asked (omega arith) (grid a.axis)).goes_on
-    c.partition_body.ensures
+    (rw (c.of-slots.ensures.0, c.of-slots.ensures.1) at c.partition_body.ensures)

@@ -37,19 +37,22 @@ returns-then-not-meets_target c =
     let k = a.cutter.frame in
     let fs = a.cutter.merges.firsts.now in
     let ls = a.cutter.merges.lasts.now in
-    let l = c.loop-rest in
+    let l = c.loop-head in
     too_many (space_of a.page.side) (titled k.title) a.target a.page.permille l.count (runs k fs ls l.rest.indexes.now l.rest.sizes.now)
     (some (run k fs ls) l.rest.indexes.now l.rest.sizes.now (search (rules, tests)) l.rest.are.even)
     (sym c.if-not-meets_target.ensures) ∙ l.invariant.left
 
 pub run_fits-requires : goal.run_fits-requires
 run_fits-requires c =
+    let l = c.loop-head in
+    let same : c.in-Some.head.slots ≡ l.rest = search rules in
     let r = c.run_end-size in
-    let ss = c.loop-rest.rest.sizes.now in
+    let ends = rw same at r.ensures in
+    let ss = l.rest.sizes.now in
     omega (
       arith,
-      r.ensures.grown_value.1,
-      small-sum (take r.result.end.slots ss) (small-take r.result.end.slots ss r.ensures.le_slots.1 c.loop-rest.rest.are.small),
+      ends.grown_value.1,
+      small-sum (take r.result.end.slots ss) (small-take r.result.end.slots ss ends.le_slots.1 c.loop-head.rest.are.small),
     )
 
 pub returns-then-not-run_fits : goal.returns-then-not-run_fits
@@ -58,33 +61,37 @@ returns-then-not-run_fits c =
     let k = a.cutter.frame in
     let fs = a.cutter.merges.firsts.now in
     let ls = a.cutter.merges.lasts.now in
-    let l = c.loop-rest in
+    let l = c.loop-head in
+    let same : c.in-Some.head.slots ≡ l.rest = search rules in
     let r = c.run_end-size in
+    let ends = rw same at r.ensures in
     let out = out k fs ls l.rest.indexes.now l.rest.sizes.now l.rest.are (search (rules, tests)) r.result.end
-    r.ensures.grown_value.0 r.ensures.le_slots.0 (space_of a.page.side) k.title a.target a.page.permille l.count r.result.size r.ensures.grown_value.1
-    c.if-not-run_fits.ensures in
+    ends.grown_value.0 ends.le_slots.0 (space_of a.page.side) k.title a.target a.page.permille l.count r.result.size ends.grown_value.1
+    (rw same at c.if-not-run_fits.ensures) in
     out ∙ l.invariant.left
 
-pub loop-rest-preserved : goal.loop-rest-preserved
-loop-rest-preserved c =
+pub loop-head-preserved : goal.loop-head-preserved
+loop-head-preserved c =
     let a = c.args in
     let k = a.cutter.frame in
     let fs = a.cutter.merges.firsts.now in
     let ls = a.cutter.merges.lasts.now in
-    let l = c.loop-rest in
+    let l = c.loop-head in
+    let same : c.in-Some.head.slots ≡ l.rest = search rules in
     let r = c.run_end-size in
+    let ends = rw same at r.ensures in
     let n = r.result.end.slots in
     let next = within k fs ls l.rest.indexes.now l.rest.sizes.now l.rest.are (search (rules, tests)) r.result.end
-    r.ensures.grown_value.0 r.ensures.le_slots.0 (space_of a.page.side) k.title a.target a.page.permille l.count r.result.size r.ensures.grown_value.1
-    c.if-not-run_fits.ensures in
-    let rest = c.after-rest.ensures in
+    ends.grown_value.0 ends.le_slots.0 (space_of a.page.side) k.title a.target a.page.permille l.count r.result.size ends.grown_value.1
+    (rw same at c.if-not-run_fits.ensures) in
+    let rest = rw same at c.after-rest.ensures in
     let rest_is : runs k fs ls c.after-rest.result.indexes.now c.after-rest.result.sizes.now
     ≡ runs k fs ls (part n l.rest.indexes.now) (part n l.rest.sizes.now) =
     λ i. runs k fs ls (rest.indexes_are i) (rest.sizes_are i) in
     record {
       left = ap (pass_from (space_of a.page.side) (titled k.title) a.target a.page.permille (l.count + 1)) rest_is ∙ next ∙ l.invariant.left;
       met = sym c.if-not-meets_target.ensures;
-      few = omega (arith, ap length rest.sizes_are, length_part n l.rest.sizes.now, r.ensures.le_slots, l.invariant.few);
+      few = omega (arith, ap length rest.sizes_are, length_part n l.rest.sizes.now, ends.le_slots, l.invariant.few);
     }
 
 pub returns : goal.returns
@@ -94,7 +101,7 @@ returns c =
     let k = a.cutter.frame in
     let fs = a.cutter.merges.firsts.now in
     let ls = a.cutter.merges.lasts.now in
-    let l = c.loop-rest in
+    let l = c.loop-head in
     let s = space_of a.page.side in
     all_in s (titled k.title) a.target a.page.permille l.count l.invariant.met
     ∙ ap (pass_from s (titled k.title) a.target a.page.permille l.count)

@@ -5,8 +5,8 @@ use Rattle.planner_rules.specs.Scale.{all_fit, meets, space_of, titled}
 use Rattle.planner_rules.proofs.ScaleLaws.{pass_from}
 use Rattle.planner.proofs.scale.runs_pass.Given as goal
 
-abbrev pub invariant-loop-rest : goal.invariant-loop-rest
-invariant-loop-rest l =
+abbrev pub invariant-loop-head : goal.invariant-loop-head
+invariant-loop-head l =
     let k = l.cutter.frame in
     let cut = runs k l.cutter.merges.firsts.now l.cutter.merges.lasts.now in
     let all = cut l.slots.indexes.now l.slots.sizes.now in
@@ -18,5 +18,5 @@ invariant-loop-rest l =
       few : l.count + length l.rest.sizes.now ≤ length l.slots.sizes.now;
     }
 
-abbrev pub decreases-loop-rest : goal.decreases-loop-rest
-decreases-loop-rest l = length l.rest.sizes.now
+abbrev pub decreases-loop-head : goal.decreases-loop-head
+decreases-loop-head l = length l.rest.sizes.now

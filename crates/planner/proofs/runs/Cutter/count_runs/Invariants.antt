@@ -5,8 +5,8 @@ use Rattle.planner_rules.specs.Scale.{space_of}
 use Rattle.planner_rules.specs.Pages.{overflowing}
 use Rattle.planner.proofs.runs.Cutter.count_runs.Given as goal
 
-abbrev pub invariant-loop-rest : goal.invariant-loop-rest
-invariant-loop-rest l =
+abbrev pub invariant-loop-head : goal.invariant-loop-head
+invariant-loop-head l =
     let k = l.self.frame in
     let cut = runs k l.self.merges.firsts.now l.self.merges.lasts.now in
     let all = cut l.slots.indexes.now l.slots.sizes.now in
@@ -17,5 +17,5 @@ invariant-loop-rest l =
     × (l.overflows + exceeding left ≡ exceeding all)
     × (l.runs + length l.rest.sizes.now ≤ length l.slots.sizes.now) × (l.grown ≤ l.runs) × (l.overflows ≤ l.runs)
 
-abbrev pub decreases-loop-rest : goal.decreases-loop-rest
-decreases-loop-rest l = length l.rest.sizes.now
+abbrev pub decreases-loop-head : goal.decreases-loop-head
+decreases-loop-head l = length l.rest.sizes.now

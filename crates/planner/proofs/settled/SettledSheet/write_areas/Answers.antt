@@ -74,7 +74,8 @@ module _ (x : Shared) (s : Sheet) {left gs : List PrintRange} {g : PrintRange} {
           fits (λ l. l.columns) laid others a.column_runs lengths.1 all old at new room v,
         )
 
-    rows_next : Writing all old at (row_runs_of (layouts_of (sides_in x) s left)) new → (new' : List ℕ) → new' ≡ written (flat (rows_at x s g a.permille)) (part at new)
+    rows_next : Writing all old at (row_runs_of (layouts_of (sides_in x) s left)) new → (new' : List ℕ)
+        → new' ≡ written (flat (rows_at x s g a.permille)) (part at new)
         → Writing all old (at + a.row_runs * 4) (row_runs_of others) (put_mid at (length new - at) new new')
     unfolding area_layout
     rows_next w new' h =

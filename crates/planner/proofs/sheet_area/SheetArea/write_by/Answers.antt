@@ -58,5 +58,6 @@ returns c =
     let row_list = rw (r.merges_are.0, r.merges_are.1, r.slots_are.0, r.slots_are.1) at c.write_cut.ensures in
     let column_list = rw (k.merges_are.0, k.merges_are.1, k.slots_are.0, k.slots_are.1) at c.write_cut-2.ensures in (
       are_written _ (sides_in x).height (rows_in sheet s.ready.range) rows a.area.permille _ c.looked_at.ensures _ row_frame a.rows.now _ row_list,
-      are_written _ (sides_in x).width (columns_in sheet s.ready.range) columns a.area.permille _ c.looked_at-2.ensures _ column_frame a.columns.now _ column_list,
+      are_written _ (sides_in x).width (columns_in sheet s.ready.range) columns a.area.permille _ c.looked_at-2.ensures _ column_frame
+          a.columns.now _ column_list,
     )
