@@ -92,7 +92,7 @@ pub struct AreaPlan {
 pub type AreaPlans = ArrayVec<AreaPlan, 8>;
 
 // A finished plan. Its runs stand in the lists that were lent to it, area after area.
-#[derive(Drop)]
+#[derive(Clone, Drop)]
 pub struct Plan {
     pub areas: AreaPlans,
     pub pages: u64,
