@@ -8,7 +8,7 @@ ghost use Rattle.std.specs.Prelude.{◌≡◌};
 ghost use Rattle.units.specs.Refusals.{outcome};
 ghost use Rattle.planner_rules.specs.Questions.{ask};
 ghost use Rattle.planner_rules.specs.Pages.{page_numbered};
-ghost use Rattle.planner_rules.specs.Plan.{planned};
+ghost use Rattle.planner_rules.specs.Plan.{planned, Planned};
 ghost use Rattle.planner_rules.specs.Demand.{CoversPairs, FewestPlan, LargestPlan};
 ghost use Rattle.planner_rules.specs.declared.planning.RunCounts.{RunCounts};
 ghost use Rattle.job.specs.PlanJob as job;
@@ -100,6 +100,30 @@ pub extern "C" fn yuzhbani_write_area(
     put_counts(writing, counts)
 }
 
+// The plan of what numbers ask and of lists: 4 and 5 are asked of the numbers, before lists are asked.
+fn plan_lists(
+    asked: RequestNumbers<'_>,
+    lists: &SheetLists<'_>,
+    row_runs: &mut [u64],
+    column_runs: &mut [u64],
+) -> Result<Plan, Refusal>
+    ensures planned { let ns = asked.entry.0.now in
+        let planned = planned (calls.sheet_in ns lists.now) (areas_from ns) row_runs.old column_runs.old in
+        Planned (ask 4 (areas_counted ns) (ask 5 (flags_hold ns) planned)) (outcome result)
+        row_runs.old column_runs.old row_runs.new column_runs.new }
+    ensures covered { let ns = asked.entry.0.now in
+        CoversPairs (outcome result) (calls.sheet_in ns lists.now) (areas_from ns) row_runs.new column_runs.new }
+    ensures fewest { let ns = asked.entry.0.now in
+        FewestPlan (outcome result) (calls.sheet_in ns lists.now) (areas_from ns) row_runs.new column_runs.new }
+    ensures largest { let ns = asked.entry.0.now in
+        LargestPlan (outcome result) (calls.sheet_in ns lists.now) (areas_from ns) }
+{
+    let areas = asked.areas()?;
+    asked.flags_hold()?;
+    let what = asked.request(areas.as_slice());
+    plan_pages(&what, lists, row_runs, column_runs)
+}
+
 // Plans the pages of lists: what is asked as sixty-one numbers, the measured slots, merges and breaks as ten lists. It answers and writes as
 // `yuzhbani_plan` does. No area or a ninth is refused with 4, and then a fit or an order that is neither 0 nor 1 with 5, before lists are asked.
 #[unsafe(no_mangle)]
@@ -143,15 +167,6 @@ pub extern "C" fn yuzhbani_plan_lists<'a>(
         merge_last_columns.now row_breaks.now column_breaks.now in
         LargestPlan (section.told result numbers.new) sheet (areas_from asked) }
 {
-    let asked = RequestNumbers(request);
-    if !asked.areas_counted() {
-        return Refusal::MisplacedRecord.number();
-    }
-    if !asked.flags_hold() {
-        return Refusal::BadFlag.number();
-    }
-    let areas = asked.areas();
-    let what = asked.request(areas.as_slice());
     let lists = SheetLists {
         rows: AxisLists {
             slots: SlotList {
@@ -176,7 +191,7 @@ pub extern "C" fn yuzhbani_plan_lists<'a>(
             breaks: column_breaks,
         },
     };
-    let planning = plan_pages(&what, &lists, row_runs, column_runs);
+    let planning = plan_lists(RequestNumbers(request), &lists, row_runs, column_runs);
     put_planning(planning, numbers)
 }
 
