@@ -5,6 +5,8 @@ use Rattle.planner_rules.specs.declared.pages.Page.{Page}
 use Rattle.planner_rules.specs.Lent.{flat}
 use Rattle.planner_rules.specs.Partition.{lent}
 use Rattle.planner_rules.specs.declared.lists.SheetLists.{SheetLists}
+use Rattle.planner_rules.specs.declared.planning.RunCounts.{RunCounts}
+use Rattle.job_report.specs.declared.blocks.Block.{Block}
 use Rattle.planner_rules.specs.Asked.{sheet_with}
 use Rattle.planner_rules.specs.Plan.{Sheet, Layout, AreaLayout, rows_planned, columns_planned, rows_written, columns_written}
 use Rattle.job_report.specs.Blocks.{block_of, lines_lent}
@@ -55,6 +57,13 @@ pub record BlockHanded (o : Outcome (List Page)) (n r : ℕ) (block₀ out₀ bl
   pub out_is : out ≡ lines_lent n o out₀
 
 -- ---- for the private functions
+
+-- the numbers of what was written, and of a block
+abbrev pub count_numbers : RunCounts → List ℕ
+count_numbers n = n.rows ∷ n.columns ∷ []
+
+abbrev pub block_numbers : Block → List ℕ
+block_numbers b = b.pages ∷ b.bytes ∷ []
 
 -- the sheet, by what numbers ask and by lists
 abbrev pub sheet_in : List ℕ → SheetLists → Sheet

@@ -4,7 +4,7 @@
 ghost use Rattle.std.specs.Prelude.{◌≡◌, ◌≤◌, min};
 ghost use Rattle.units.specs.Refusals.{outcome};
 ghost use Rattle.yuzhbani_answers.specs.Numbers as section;
-ghost use Rattle.yuzhbani_answers.specs.Answers.{answer_to, numbers_of, HadBack, PageHanded, by_number};
+ghost use Rattle.yuzhbani_answers.specs.Answers.{answer_to, numbers_of, HadBack, PageHanded, by_number, put_in};
 
 use planner_rules::{AreaPlan, AreaPlans, NoteNumbers, Notes, Page, PageOrder, Plan};
 use std::array;
@@ -125,30 +125,46 @@ pub fn told(answer: u8, numbers: &[u64; 60]) -> Result<Plan, u8>
     Ok(Plan::from(PlanNumbers(numbers)))
 }
 
-// The answer of a page call; the numbers of its page are put, or nothing. No `From`: a refusal leaves the lent array as it was.
-pub fn put_page(answer: Result<Page, Refusal>, numbers: &mut [u64; 12]) -> u8
-    ensures { PageHanded (outcome answer) result numbers.old numbers.new }
+// The answer of a call: the numbers that it gives are put, or nothing.
+#[inline(always)]
+pub fn put<const N: usize>(answer: Result<[u64; N], Refusal>, to: &mut [u64; N]) -> u8
+    ensures value { result ≡ answer_to (outcome answer.entry) }
+    ensures numbers_after { to.new ≡ put_in (outcome answer.entry) to.old }
 {
     match answer {
-        Ok(page) => {
-            let rows = page.rows;
-            let columns = page.columns;
-            *numbers = [
-                page.vertical as u64,
-                page.horizontal as u64,
-                rows.first as u64,
-                rows.last as u64,
-                rows.size,
-                rows.empty_body as u64,
-                rows.manual_break as u64,
-                columns.first as u64,
-                columns.last as u64,
-                columns.size,
-                columns.empty_body as u64,
-                columns.manual_break as u64,
-            ];
+        Ok(numbers) => {
+            *to = numbers;
             0
         }
         Err(refusal) => refusal.number(),
     }
+}
+
+// The twelve numbers of a page.
+fn page_numbers(page: Page) -> [u64; 12]
+    ensures { result ≡ section.page_numbers page }
+{
+    let rows = page.rows;
+    let columns = page.columns;
+    [
+        page.vertical as u64,
+        page.horizontal as u64,
+        rows.first as u64,
+        rows.last as u64,
+        rows.size,
+        rows.empty_body as u64,
+        rows.manual_break as u64,
+        columns.first as u64,
+        columns.last as u64,
+        columns.size,
+        columns.empty_body as u64,
+        columns.manual_break as u64,
+    ]
+}
+
+// The answer of a page call; the numbers of its page are put, or nothing.
+pub fn put_page(answer: Result<Page, Refusal>, numbers: &mut [u64; 12]) -> u8
+    ensures { PageHanded (outcome answer) result numbers.old numbers.new }
+{
+    put(answer.map(page_numbers), numbers)
 }
