@@ -55,11 +55,8 @@ pub(crate) fn runs_of(areas: &[AreaPlan]) -> RunCounts
     requires columns_fit { section.column_runs areas.now < 2 ^ 64 }
     ensures { (result.rows ≡ section.row_runs areas.now) × (result.columns ≡ section.column_runs areas.now) }
 {
-    let mut rows = 0;
-    let mut columns = 0;
-    for area in areas {
-        rows += area.row_runs;
-        columns += area.column_runs;
+    RunCounts {
+        rows: areas.iter().map(|area| area.row_runs).sum(),
+        columns: areas.iter().map(|area| area.column_runs).sum(),
     }
-    RunCounts { rows, columns }
 }

@@ -43,12 +43,15 @@ fn run_at(list: &[u64], empty_body: bool, number: usize) -> PageRun
     ensures { result ≡ section.run_at list.now empty_body number }
 {
     let at = RUN_NUMBERS * number;
+    let &[first, last, size, mark] = &list[at..at + RUN_NUMBERS] else {
+        unreachable!()
+    };
     PageRun {
-        first: index_of(list[at]),
-        last: index_of(list[at + 1]),
-        size: list[at + 2],
+        first: index_of(first),
+        last: index_of(last),
+        size,
         empty_body,
-        manual_break: list[at + 3] > 0,
+        manual_break: mark > 0,
     }
 }
 
