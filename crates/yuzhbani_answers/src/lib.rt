@@ -17,7 +17,8 @@ pub fn order_from(n: u64) -> PageOrder
     PageOrder::from(n > 0)
 }
 
-// The largest that fits stands for any number above it.
+// The largest that fits stands for any number above it. Beside `index_of` of `planner_compare`: one function for both would be generic over the type
+// and over its largest number, which no trait of std gives, and would be longer than both.
 pub fn u16_from(n: u64) -> u16
     ensures { result ≡ min n 65535 }
 {
@@ -53,7 +54,8 @@ fn put_plan(numbers: &mut [u64; 60], plan: &Plan)
     }
 }
 
-// The answer of a plan call; the numbers of its plan are put, or nothing.
+// The answer of a plan call; the numbers of its plan are put, or nothing. Not by `put`: the sixty go to the lent array area after area, and would be
+// made in another array first, to be copied.
 #[inline(always)]
 pub fn put_planning(planning: Result<Plan, Refusal>, numbers: &mut [u64; 60]) -> u8
     ensures value { result ≡ answer_to (outcome planning) }

@@ -28,12 +28,11 @@ sum-requires-2-clause-fits c =
 
 pub returns : goal.returns
 returns c =
-    let all = c.args.areas.now in
-    (
+    let all = c.args.areas.now in (
       sum_by_from_yields_List (λ (a : AreaPlan). a.row_runs) all c.map.result _ c.sum.ensures.ran
-      (YieldsList-from_map _ (λ (a : AreaPlan). a.row_runs) (YieldsList-from_slice all cc) c.map.ensures.closure (λ x r q k. search (rules, tests)))
-      ∙ sym (sums (λ (a : AreaPlan). a.row_runs) all),
+          (YieldsList-from_map _ (λ (a : AreaPlan). a.row_runs) (YieldsList-from_slice all cc) c.map.ensures.closure (λ x r q k. search (rules, tests)))
+          ∙ sym (sums (λ (a : AreaPlan). a.row_runs) all),
       sum_by_from_yields_List (λ (a : AreaPlan). a.column_runs) all c.map-2.result _ c.sum-2.ensures.ran
-      (YieldsList-from_map _ (λ (a : AreaPlan). a.column_runs) (YieldsList-from_slice all cc) c.map-2.ensures.closure (λ x r q k. search (rules, tests)))
-      ∙ sym (sums (λ (a : AreaPlan). a.column_runs) all),
+          (YieldsList-from_map _ (λ (a : AreaPlan). a.column_runs) (YieldsList-from_slice all cc) c.map-2.ensures.closure (λ x r q k. search (rules, tests)))
+          ∙ sym (sums (λ (a : AreaPlan). a.column_runs) all),
     )
