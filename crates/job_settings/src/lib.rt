@@ -10,7 +10,7 @@ use job_records::{JobAreas, MarginBits, Range, float};
 use planner_rules::{PageOrder, PrintRange, Settings, Title};
 
 // The settings of a job, in the order of their records.
-#[derive(Drop)]
+#[derive(Clone, Drop)]
 pub struct JobSettings {
     pub paper: Option<u16>,
     pub landscape: bool,

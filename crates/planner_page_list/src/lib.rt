@@ -16,12 +16,6 @@ pub struct Four {
     pub answer: Result<u64, Refusal>,
 }
 
-fn both(pages: [Page; 4], answer: Result<u64, Refusal>) -> Four
-    ensures { (result.pages ≡ pages) × (result.answer ≡ answer) }
-{
-    Four { pages, answer }
-}
-
 // Writes the pages of a plan, in order, to the front of a list of four, over the lists of runs that were lent to the plan. It answers how
 // many, or refuses and writes nothing.
 pub fn list_four(mut list: [Page; 4], plan: &Plan, runs: RunLists<'_>) -> Four
@@ -31,5 +25,8 @@ pub fn list_four(mut list: [Page; 4], plan: &Plan, runs: RunLists<'_>) -> Four
         (outcome result.answer ≡ listed) × (result.pages ≡ section.pages_lent listed (section.pages_of plan.now rows columns) list) }
 {
     let answer = planner_pages::list_pages(&mut list, plan, runs);
-    both(list, answer)
+    Four {
+        pages: list,
+        answer,
+    }
 }

@@ -1,10 +1,14 @@
 // The places of a list after the call, compared with the pages by number and with what stood there before.
-use crate::text::{PageLine, Verdict};
+use job_report::page_line;
 use planner_page_list::list_four;
 use planner_pages::page_numbered;
 use planner_rules::{Page, PageRun, Plan, RunLists};
 use std::io::{self, Write};
-use units::Refusal;
+
+// Whether something holds, as it is printed.
+fn verdict(holds: bool) -> &'static str {
+    if holds { "ok" } else { "bad" }
+}
 
 // What stands in each place before the call: no page of a plan.
 const BLANK: Page = Page {
@@ -30,13 +34,6 @@ pub(crate) struct Planned<'a> {
 }
 
 impl Planned<'_> {
-    // The list, and how many pages were written to it, or the refusal.
-    fn listed(&self) -> ([Page; 4], Result<u64, Refusal>) {
-        let four = list_four([BLANK; 4], &self.plan, self.runs);
-        let pages = four.pages;
-        (pages, four.answer)
-    }
-
     fn page(&self, number: u64) -> Option<Page> {
         page_numbered(&self.plan, number, self.runs).ok()
     }
@@ -50,23 +47,24 @@ impl Planned<'_> {
         out: &mut W,
     ) -> io::Result<()> {
         if number > count {
-            let verdict = Verdict(*page == BLANK);
-            return writeln!(out, "as it was {number} {verdict}");
+            return writeln!(out, "as it was {number} {}", verdict(*page == BLANK));
         }
-        let verdict = Verdict(self.page(number) == Some(*page));
-        writeln!(out, "{}", PageLine(number, *page))?;
-        writeln!(out, "by number {number} {verdict}")
+        let mut line = [0; 256];
+        let end = page_line(number, *page, &mut line);
+        out.write_all(&line[..end])?;
+        let found = self.page(number) == Some(*page);
+        writeln!(out, "by number {number} {}", verdict(found))
     }
 
     // Lists the pages, and says what was answered and each place.
     pub(crate) fn say<W: Write>(&self, out: &mut W) -> io::Result<()> {
-        let (pages, answer) = self.listed();
-        match answer {
+        let four = list_four([BLANK; 4], &self.plan, self.runs);
+        match four.answer {
             Ok(count) => writeln!(out, "pages {count}")?,
-            Err(refusal) => writeln!(out, "no {}", refusal.number())?,
+            Err(refusal) => writeln!(out, "{refusal}")?,
         }
-        let count = answer.unwrap_or(0);
-        for (number, page) in (1..).zip(&pages) {
+        let count = four.answer.unwrap_or(0);
+        for (number, page) in (1..).zip(&four.pages) {
             self.say_place(number, page, count, out)?;
         }
         Ok(())

@@ -4,7 +4,6 @@
 
 mod cases;
 mod listed;
-mod text;
 
 use std::io::{self, BufWriter, Write};
 

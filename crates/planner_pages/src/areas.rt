@@ -31,6 +31,7 @@ pub(crate) fn walk(areas: &[AreaPlan], before: usize) -> Result<Spot, usize>
 }
 
 // 11: two lists with room for so many runs hold the runs of all areas. By what is left of the room, for a sum may be too large for a number.
+// No `try_fold`: its closure would take off two counts by `checked_sub` and answer both in a struct, at more length than the loop.
 pub(crate) fn runs_fit(areas: &[AreaPlan], room: RunCounts) -> bool
     ensures { result ≡ section.runs_held areas.now room.rows room.columns }
 {
@@ -55,11 +56,8 @@ pub(crate) fn runs_of(areas: &[AreaPlan]) -> RunCounts
     requires columns_fit { section.column_runs areas.now < 2 ^ 64 }
     ensures { (result.rows ≡ section.row_runs areas.now) × (result.columns ≡ section.column_runs areas.now) }
 {
-    let mut rows = 0;
-    let mut columns = 0;
-    for area in areas {
-        rows += area.row_runs;
-        columns += area.column_runs;
+    RunCounts {
+        rows: areas.iter().map(|area| area.row_runs).sum(),
+        columns: areas.iter().map(|area| area.column_runs).sum(),
     }
-    RunCounts { rows, columns }
 }

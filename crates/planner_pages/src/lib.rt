@@ -43,12 +43,15 @@ fn run_at(list: &[u64], empty_body: bool, number: usize) -> PageRun
     ensures { result ≡ section.run_at list.now empty_body number }
 {
     let at = RUN_NUMBERS * number;
+    let &[first, last, size, mark] = &list[at..at + RUN_NUMBERS] else {
+        unreachable!()
+    };
     PageRun {
-        first: index_of(list[at]),
-        last: index_of(list[at + 1]),
-        size: list[at + 2],
+        first: index_of(first),
+        last: index_of(last),
+        size,
         empty_body,
-        manual_break: list[at + 3] > 0,
+        manual_break: mark > 0,
     }
 }
 
@@ -89,7 +92,8 @@ fn holds_runs(plan: &Plan, runs: RunLists<'_>) -> bool
     runs_fit(plan.areas.as_slice(), room)
 }
 
-// The page at a spot, over the lists of runs that were lent to the plan.
+// The page at a spot, over the lists of runs that were lent to the plan. That the lists hold all runs is asked here and in `page_after` alone: a struct
+// of a plan and its runs, with that as its fact, would be made for these two, and the public calls, which ask 11, would still take both.
 fn spot_page(plan: &Plan, spot: Spot, runs: RunLists<'_>) -> Page
     requires rows_fit { section.row_runs plan.now.areas.items ≤ room_in runs.rows.now }
     requires columns_fit { section.column_runs plan.now.areas.items ≤ room_in runs.columns.now }

@@ -94,17 +94,6 @@ module _ (order : PageOrder) where
 -- ---- sums over areas
 
 module _ (f : AreaPlan → ℕ) where
-  over_suc : (areas : List AreaPlan) (k : ℕ) → k < length areas
-      → over_areas f (take (suc k) areas) ≡ over_areas f (take k areas) + f (get_or areas k no_plan)
-  unfolding over_areas
-  over_suc [] k h = absurd (omega arith)
-  over_suc (a ∷ areas) zero h = omega arith
-  over_suc (a ∷ areas) (suc k) h = omega (arith, over_suc areas k (omega arith))
-
-  pub over_next : (areas : List AreaPlan) (k : ℕ) → k < length areas
-      → over_areas f (take (k + 1) areas) ≡ over_areas f (take k areas) + f (get_or areas k no_plan)
-  over_next areas k h = rw add-one (over_suc areas k h)
-
   pub over_left : (areas : List AreaPlan) (k : ℕ) → k < length areas
       → over_areas f (drop k areas) ≡ f (get_or areas k no_plan) + over_areas f (drop (k + 1) areas)
   unfolding over_areas

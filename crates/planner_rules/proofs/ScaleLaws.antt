@@ -2,13 +2,12 @@
 use mathlib.Core.Path.{◌≡◌, refl, sym, ap, ◌∙◌}
 use mathlib.Core.Bool.{Bool, true, false, ◌&&◌, and-true, and-false}
 use mathlib.Core.List.{List, [], ◌∷◌}
-use Prim.Native.Nat.{ℕ, zero, suc, ◌+◌, ◌≤◌, ◌<◌}
+use Prim.Native.Nat.{ℕ, zero, suc, ◌+◌, ◌≤◌}
 use native.Mathlib.Nat.{add-zero}
 use native.Mathlib.Omega.{arith}
 use lib.ListN.{length}
-use borrow.Author.Tests.{ne_eqb, lt-ltb, le-ltb, le-leb, lt-leb, leb-false}
+use borrow.Author.Tests.{ne_eqb, le-leb, lt-leb, leb-false}
 use Rattle.planner_rules.specs.declared.titles.Title.{Title}
-use Rattle.planner_rules.specs.declared.titles.Title.TheVariants.{Absent, Pair}
 use Rattle.planner_rules.specs.Titles.{past_title}
 use Rattle.planner_rules.specs.Runs.{Run}
 use Rattle.planner_rules.specs.Scale.{Scale, Space, Body, runs_at, fits_side, printed, rendered, all_fit, runs_fit, meets}

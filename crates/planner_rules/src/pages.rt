@@ -92,7 +92,7 @@ pub struct AreaPlan {
 pub type AreaPlans = ArrayVec<AreaPlan, 8>;
 
 // A finished plan. Its runs stand in the lists that were lent to it, area after area.
-#[derive(Drop)]
+#[derive(Clone, Drop)]
 pub struct Plan {
     pub areas: AreaPlans,
     pub pages: u64,
@@ -110,7 +110,7 @@ pub struct PageRun {
     pub manual_break: bool,
 }
 
-// A page: the numbers of its two runs, from 0 in each area, and the runs.
+// A page: the numbers of its two runs, from 0 in each area, and the runs. No `Place` in it: document 01's page has the two numbers as its own.
 #[derive(Clone, Copy, Debug, PartialEq, Eq)]
 pub struct Page {
     pub vertical: usize,

@@ -4,10 +4,15 @@ use Rattle.units.specs.Outcome.{Outcome, given, refused, and_then}
 use Rattle.planner_rules.specs.declared.pages.Page.{Page}
 use Rattle.planner_rules.specs.Lent.{flat}
 use Rattle.planner_rules.specs.Partition.{lent}
-use Rattle.planner_rules.specs.Plan.{Layout, AreaLayout, rows_planned, columns_planned, rows_written, columns_written}
+use Rattle.planner_rules.specs.declared.lists.SheetLists.{SheetLists}
+use Rattle.planner_rules.specs.declared.planning.RunCounts.{RunCounts}
+use Rattle.job_report.specs.declared.blocks.Block.{Block}
+use Rattle.planner_rules.specs.Asked.{sheet_with}
+use Rattle.planner_rules.specs.Plan.{Sheet, Layout, AreaLayout, rows_planned, columns_planned, rows_written, columns_written}
 use Rattle.job_report.specs.Blocks.{block_of, lines_lent}
 use Rattle.yuzhbani_answers.specs.Numbers.{plan_numbers, told}
 use Rattle.yuzhbani_answers.specs.Answers.{answer_to}
+use Rattle.yuzhbani_request.specs.Request.{settings_from, row_title_from, column_title_from}
 
 -- ---- a plan
 
@@ -50,3 +55,16 @@ pub record BlockHanded (o : Outcome (List Page)) (n r : ℕ) (block₀ out₀ bl
   pub answer : r ≡ answer_to o
   pub block_is : block ≡ pair_in (λ (pages : List Page). (block_of n pages).pages) (λ (pages : List Page). (block_of n pages).bytes) o block₀
   pub out_is : out ≡ lines_lent n o out₀
+
+-- ---- for the private functions
+
+-- the numbers of what was written, and of a block
+abbrev pub count_numbers : RunCounts → List ℕ
+count_numbers n = n.rows ∷ n.columns ∷ []
+
+abbrev pub block_numbers : Block → List ℕ
+block_numbers b = b.pages ∷ b.bytes ∷ []
+
+-- the sheet, by what numbers ask and by lists
+abbrev pub sheet_in : List ℕ → SheetLists → Sheet
+sheet_in ns l = sheet_with (settings_from ns) (row_title_from ns) (column_title_from ns) l

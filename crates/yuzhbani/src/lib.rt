@@ -8,15 +8,13 @@ ghost use Rattle.std.specs.Prelude.{◌≡◌};
 ghost use Rattle.units.specs.Refusals.{outcome};
 ghost use Rattle.planner_rules.specs.Questions.{ask};
 ghost use Rattle.planner_rules.specs.Pages.{page_numbered};
-ghost use Rattle.planner_rules.specs.Plan.{planned};
+ghost use Rattle.planner_rules.specs.Plan.{planned, Planned};
 ghost use Rattle.planner_rules.specs.Demand.{CoversPairs, FewestPlan, LargestPlan};
-ghost use Rattle.planner_rules.specs.declared.planning.RunCounts.{RunCounts};
 ghost use Rattle.job.specs.PlanJob as job;
 ghost use Rattle.job_report.specs.Lines.{head_lines, area_line, LinesPut};
-ghost use Rattle.job_report.specs.declared.blocks.Block.{Block};
 ghost use Rattle.job_report.specs.Blocks.{block_pages};
 ghost use Rattle.yuzhbani_answers.specs.Numbers as section;
-ghost use Rattle.yuzhbani_answers.specs.Answers.{answer_to, PageHanded};
+ghost use Rattle.yuzhbani_answers.specs.Answers.{PageHanded};
 ghost use Rattle.yuzhbani_request.specs.Request.{sheet_requested, areas_from, areas_counted, flags_hold};
 ghost use Rattle.yuzhbani.specs.Calls as calls;
 
@@ -26,7 +24,7 @@ use planner::plan_pages;
 use planner_pages::page_numbered;
 use planner_rules::{AxisLists, MergeList, Plan, RunCounts, RunLists, SheetLists, SlotList};
 use units::Refusal;
-use yuzhbani_answers::{PlanNumbers, put_page, put_planning, told};
+use yuzhbani_answers::{PlanNumbers, put, put_page, put_planning, told};
 use yuzhbani_request::RequestNumbers;
 
 // Plans the pages of a job: 0, with the plan's numbers in `numbers` and its runs at the fronts of two lent lists, area after area; or the
@@ -65,19 +63,11 @@ pub extern "C" fn yuzhbani_count(bytes: &[u8], numbers: &mut [u64; 60]) -> u8
     put_planning(planning, numbers)
 }
 
-// Puts how many runs were written, or nothing, and answers 0, or the number of the refusal.
-fn put_counts(writing: Result<RunCounts, Refusal>, counts: &mut [u64; 2]) -> u8
-    ensures value { result ≡ answer_to (outcome writing) }
-    ensures counts_after { counts.new
-        ≡ calls.pair_in (λ (n : RunCounts). n.rows) (λ (n : RunCounts). n.columns) (outcome writing) counts.old }
+// The two numbers of what was written.
+fn count_numbers(wrote: RunCounts) -> [u64; 2]
+    ensures { result ≡ calls.count_numbers wrote }
 {
-    match writing {
-        Ok(wrote) => {
-            *counts = [wrote.rows as u64, wrote.columns as u64];
-            0
-        }
-        Err(refusal) => refusal.number(),
-    }
+    [wrote.rows as u64, wrote.columns as u64]
 }
 
 // Writes the runs of the area with a number, from 1, at a permille to the fronts of two lent lists: 0, with how many runs of rows and of columns in
@@ -97,7 +87,31 @@ pub extern "C" fn yuzhbani_write_area(
         result counts.old counts.new rows₀ columns₀ row_runs.new column_runs.new }
 {
     let writing = write_job_area(bytes, number, permille, row_runs, column_runs);
-    put_counts(writing, counts)
+    put(writing.map(count_numbers), counts)
+}
+
+// The plan of what numbers ask and of lists: 4 and 5 are asked of the numbers, before lists are asked.
+fn plan_lists(
+    asked: RequestNumbers<'_>,
+    lists: &SheetLists<'_>,
+    row_runs: &mut [u64],
+    column_runs: &mut [u64],
+) -> Result<Plan, Refusal>
+    ensures planned { let ns = asked.entry.0.now in
+        let planned = planned (calls.sheet_in ns lists.now) (areas_from ns) row_runs.old column_runs.old in
+        Planned (ask 4 (areas_counted ns) (ask 5 (flags_hold ns) planned)) (outcome result)
+        row_runs.old column_runs.old row_runs.new column_runs.new }
+    ensures covered { let ns = asked.entry.0.now in
+        CoversPairs (outcome result) (calls.sheet_in ns lists.now) (areas_from ns) row_runs.new column_runs.new }
+    ensures fewest { let ns = asked.entry.0.now in
+        FewestPlan (outcome result) (calls.sheet_in ns lists.now) (areas_from ns) row_runs.new column_runs.new }
+    ensures largest { let ns = asked.entry.0.now in
+        LargestPlan (outcome result) (calls.sheet_in ns lists.now) (areas_from ns) }
+{
+    let areas = asked.areas()?;
+    asked.flags_hold()?;
+    let what = asked.request(areas.as_slice());
+    plan_pages(&what, lists, row_runs, column_runs)
 }
 
 // Plans the pages of lists: what is asked as sixty-one numbers, the measured slots, merges and breaks as ten lists. It answers and writes as
@@ -143,15 +157,6 @@ pub extern "C" fn yuzhbani_plan_lists<'a>(
         merge_last_columns.now row_breaks.now column_breaks.now in
         LargestPlan (section.told result numbers.new) sheet (areas_from asked) }
 {
-    let asked = RequestNumbers(request);
-    if !asked.areas_counted() {
-        return Refusal::MisplacedRecord.number();
-    }
-    if !asked.flags_hold() {
-        return Refusal::BadFlag.number();
-    }
-    let areas = asked.areas();
-    let what = asked.request(areas.as_slice());
     let lists = SheetLists {
         rows: AxisLists {
             slots: SlotList {
@@ -176,7 +181,7 @@ pub extern "C" fn yuzhbani_plan_lists<'a>(
             breaks: column_breaks,
         },
     };
-    let planning = plan_pages(&what, &lists, row_runs, column_runs);
+    let planning = plan_lists(RequestNumbers(request), &lists, row_runs, column_runs);
     put_planning(planning, numbers)
 }
 
@@ -224,18 +229,11 @@ pub extern "C" fn yuzhbani_area_line(number: u64, permille: u16, out: &mut [u8; 
     area_line(number, permille, out)
 }
 
-// Puts the two numbers of a block, or nothing, and answers 0, or the number of the refusal.
-fn put_block(answer: Result<Block, Refusal>, block: &mut [u64; 2]) -> u8
-    ensures value { result ≡ answer_to (outcome answer) }
-    ensures block_after { block.new ≡ calls.pair_in (λ (b : Block). b.pages) (λ (b : Block). b.bytes) (outcome answer) block.old }
+// The two numbers of a block.
+fn block_numbers(held: Block) -> [u64; 2]
+    ensures { result ≡ calls.block_numbers held }
 {
-    match answer {
-        Ok(held) => {
-            *block = [held.pages, held.bytes as u64];
-            0
-        }
-        Err(refusal) => refusal.number(),
-    }
+    [held.pages, held.bytes as u64]
 }
 
 // The lines of the pages from a number on, of the area that this page belongs to, as long as there is such a page and 256 of the bytes are left, of
@@ -260,5 +258,5 @@ pub extern "C" fn yuzhbani_block(
         columns: column_runs,
     };
     let answer = area_block(&plan, from, runs, out);
-    put_block(answer, block)
+    put(answer.map(block_numbers), block)
 }

@@ -7,20 +7,15 @@ use native.Mathlib.Omega.{arith}
 use lib.ListN.{length, take, replicate}
 use borrow.Rule.Slice.PartMut.{put_mid}
 use mir.Val.{bool_byte}
-use Rattle.planner_rules.specs.declared.pages.Page.{Page}
-use Rattle.std.specs.Prelude.{Result, Ok}
-use Rattle.units.specs.Refusals.{outcome}
-use Rattle.units.specs.declared.refusal.Refusal.{Refusal}
 use Rattle.planner_rules.specs.declared.pages.PageOrder.{PageOrder}
 use Rattle.planner_rules.specs.declared.pages.PageOrder.TheVariants.{DownThenOver, OverThenDown}
 use Rattle.planner_rules.specs.declared.pages.AreaPlan.{AreaPlan}
 use Rattle.planner_rules.specs.declared.pages.Plan.{Plan}
-use Rattle.yuzhbani_answers.specs.Numbers.{bit, area_at, eight_areas, order_number, is_set, order_from, plan_numbers, page_numbers, area_from}
+use Rattle.yuzhbani_answers.specs.Numbers.{bit, area_at, eight_areas, order_number, is_set, order_from, plan_numbers, area_from}
 use Rattle.planner_rules.specs.Pages.{note_numbers}
 use Rattle.planner_rules.proofs.Laws.{split}
 use Rattle.yuzhbani_answers.specs.Numbers.{area_numbers, numbers_up_to}
 use Rattle.yuzhbani_answers.specs.Numbers.{areas_from, plan_from, AreaBack, AllBack}
-use Rattle.yuzhbani_answers.specs.Answers.{PageHanded}
 
 bit_back : (b : Bool) → is_set (bit b) ≡ b
 bit_back true = refl
@@ -118,7 +113,3 @@ all_back as' back k h = split (length as') k (λ l. none_back as' k l) (λ l. ba
 pub as_bit : (b : Bool) → bool_byte b ≡ bit b
 as_bit true = refl
 as_bit false = refl
-
--- the numbers of a page that is given
-pub page_put : (a : Result Page Refusal) (p : Page) (old ns : List ℕ) → a ≡ Ok p → ns ≡ page_numbers p → PageHanded (outcome a) 0 old ns
-page_put a p old ns e i = rw e (record { answer = refl; numbers_are = i })

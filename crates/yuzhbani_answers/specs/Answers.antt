@@ -10,6 +10,11 @@ abbrev pub answer_to : {A : Type 0} → Outcome A → ℕ
 answer_to (given a) = 0
 answer_to (refused n) = n
 
+-- an array that is lent for numbers: these, or, where the call is refused, what stood there
+abbrev pub put_in : Outcome (List ℕ) → List ℕ → List ℕ
+put_in (given ns) old = ns
+put_in (refused n) old = old
+
 -- ---- of a page call
 
 -- an array that is lent for the numbers of a page: these, or, where the call is refused, what stood there

@@ -4,7 +4,7 @@
 ghost use Rattle.std.specs.Prelude.{◌≡◌, ◌≤◌, min};
 ghost use Rattle.units.specs.Refusals.{outcome};
 ghost use Rattle.yuzhbani_answers.specs.Numbers as section;
-ghost use Rattle.yuzhbani_answers.specs.Answers.{answer_to, numbers_of, HadBack, PageHanded, by_number};
+ghost use Rattle.yuzhbani_answers.specs.Answers.{answer_to, numbers_of, HadBack, PageHanded, by_number, put_in};
 
 use planner_rules::{AreaPlan, AreaPlans, NoteNumbers, Notes, Page, PageOrder, Plan};
 use std::array;
@@ -17,7 +17,8 @@ pub fn order_from(n: u64) -> PageOrder
     PageOrder::from(n > 0)
 }
 
-// The largest that fits stands for any number above it.
+// The largest that fits stands for any number above it. Beside `index_of` of `planner_compare`: one function for both would be generic over the type
+// and over its largest number, which no trait of std gives, and would be longer than both.
 pub fn u16_from(n: u64) -> u16
     ensures { result ≡ min n 65535 }
 {
@@ -53,7 +54,8 @@ fn put_plan(numbers: &mut [u64; 60], plan: &Plan)
     }
 }
 
-// The answer of a plan call; the numbers of its plan are put, or nothing.
+// The answer of a plan call; the numbers of its plan are put, or nothing. Not by `put`: the sixty go to the lent array area after area, and would be
+// made in another array first, to be copied.
 #[inline(always)]
 pub fn put_planning(planning: Result<Plan, Refusal>, numbers: &mut [u64; 60]) -> u8
     ensures value { result ≡ answer_to (outcome planning) }
@@ -125,30 +127,46 @@ pub fn told(answer: u8, numbers: &[u64; 60]) -> Result<Plan, u8>
     Ok(Plan::from(PlanNumbers(numbers)))
 }
 
-// The answer of a page call; the numbers of its page are put, or nothing. No `From`: a refusal leaves the lent array as it was.
-pub fn put_page(answer: Result<Page, Refusal>, numbers: &mut [u64; 12]) -> u8
-    ensures { PageHanded (outcome answer) result numbers.old numbers.new }
+// The answer of a call: the numbers that it gives are put, or nothing.
+#[inline(always)]
+pub fn put<const N: usize>(answer: Result<[u64; N], Refusal>, to: &mut [u64; N]) -> u8
+    ensures value { result ≡ answer_to (outcome answer.entry) }
+    ensures numbers_after { to.new ≡ put_in (outcome answer.entry) to.old }
 {
     match answer {
-        Ok(page) => {
-            let rows = page.rows;
-            let columns = page.columns;
-            *numbers = [
-                page.vertical as u64,
-                page.horizontal as u64,
-                rows.first as u64,
-                rows.last as u64,
-                rows.size,
-                rows.empty_body as u64,
-                rows.manual_break as u64,
-                columns.first as u64,
-                columns.last as u64,
-                columns.size,
-                columns.empty_body as u64,
-                columns.manual_break as u64,
-            ];
+        Ok(numbers) => {
+            *to = numbers;
             0
         }
         Err(refusal) => refusal.number(),
     }
+}
+
+// The twelve numbers of a page.
+fn page_numbers(page: Page) -> [u64; 12]
+    ensures { result ≡ section.page_numbers page }
+{
+    let rows = page.rows;
+    let columns = page.columns;
+    [
+        page.vertical as u64,
+        page.horizontal as u64,
+        rows.first as u64,
+        rows.last as u64,
+        rows.size,
+        rows.empty_body as u64,
+        rows.manual_break as u64,
+        columns.first as u64,
+        columns.last as u64,
+        columns.size,
+        columns.empty_body as u64,
+        columns.manual_break as u64,
+    ]
+}
+
+// The answer of a page call; the numbers of its page are put, or nothing.
+pub fn put_page(answer: Result<Page, Refusal>, numbers: &mut [u64; 12]) -> u8
+    ensures { PageHanded (outcome answer) result numbers.old numbers.new }
+{
+    put(answer.map(page_numbers), numbers)
 }

@@ -1,5 +1,9 @@
 -- What 61 numbers ask of a plan, whoever wrote them: settings, areas and titles. Assumes nothing.
-use Rattle.std.specs.Prelude.{Bool, cond, ◌&&◌, List, [], ◌∷◌, ℕ, Float, ◌+◌, min, leb, get_or, take, Option, Some, None}
+use Rattle.std.specs.Prelude.{Bool, cond, ◌&&◌, List, [], ◌∷◌, ℕ, Float, ◌+◌, min, leb, get_or, take, Option, Some, None, Result, Ok, Err}
+use Rattle.arrayvec.specs.ArrayVec.{ArrayVec}
+use Rattle.units.specs.Outcome.{Outcome, given, refused}
+use Rattle.units.specs.Refusals.{number_of}
+use Rattle.units.specs.declared.refusal.Refusal.{Refusal}
 use Rattle.units.specs.declared.margins.Margins.{Margins}
 use Rattle.planner_rules.specs.declared.titles.Title.{Title}
 use Rattle.planner_rules.specs.declared.titles.Title.TheVariants as title
@@ -61,12 +65,17 @@ range_from ns at = record {
   last_column = index_of (get_or ns (at + 3) 0);
 }
 
--- 22 is how many areas there are, 23 to 54 are the eight; of more, those that stand there are meant
+-- 22 is how many areas there are, 23 to 54 are the eight; of more, which question 4 refuses, those that stand there
 unfoldable pub areas_from : List ℕ → List PrintRange
 areas_from ns =
     take (get_or ns 22 0)
     (range_from ns 23 ∷ range_from ns 27 ∷ range_from ns 31 ∷ range_from ns 35 ∷ range_from ns 39 ∷ range_from ns 43 ∷ range_from ns 47
     ∷ range_from ns 51 ∷ [])
+
+-- the areas of an answer, or the number of its refusal
+abbrev pub areas_outcome : Result (ArrayVec PrintRange) Refusal → Outcome (List PrintRange)
+areas_outcome (Ok areas) = given areas.items
+areas_outcome (Err r) = refused (number_of r)
 
 -- 55 to 57: the mark, the first and the last row
 abbrev pub row_title_from : List ℕ → Title

@@ -2,6 +2,9 @@
 #![tactic(auto)]
 
 ghost use Rattle.std.specs.Prelude.{◌≡◌, ◌≤◌};
+ghost use Rattle.units.specs.Outcome.{given};
+ghost use Rattle.planner_rules.specs.Questions.{ask, no_or};
+ghost use Rattle.planner_rules.specs.Partition.{no_of};
 ghost use Rattle.yuzhbani_request.specs.Request as section;
 
 use arrayvec::ArrayVec;
@@ -11,6 +14,7 @@ use job_settings::margin_setting;
 use planner_compare::index_of;
 use planner_rules::{PrintRange, Request, Settings, Title};
 use std::array;
+use units::Refusal;
 use yuzhbani_answers::{order_from, u16_from};
 
 // What a caller asks, as 61 numbers.
@@ -90,14 +94,27 @@ impl RequestNumbers<'_> {
         }
     }
 
-    // The areas; of more than eight, those that stand there.
+    // The areas that stand there, up to so many.
     #[tactic(auto, unfolding(crate::specs::Request::areas_from))]
-    pub fn areas(self) -> ArrayVec<PrintRange, 8>
+    fn first_areas(self) -> ArrayVec<PrintRange, 8>
         ensures { result.items ≡ section.areas_from self.entry.0.now }
     {
         let mut areas = ArrayVec::from(array::from_fn(|k| self.range(23 + 4 * k)));
         areas.truncate(self.0[22] as usize);
         areas
+    }
+
+    // The areas; 4 where there is none, or a ninth.
+    #[tactic(auto, unfolding(crate::specs::Request::areas_counted))]
+    pub fn areas(self) -> Result<ArrayVec<PrintRange, 8>, Refusal>
+        ensures { let asked = self.entry.0.now in
+            section.areas_outcome result ≡ ask 4 (section.areas_counted asked) (given (section.areas_from asked)) }
+    {
+        if (1..=8).contains(&self.0[22]) {
+            Ok(self.first_areas())
+        } else {
+            Err(Refusal::MisplacedRecord)
+        }
     }
 
     // All that is asked, with the areas.
@@ -115,19 +132,15 @@ impl RequestNumbers<'_> {
         }
     }
 
-    // 4: one to eight areas are asked for.
-    #[tactic(auto, unfolding(crate::specs::Request::areas_counted))]
-    pub fn areas_counted(self) -> bool
-        ensures { result ≡ section.areas_counted self.entry.0.now }
-    {
-        (1..=8).contains(&self.0[22])
-    }
-
     // 5: a fit and an order are 0 or 1, in numbers as in bytes.
     #[tactic(auto, unfolding(crate::specs::Request::flags_hold))]
-    pub fn flags_hold(self) -> bool
-        ensures { result ≡ section.flags_hold self.entry.0.now }
+    pub fn flags_hold(self) -> Result<(), Refusal>
+        ensures { no_of result ≡ no_or 5 (section.flags_hold self.entry.0.now) 0 }
     {
-        (self.0[12] <= 1) & (self.0[17] <= 1)
+        if (self.0[12] <= 1) & (self.0[17] <= 1) {
+            Ok(())
+        } else {
+            Err(Refusal::BadFlag)
+        }
     }
 }

@@ -1,4 +1,5 @@
--- Each turn writes the next page of the plan at its place, and when all are written the list is what is asked for.
+-- Each turn writes the next page of the plan at its place, and when all are written the list is what is asked for. `told`, what was answered, stands
+-- in each goal: a law of it would be cited at more length than it has.
 use Rattle.std.proofs.Common.{◌≡◌, ap, ◌∙◌, length, arith}
 use Rattle.planner_rules.specs.Pages.{list_pages, pages_of}
 use Rattle.planner_rules.proofs.ListLaws.{count_in, count_room, page_asked, page_next, pages_lent_lem, filled_more}

@@ -1,26 +1,38 @@
--- With the area that is looked at there are no more runs than all areas have, and as many as the areas have up to it.
-use Rattle.std.proofs.Common.{arith, rules}
+-- The sums are those of all areas.
+use Rattle.std.proofs.Common.{rules, tests, ◌≡◌, refl, sym, ◌∙◌, ℕ, List}
+use Rattle.std.specs.List.{sum_by}
+use Rattle.std.proofs.lemmas.List.Recursion.{is_sum_by}
+use Rattle.std.proofs.lemmas.Iterator.{YieldsList-from_slice, YieldsList-from_map}
+use Rattle.std.proofs.lemmas.Iterator.Consumers.{fits_by_from_yields_list, sum_by_from_yields_List}
 use Rattle.planner_rules.specs.declared.pages.AreaPlan.{AreaPlan}
 use Rattle.planner_rules.specs.Areas.{over_areas}
-use Rattle.planner_rules.proofs.AreaPages.{over_next, over_within}
 use Rattle.planner_pages.proofs.areas.runs_of.Goals as goal
 
-pub loop-area-init : goal.loop-area-init
+sums : (f : AreaPlan → ℕ) (areas : List AreaPlan) → over_areas f areas ≡ sum_by f areas
 unfolding over_areas
-loop-area-init c = search rules
+sums f areas = is_sum_by (over_areas f) f refl (λ _ _. refl) areas
 
-pub overflow_add-rows : goal.overflow_add-rows
-overflow_add-rows c = omega (arith, over_within (λ (a : AreaPlan). a.row_runs) c.args.areas.now c.loop-area.area-index (omega arith))
+pub sum-requires-clause-fits : goal.sum-requires-clause-fits
+sum-requires-clause-fits c =
+    let all = c.args.areas.now in
+    fits_by_from_yields_list (λ (a : AreaPlan). a.row_runs) all c.map.result _
+    (YieldsList-from_map _ (λ (a : AreaPlan). a.row_runs) (YieldsList-from_slice all cc) c.map.ensures.closure (λ x r q k. search (rules, tests)))
+    (rw (sums (λ (a : AreaPlan). a.row_runs) all) at c.requires.rows_fit)
 
-pub overflow_add-columns : goal.overflow_add-columns
-overflow_add-columns c = omega (arith, over_within (λ (a : AreaPlan). a.column_runs) c.args.areas.now c.loop-area.area-index (omega arith))
+pub sum-requires-2-clause-fits : goal.sum-requires-2-clause-fits
+sum-requires-2-clause-fits c =
+    let all = c.args.areas.now in
+    fits_by_from_yields_list (λ (a : AreaPlan). a.column_runs) all c.map-2.result _
+    (YieldsList-from_map _ (λ (a : AreaPlan). a.column_runs) (YieldsList-from_slice all cc) c.map-2.ensures.closure (λ x r q k. search (rules, tests)))
+    (rw (sums (λ (a : AreaPlan). a.column_runs) all) at c.requires.columns_fit)
 
-pub loop-area-preserved : goal.loop-area-preserved
-loop-area-preserved c =
-    let areas = c.args.areas.now in
-    let i = c.loop-area.area-index in
-    record {
-      within = omega arith;
-      rows_are = omega (arith, over_next (λ (a : AreaPlan). a.row_runs) areas i (omega arith));
-      columns_are = omega (arith, over_next (λ (a : AreaPlan). a.column_runs) areas i (omega arith));
-    }
+pub returns : goal.returns
+returns c =
+    let all = c.args.areas.now in (
+      sum_by_from_yields_List (λ (a : AreaPlan). a.row_runs) all c.map.result _ c.sum.ensures.ran
+          (YieldsList-from_map _ (λ (a : AreaPlan). a.row_runs) (YieldsList-from_slice all cc) c.map.ensures.closure (λ x r q k. search (rules, tests)))
+          ∙ sym (sums (λ (a : AreaPlan). a.row_runs) all),
+      sum_by_from_yields_List (λ (a : AreaPlan). a.column_runs) all c.map-2.result _ c.sum-2.ensures.ran
+          (YieldsList-from_map _ (λ (a : AreaPlan). a.column_runs) (YieldsList-from_slice all cc) c.map-2.ensures.closure (λ x r q k. search (rules, tests)))
+          ∙ sym (sums (λ (a : AreaPlan). a.column_runs) all),
+    )
