@@ -24,7 +24,7 @@ fn area_at(plan: &Plan, spot: Spot) -> AreaPlan
     requires { spot.area < length plan.now.areas.items }
     ensures { result ≡ section.area_of plan.now spot }
 {
-    plan.areas.as_slice()[spot.area]
+    plan.areas[spot.area]
 }
 
 // Puts the lines of an area's pages from one that is there on. No number goes past the plan's count.
