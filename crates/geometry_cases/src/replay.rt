@@ -64,6 +64,18 @@ fn paper(fields: &Fields) -> PaperGeometry {
     }
 }
 
+// The margins of the last six fields.
+fn margins(fields: &Fields) -> Margins {
+    Margins {
+        left: float(fields[2]),
+        right: float(fields[3]),
+        top: float(fields[4]),
+        bottom: float(fields[5]),
+        header: float(fields[6]),
+        footer: float(fields[7]),
+    }
+}
+
 // What a letter asks of its fields.
 fn asked(letter: u8, fields: &Fields) -> Option<Case> {
     match letter {
@@ -81,7 +93,7 @@ fn asked(letter: u8, fields: &Fields) -> Option<Case> {
         }),
         b'm' => Some(Case::Content {
             paper: paper(fields),
-            margins: Some(Margins::from_fn(|k| float(fields[2 + k]))),
+            margins: Some(margins(fields)),
         }),
         b'a' => Some(Case::Content { paper: paper(fields), margins: None }),
         _ => None,

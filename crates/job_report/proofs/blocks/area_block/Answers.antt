@@ -27,15 +27,21 @@ area_at-area-requires c = spot_within_plan _ _ _ (sym c.page_spot.ensures ∙ a_
 
 pub lines_held-requires : goal.lines_held-requires
 lines_held-requires c =
-    first_there _ _ _ _ _ (sym c.page_spot.ensures ∙ a_spot _ _ _ c.ok_or.ensures.value c.in_ok-spot.was) _ c.area_at-area.ensures _ c.area_page.ensures _ c.in_ok-_first.was
+    first_there _ _ _ _ _
+    (sym c.page_spot.ensures ∙ a_spot _ _ _ c.ok_or.ensures.value c.in_ok-spot.was)
+    _ c.area_at-area.ensures _ c.area_page.ensures _ c.in_ok-_first.was
 
 pub returns-in_err-_first : goal.returns-in_err-_first
 returns-in_err-_first c =
     let e : c.from_residual-in_err-_first.result ≡ Err c.in_err-_first.field-0.0 = search rules in
     rw e
-    (block_refused _ _ _ _ _ (sym c.page_spot.ensures ∙ a_spot _ _ _ c.ok_or.ensures.value c.in_ok-spot.was) _ c.area_at-area.ensures _ c.area_page.ensures _ c.in_err-_first.was _)
+    (block_refused _ _ _ _ _
+    (sym c.page_spot.ensures ∙ a_spot _ _ _ c.ok_or.ensures.value c.in_ok-spot.was)
+    _ c.area_at-area.ensures _ c.area_page.ensures _ c.in_err-_first.was _)
 
 pub returns : goal.returns
 returns c =
-    block_given _ _ _ _ _ (sym c.page_spot.ensures ∙ a_spot _ _ _ c.ok_or.ensures.value c.in_ok-spot.was) _ c.area_at-area.ensures _ c.area_page.ensures _ c.in_ok-_first.was _ _ _
+    block_given _ _ _ _ _
+    (sym c.page_spot.ensures ∙ a_spot _ _ _ c.ok_or.ensures.value c.in_ok-spot.was)
+    _ c.area_at-area.ensures _ c.area_page.ensures _ c.in_ok-_first.was _ _ _
     c.lines_held.ensures
