@@ -42,7 +42,11 @@ impl fmt::Display for ContentGeometry {
     fn fmt<W: fmt::Write>(&self, f: &mut fmt::Formatter<W>) -> fmt::Result {
         let rect = self.content;
         write!(f, "{} {} {} {} ", rect.x, rect.y, rect.width, rect.height)?;
-        write!(f, "{} {} {}", self.header_y, self.footer_y, self.invalid_margins)
+        write!(
+            f,
+            "{} {} {}",
+            self.header_y, self.footer_y, self.invalid_margins
+        )
     }
 }
 

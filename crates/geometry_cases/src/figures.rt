@@ -1,4 +1,4 @@
-// A worked figure as a line.
+// A worked figure as a line. `planner_page_list_cases` says `ok` and `bad` too: a library of both programs' would be longer than the `if`.
 use std::io;
 use std::io::Write;
 

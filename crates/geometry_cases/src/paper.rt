@@ -90,7 +90,8 @@ fn box_is(answer: Answer, x: i64, y: i64, width: i64, height: i64) -> bool {
 }
 
 fn lines_are(answer: Answer, header: i64, footer: i64) -> bool {
-    answer.is_ok_and(|placed| placed.header_y == Fixed::from_raw(header) && placed.footer_y == Fixed::from_raw(footer))
+    answer.is_ok_and(|placed| placed.header_y == Fixed::from_raw(header)
+        && placed.footer_y == Fixed::from_raw(footer))
 }
 
 fn note_is(answer: Answer, note: u64) -> bool {
@@ -114,52 +115,80 @@ fn sum_figures<W: Write>(out: &mut W) -> io::Result<()> {
     say(
         out,
         "margins 4.25 and 4.25",
-        falls_back(on_letter(Margins { left: 4.25, right: 4.25, ..NONE })),
+        falls_back(on_letter(Margins {
+            left: 4.25,
+            right: 4.25,
+            ..NONE
+        })),
     )?;
     say(
         out,
         "margins 4.25 and 4.2499",
-        holds(on_letter(Margins { left: 4.25, right: 4.2499, ..NONE })),
+        holds(on_letter(Margins {
+            left: 4.25,
+            right: 4.2499,
+            ..NONE
+        })),
     )?;
     say(
         out,
         "margins 5.5 over 5.5",
-        falls_back(on_letter(Margins { top: 5.5, bottom: 5.5, ..NONE })),
+        falls_back(on_letter(Margins {
+            top: 5.5,
+            bottom: 5.5,
+            ..NONE
+        })),
     )?;
     say(
         out,
         "margins 5.5 over 5.4999",
-        holds(on_letter(Margins { top: 5.5, bottom: 5.4999, ..NONE })),
+        holds(on_letter(Margins {
+            top: 5.5,
+            bottom: 5.4999,
+            ..NONE
+        })),
     )?;
     say(
         out,
         "header 11",
-        falls_back(on_letter(Margins { header: 11.0, ..NONE })),
+        falls_back(on_letter(Margins {
+            header: 11.0,
+            ..NONE
+        })),
     )?;
     say(
         out,
         "header 10.99",
-        holds(on_letter(Margins { header: 10.99, ..NONE })),
+        holds(on_letter(Margins {
+            header: 10.99,
+            ..NONE
+        })),
     )?;
     say(
         out,
         "footer 11",
-        falls_back(on_letter(Margins { footer: 11.0, ..NONE })),
+        falls_back(on_letter(Margins {
+            footer: 11.0,
+            ..NONE
+        })),
     )?;
     say(
         out,
         "footer 10.99",
-        lines_are(on_letter(Margins { footer: 10.99, ..NONE }), 0, -15401),
+        lines_are(
+            on_letter(Margins {
+                footer: 10.99,
+                ..NONE
+            }),
+            0,
+            -15401,
+        ),
     )?;
     Ok(())
 }
 
 fn sign_figures<W: Write>(out: &mut W) -> io::Result<()> {
-    say(
-        out,
-        "margins 0",
-        holds(on_letter(NONE)),
-    )?;
+    say(out, "margins 0", holds(on_letter(NONE)))?;
     say(
         out,
         "left -0",
@@ -173,27 +202,42 @@ fn sign_figures<W: Write>(out: &mut W) -> io::Result<()> {
     say(
         out,
         "right nan",
-        falls_back(on_letter(Margins { right: f64::NAN, ..NONE })),
+        falls_back(on_letter(Margins {
+            right: f64::NAN,
+            ..NONE
+        })),
     )?;
     say(
         out,
         "top -infinity",
-        falls_back(on_letter(Margins { top: f64::NEG_INFINITY, ..NONE })),
+        falls_back(on_letter(Margins {
+            top: f64::NEG_INFINITY,
+            ..NONE
+        })),
     )?;
     say(
         out,
         "bottom infinity",
-        falls_back(on_letter(Margins { bottom: f64::INFINITY, ..NONE })),
+        falls_back(on_letter(Margins {
+            bottom: f64::INFINITY,
+            ..NONE
+        })),
     )?;
     say(
         out,
         "header nan",
-        falls_back(on_letter(Margins { header: f64::NAN, ..NONE })),
+        falls_back(on_letter(Margins {
+            header: f64::NAN,
+            ..NONE
+        })),
     )?;
     say(
         out,
         "footer -0.1",
-        falls_back(on_letter(Margins { footer: -0.1, ..NONE })),
+        falls_back(on_letter(Margins {
+            footer: -0.1,
+            ..NONE
+        })),
     )?;
     Ok(())
 }

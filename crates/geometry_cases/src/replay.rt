@@ -48,11 +48,27 @@ fn small(bits: u64) -> u16 {
 
 // What a line asks.
 enum Case {
-    Inches { inches: f64 },
-    Capacity { side: Fixed, permille: u16, titles: Fixed, headings: Fixed },
-    Scaled { size: Fixed, permille: u16 },
-    Paper { code: Option<u16>, landscape: bool },
-    Content { paper: PaperGeometry, margins: Option<Margins> },
+    Inches {
+        inches: f64,
+    },
+    Capacity {
+        side: Fixed,
+        permille: u16,
+        titles: Fixed,
+        headings: Fixed,
+    },
+    Scaled {
+        size: Fixed,
+        permille: u16,
+    },
+    Paper {
+        code: Option<u16>,
+        landscape: bool,
+    },
+    Content {
+        paper: PaperGeometry,
+        margins: Option<Margins>,
+    },
 }
 
 // The paper of the first two fields, of which a content has the sides alone.
@@ -64,26 +80,46 @@ fn paper(fields: &Fields) -> PaperGeometry {
     }
 }
 
+// The margins of the last six fields.
+fn margins(fields: &Fields) -> Margins {
+    Margins {
+        left: float(fields[2]),
+        right: float(fields[3]),
+        top: float(fields[4]),
+        bottom: float(fields[5]),
+        header: float(fields[6]),
+        footer: float(fields[7]),
+    }
+}
+
 // What a letter asks of its fields.
 fn asked(letter: u8, fields: &Fields) -> Option<Case> {
     match letter {
-        b'i' => Some(Case::Inches { inches: float(fields[0]) }),
+        b'i' => Some(Case::Inches {
+            inches: float(fields[0]),
+        }),
         b'c' => Some(Case::Capacity {
             side: fixed(fields[0]),
             permille: small(fields[1]),
             titles: fixed(fields[2]),
             headings: fixed(fields[3]),
         }),
-        b's' => Some(Case::Scaled { size: fixed(fields[0]), permille: small(fields[1]) }),
+        b's' => Some(Case::Scaled {
+            size: fixed(fields[0]),
+            permille: small(fields[1]),
+        }),
         b'p' => Some(Case::Paper {
             code: (fields[0] > 0).then_some(small(fields[1])),
             landscape: fields[2] > 0,
         }),
         b'm' => Some(Case::Content {
             paper: paper(fields),
-            margins: Some(Margins::from_fn(|k| float(fields[2 + k]))),
+            margins: Some(margins(fields)),
         }),
-        b'a' => Some(Case::Content { paper: paper(fields), margins: None }),
+        b'a' => Some(Case::Content {
+            paper: paper(fields),
+            margins: None,
+        }),
         _ => None,
     }
 }
@@ -94,7 +130,10 @@ fn read(line: &[u8; LINE]) -> Option<Case> {
 }
 
 // A value, or the number of its refusal.
-fn write_answer<W: Write, T: Display + Drop>(out: &mut W, answer: Result<T, Refusal>) -> io::Result<()> {
+fn write_answer<W: Write, T: Display + Drop>(
+    out: &mut W,
+    answer: Result<T, Refusal>,
+) -> io::Result<()> {
     match answer {
         Ok(value) => writeln!(out, "{value}"),
         Err(refusal) => writeln!(out, "{refusal}"),
@@ -110,12 +149,26 @@ fn write_paper<W: Write>(out: &mut W, answer: Paper) -> io::Result<()> {
 fn answer<W: Write>(out: &mut W, case: Case) -> io::Result<()> {
     match case {
         Case::Inches { inches } => write_answer(out, units::inches_to_fixed(inches)),
-        Case::Capacity { side, permille, titles, headings } => {
-            write_answer(out, units::unscaled_capacity(side, permille, titles, headings))
+        Case::Capacity {
+            side,
+            permille,
+            titles,
+            headings,
+        } => {
+            write_answer(
+                out,
+                units::unscaled_capacity(side, permille, titles, headings),
+            )
         }
         Case::Scaled { size, permille } => write_answer(out, units::scale_fixed(size, permille)),
-        Case::Paper { code, landscape } => write_paper(out, geometry::paper_geometry(code, landscape)),
-        Case::Content { paper, margins } => write_answer(out, geometry::content_geometry(paper, margins)),
+        Case::Paper { code, landscape } => write_paper(
+            out,
+            geometry::paper_geometry(code, landscape),
+        ),
+        Case::Content { paper, margins } => write_answer(
+            out,
+            geometry::content_geometry(paper, margins),
+        ),
     }
 }
 

@@ -22,7 +22,7 @@ pub fn bits(digits: &[u8]) -> u64
 {
     let mut value = 0;
     for &byte in digits {
-        value = value % 0x1000_0000_0000_0000 * 16 + digit(byte).unwrap_or(0) % 16;
+        value = value << 4 | digit(byte).unwrap_or(0);
     }
     value
 }

@@ -17,6 +17,8 @@ const NUMBERS: usize = RUN_NUMBERS * RUNS;
 // The most bytes of a line, or of the first lines.
 const LINE: usize = 256;
 
+// Each of the next three makes its array: one function for them would take the putting as a closure, and ask of it where the text ends.
+
 // The first lines of an answer.
 fn print_head<W: Write>(planning: &Result<Plan, Refusal>, out: &mut W) -> io::Result<()> {
     let mut line = [0; LINE];
@@ -93,7 +95,7 @@ impl RunVecs {
             let Some(spot) = page_spot(plan, number) else {
                 break;
             };
-            let Some(area) = plan.areas.as_slice().get(spot.area).copied() else {
+            let Some(area) = plan.areas.get(spot.area).copied() else {
                 break;
             };
             if spot.before == 0 {

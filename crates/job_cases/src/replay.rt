@@ -1,11 +1,12 @@
 // Answers lines of input. A line is the number of a job's bytes as eight hexadecimal digits, the bytes as two digits each, and a line end.
 use crate::planned::RunVecs;
 use hexadecimal::bits;
+use job_questions::MOST_BYTES;
 use std::alloc::{AllocError, Global};
 use std::io::{self, BufRead, Write};
 
 // The most bytes that are read: one more than a job may have.
-const MOST: u64 = 60_001;
+const MOST: u64 = MOST_BYTES as u64 + 1;
 
 // The bytes of the job that a line has, if it has one.
 fn job_in(alloc: Global, line: &[u8]) -> Result<Option<Vec<u8>>, AllocError> {

@@ -18,19 +18,6 @@ use Rattle.job_walk.proofs.WalkLaws.{sorted_less, sorted_above, Used, walk_end, 
 
 -- ---- the record of a kind
 
-pub kind_none : (k : ℕ) {g f : Option Head} → f ≡ g → f ≡ None → None ≡ of_kind k g
-unfolding of_kind
-kind_none k e i = sym (ap (of_kind k) (sym e ∙ i))
-
-module _ (k : ℕ) {g f : Option Head} (e : f ≡ g) {h : Head} {x : ℕ} (i : f ≡ Some h) (j : x ≡ rank h.found) where
-  pub kind_some : x ≡ k → Some h ≡ of_kind k g
-  unfolding of_kind
-  kind_some l = rw (← e, i, eq-eqb (rank h.found) k (sym j ∙ l))
-
-  pub kind_other : (x ≡ k → ⊥) → None ≡ of_kind k g
-  unfolding of_kind
-  kind_other l = rw (← e, i, ne_eqb (rank h.found) k (λ q. l (j ∙ q)))
-
 kind_goes : (k : ℕ) (g : Option Head) (h : Head) → of_kind k g ≡ Some h → (g ≡ Some h) × (rank h.found ≡ k)
 unfolding of_kind
 kind_goes k None h e = absurd cc

@@ -102,16 +102,11 @@ fn cells_of(found: Record) -> Range
     merge.cells
 }
 
-// The next record, where it has this mark. By `filter`, a proof would first have to open what its closure answered: the arms are plainer.
+// The next record, where it has this mark.
 fn next_of(s: &[u8], wanted: Mark) -> Option<Head>
     ensures { result ≡ of_kind (place wanted) (before (step s.now)) }
 {
-    let head = next_record(s)?;
-    if head.found.mark() == wanted {
-        Some(head)
-    } else {
-        None
-    }
+    next_record(s).filter(|head| head.found.mark() == wanted)
 }
 
 // What is left of a job from its first record that may repeat.
@@ -145,7 +140,8 @@ fn write_slots<'a>(job: SortedJob<'a>, next: Mark, lent: &mut LentSlots<'_>) -> 
     ensures lent_still { SlotsStill lent.old lent.new }
 {
     let mut s = job.bytes;
-    // By number, for one place in both lists: of what goes through a `zip` of two `iter_mut`, no invariant of the loop sees what was written.
+    // By number, for one place in both lists. A `for` over a `zip` of two `iter_mut` was tried: its invariant can name the places that were handed
+    // out, and neither of the lists that they are of.
     for k in 0..lent.indexes.len() {
         let Some(head) = next_of(s, job.first) else {
             break;

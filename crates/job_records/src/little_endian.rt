@@ -2,34 +2,27 @@
 ghost use Rattle.std.specs.Prelude.{◌≡◌, ◌+◌, ◌≤◌, length};
 ghost use Rattle.job_records.specs.LittleEndian.{u16_at, u32_at, u64_at, i64_of, f64_of};
 
+use std::array;
+
 pub(crate) fn u16_at(s: &[u8], at: usize) -> u16
     requires { at + 2 ≤ length s.now }
     ensures { result ≡ u16_at s.now at }
 {
-    u16::from_le_bytes([s[at], s[at + 1]])
+    u16::from_le_bytes(array::from_fn(|k| s[at + k]))
 }
 
 pub(crate) fn u32_at(s: &[u8], at: usize) -> u32
     requires { at + 4 ≤ length s.now }
     ensures { result ≡ u32_at s.now at }
 {
-    u32::from_le_bytes([s[at], s[at + 1], s[at + 2], s[at + 3]])
+    u32::from_le_bytes(array::from_fn(|k| s[at + k]))
 }
 
 pub(crate) fn u64_at(s: &[u8], at: usize) -> u64
     requires { at + 8 ≤ length s.now }
     ensures { result ≡ u64_at s.now at }
 {
-    u64::from_le_bytes([
-        s[at],
-        s[at + 1],
-        s[at + 2],
-        s[at + 3],
-        s[at + 4],
-        s[at + 5],
-        s[at + 6],
-        s[at + 7],
-    ])
+    u64::from_le_bytes(array::from_fn(|k| s[at + k]))
 }
 
 // The signed number that 64 bits stand for.
@@ -48,7 +41,7 @@ pub fn float(bits: u64) -> f64
     ensures { result ≡ f64_of bits }
 {
     if bits % 0x8000_0000_0000_0000 > INFINITY {
-        0.0 / 0.0
+        f64::NAN
     } else {
         f64::from_bits(bits)
     }

@@ -24,7 +24,7 @@ fn area_at(plan: &Plan, spot: Spot) -> AreaPlan
     requires { spot.area < length plan.now.areas.items }
     ensures { result ≡ section.area_of plan.now spot }
 {
-    plan.areas.as_slice()[spot.area]
+    plan.areas[spot.area]
 }
 
 // Puts the lines of an area's pages from one that is there on. No number goes past the plan's count.
@@ -49,10 +49,7 @@ fn lines_held(
         let own = spot.before as u64 + pages + 1;
         let answer = area_page(order, area, own, runs);
         let Ok(page) = answer else {
-            return Block {
-                pages,
-                bytes: text.at,
-            };
+            break;
         };
         text.page(from + pages, page);
         pages += 1;
@@ -74,9 +71,7 @@ pub fn area_block(
     ensures { section.BlockPut (section.block_pages plan.now runs.entry.rows.now runs.entry.columns.now from) from result
         out.old out.new }
 {
-    let Some(spot) = page_spot(plan, from) else {
-        return Err(Refusal::NoSuchNumber);
-    };
+    let spot = page_spot(plan, from).ok_or(Refusal::NoSuchNumber)?;
     let area = area_at(plan, spot);
     let _first = area_page(plan.order, area, 1, runs)?;
     Ok(lines_held(plan, from, spot, runs, out))

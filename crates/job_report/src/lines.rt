@@ -11,10 +11,7 @@ use units::Refusal;
 fn first_permille(plan: &Plan) -> u16
     ensures { result ≡ section.first_permille plan.now }
 {
-    match plan.areas.as_slice().first() {
-        Some(area) => area.permille,
-        None => 0,
-    }
+    plan.areas.first().map_or(0, |area| area.permille)
 }
 
 impl Text<'_> {

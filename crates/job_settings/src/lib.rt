@@ -113,7 +113,7 @@ pub fn areas_for(read: &JobAreas) -> ArrayVec<PrintRange, 8>
     ensures { result.items ≡ section.areas_for read.now.items }
 {
     let mut areas = ArrayVec::new();
-    for cells in read.as_slice() {
+    for cells in read.iter() {
         areas.push(range_for(*cells));
     }
     areas

@@ -2,12 +2,13 @@
 use crate::standard::{SIZES, Size};
 use std::fmt;
 use std::fmt::Write;
+use units::{Fixed, inches_to_fixed};
 
-// A paper's sides in units.
+// A paper's sides.
 #[derive(Clone, Copy, PartialEq, Eq)]
 pub struct Sides {
-    width: i64,
-    height: i64,
+    width: Fixed,
+    height: Fixed,
 }
 
 impl fmt::Display for Sides {
@@ -76,19 +77,15 @@ impl fmt::Display for Tally {
     }
 }
 
-// Inches in units; no size of the standard's list overflows.
-fn units(inches: f64) -> Option<i64> {
-    Some(units::inches_to_fixed(inches).ok()?.raw())
-}
-
+// A size as lengths; none of the standard's list overflows.
 fn in_units(size: Size) -> Option<Sides> {
     let (width, height) = match size {
         Size::Inches(width, height) => (width as f64 / 1000.0, height as f64 / 1000.0),
         Size::Millimetres(width, height) => (width as f64 / 25.4, height as f64 / 25.4),
     };
     Some(Sides {
-        width: units(width)?,
-        height: units(height)?,
+        width: inches_to_fixed(width).ok()?,
+        height: inches_to_fixed(height).ok()?,
     })
 }
 
@@ -101,7 +98,7 @@ fn here(code: u16) -> Option<Sides> {
     let answer = geometry::paper_geometry(Some(code), false);
     let paper = answer.geometry;
     (answer.unknown_paper == 0).then_some(Sides {
-        width: paper.width.raw(),
-        height: paper.height.raw(),
+        width: paper.width,
+        height: paper.height,
     })
 }

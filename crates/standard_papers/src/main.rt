@@ -47,12 +47,46 @@ fn write_limits<W: Write>(
     times: f64,
 ) -> io::Result<()> {
     let half = inches(paper.width, more, times) / 2.0;
-    write_content(out, "left and right", paper, Some(Margins { left: half, right: half, ..NONE }))?;
+    write_content(
+        out,
+        "left and right",
+        paper,
+        Some(Margins {
+            left: half,
+            right: half,
+            ..NONE
+        }),
+    )?;
     let height = inches(paper.height, more, times);
     let half = height / 2.0;
-    write_content(out, "top and bottom", paper, Some(Margins { top: half, bottom: half, ..NONE }))?;
-    write_content(out, "header", paper, Some(Margins { header: height, ..NONE }))?;
-    write_content(out, "footer", paper, Some(Margins { footer: height, ..NONE }))
+    write_content(
+        out,
+        "top and bottom",
+        paper,
+        Some(Margins {
+            top: half,
+            bottom: half,
+            ..NONE
+        }),
+    )?;
+    write_content(
+        out,
+        "header",
+        paper,
+        Some(Margins {
+            header: height,
+            ..NONE
+        }),
+    )?;
+    write_content(
+        out,
+        "footer",
+        paper,
+        Some(Margins {
+            footer: height,
+            ..NONE
+        }),
+    )
 }
 
 fn write_paper<W: Write>(out: &mut W, code: u16, landscape: bool) -> io::Result<()> {
@@ -63,12 +97,19 @@ fn write_paper<W: Write>(out: &mut W, code: u16, landscape: bool) -> io::Result<
     writeln!(
         out,
         "{} {} {}",
-        paper.width,
-        paper.height,
-        answer.unknown_paper
+        paper.width, paper.height, answer.unknown_paper
     )?;
     write_content(out, "absent", paper, None)?;
-    write_content(out, "3.5 and 3.5 inches", paper, Some(Margins { left: 3.5, right: 3.5, ..NONE }))?;
+    write_content(
+        out,
+        "3.5 and 3.5 inches",
+        paper,
+        Some(Margins {
+            left: 3.5,
+            right: 3.5,
+            ..NONE
+        }),
+    )?;
     writeln!(out, " a unit less than the side")?;
     write_limits(out, paper, -1.0, 1.0)?;
     writeln!(out, " the float below the side")?;

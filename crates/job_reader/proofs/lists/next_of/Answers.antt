@@ -1,19 +1,26 @@
--- `job_reader::lists::next_of` meets its contract.
-use Rattle.std.proofs.Common.{sym, ap, ◌∙◌}
+-- `next_of` is what `of_kind` makes of the next record.
+use Rattle.std.proofs.Common.{ℕ, ◌≡◌, Bool, true, false, cond, ap, ◌∙◌, rules}
+use Rattle.std.specs.Prelude.{Option, Some, None, MatchOption, eqb}
+use Rattle.std.specs.Bool.{then_some}
+use Rattle.job_records.specs.declared.records.Head.{Head}
 use Rattle.job_records.specs.Marks.{place}
-use Rattle.job_records.proofs.MarkLaws.{same_place, other_place}
-use Rattle.job_reader.proofs.WalkLaws.{kind_none, kind_some, kind_other}
+use Rattle.job_records.specs.Records.{rank, mark_before}
+use Rattle.job_records.proofs.MarkLaws.{same_is}
+use Rattle.job_reader.specs.Walk.{of_kind}
 use Rattle.job_reader.proofs.lists.next_of.Goals as goal
 
-pub returns-in_err-head : goal.returns-in_err-head
-returns-in_err-head c = c.from_residual.ensures ∙ kind_none (place c.args.wanted) c.next_record.ensures c.in_err-head.was
+-- a head is kept where it has the mark
+kept_is : (b here : Bool) (h : Head) → b ≡ here → then_some b h ≡ cond here (Some h) None
+kept_is b true h e = rw e
+kept_is b false h e = rw e
 
-pub returns-then-eq : goal.returns-then-eq
-returns-then-eq c =
-    kind_some (place c.args.wanted) c.next_record.ensures c.in_ok-head.was (ap place c.mark.ensures)
-    (same_place c.mark.result c.args.wanted (sym c.eq.ensures ∙ c.if-eq.true))
+filtered : (k : ℕ) (Gives : Head → Bool → Type 0) → ((h : Head) (b : Bool) → Gives h b → b ≡ eqb (rank h.found) k)
+    → (f kept : Option Head) → MatchOption f (kept ≡ None) (λ h. (b : Bool) × Gives h b × (kept ≡ then_some b h)) → kept ≡ of_kind k f
+unfolding of_kind
+filtered k Gives t None kept e = e
+filtered k Gives t (Some h) kept (b, g, e) = e ∙ kept_is b (eqb (rank h.found) k) h (t h b g)
 
-pub returns-else-eq : goal.returns-else-eq
-returns-else-eq c =
-    kind_other (place c.args.wanted) c.next_record.ensures c.in_ok-head.was (ap place c.mark.ensures)
-    (other_place c.mark.result c.args.wanted (sym c.eq.ensures ∙ c.if-eq.false))
+pub returns : goal.returns
+returns c =
+    filtered (place c.args.wanted) _ (λ h b g. search rules ∙ same_is (mark_before h.found) c.args.wanted) _ _ c.filter.ensures
+    ∙ ap (of_kind (place c.args.wanted)) c.next_record.ensures
