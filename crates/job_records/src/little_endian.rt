@@ -25,7 +25,7 @@ pub(crate) fn u64_at(s: &[u8], at: usize) -> u64
     u64::from_le_bytes(array::from_fn(|k| s[at + k]))
 }
 
-// The signed number that 64 bits stand for.
+// The signed number that 64 bits stand for. Not `cast_signed` by itself: its clause is in `i64_of`, the word that the definitions of records have.
 #[tactic(auto, unfolding(crate::specs::LittleEndian::i64_of))]
 pub fn signed(bits: u64) -> i64
     ensures { result ≡ i64_of bits }

@@ -58,7 +58,7 @@ impl Counted<'_> {
         requires { at < length self.old.plan.areas.items }
         ensures { self.new.plan ≡ self.old.plan }
     {
-        let permille = self.plan.areas.as_slice()[at].permille;
+        let permille = self.plan.areas[at].permille;
         let number = at as u64 + 1;
         print_area(out, number, permille)?;
         write_job_area(

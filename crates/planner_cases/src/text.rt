@@ -16,7 +16,7 @@ impl<T: fmt::Display> fmt::Display for Answer<T> {
     fn fmt<W: fmt::Write>(&self, f: &mut fmt::Formatter<W>) -> fmt::Result {
         match &self.0 {
             Ok(value) => write!(f, "{value}"),
-            Err(refusal) => write!(f, "no {}", refusal.number()),
+            Err(refusal) => write!(f, "{refusal}"),
         }
     }
 }
