@@ -106,7 +106,9 @@ one_line n p pages = append-nil (page_line n p)
 -- where it ends there is no room, or the number is past the count
 pub shut_told : {X : Type 0} (bytes last pages most : ℕ) → (leb bytes last && leb pages most) ≡ false → (last < bytes → X) → (most < pages → X) → X
 shut_told bytes last pages most e f g =
-    split bytes last (λ h. split pages most (λ l. let yes : (leb bytes last && leb pages most) ≡ true = rw (le-leb bytes last h, le-leb pages most l) in absurd cc) g) f
+    split bytes last
+    (λ h. split pages most
+    (λ l. let yes : (leb bytes last && leb pages most) ≡ true = rw (le-leb bytes last h, le-leb pages most l) in absurd cc) g) f
 
 module _ (from : ℕ) (rest : List Page) where
   -- k pages have their lines in so many bytes at the start of the array, which was `old`; the block holds these and what it holds after them

@@ -63,7 +63,12 @@ impl PageCase {
             },
             number,
             row_runs: lent::marked_from(fields.alloc, first_row, row_numbers, row_others)?,
-            column_runs: lent::marked_from(fields.alloc, first_column, column_numbers, column_others)?,
+            column_runs: lent::marked_from(
+                fields.alloc,
+                first_column,
+                column_numbers,
+                column_others,
+            )?,
         })
     }
 

@@ -174,14 +174,12 @@ fn read_ranges(fields: &mut Fields, count: u8) -> Result<Vec<PrintRange>, Fault>
     let lasts = last_rows.into_iter().zip(last_columns);
     let ranges = firsts
         .zip(lasts)
-        .map(
-            |((first_row, first_column), (last_row, last_column))| PrintRange {
-                first_row,
-                first_column,
-                last_row,
-                last_column,
-            },
-        )
+        .map(|((first_row, first_column), (last_row, last_column))| PrintRange {
+            first_row,
+            first_column,
+            last_row,
+            last_column,
+        })
         .collect(fields.alloc)?;
     Ok(ranges)
 }

@@ -70,7 +70,8 @@ next_stays k [] ls is prev b none h l =
     let low = below_up_to b is prev h l in
     either Stays (ltb 0 p)
     (either Stays (ltb p (length is))
-    (either Stays (title_holds k.title (get_or is p 0)) (kept_low (length is) prev (cut_at prev false) (omega arith)) (kept_low (length is) prev (cut_at p false) low))
+    (either Stays (title_holds k.title (get_or is p 0))
+    (kept_low (length is) prev (cut_at prev false) (omega arith)) (kept_low (length is) prev (cut_at p false) low))
     (kept_low (length is) prev (cut_at prev false) (omega arith)))
     (kept_low (length is) prev (cut_at prev false) (omega arith))
   where

@@ -76,7 +76,11 @@ pub record Stands (rs : List Run) (l : List ℕ) : Type 0 where
 pub stands : (rs : List Run) (old new : List ℕ) → new ≡ written (flat rs) old → Stands rs new
 stands rs old new w =
     let e = ap (runs_in (length rs)) w ∙ runs_bare rs (drop (length (flat rs)) old) in
-    record { firsts_are = ap firsts e ∙ map-map (λ (r : Run). r.first) bare rs; lasts_are = ap lasts e ∙ map-map (λ (r : Run). r.last) bare rs; sizes_are = ap sizes e ∙ map-map (λ (r : Run). r.size) bare rs }
+    record {
+      firsts_are = ap firsts e ∙ map-map (λ (r : Run). r.first) bare rs;
+      lasts_are = ap lasts e ∙ map-map (λ (r : Run). r.last) bare rs;
+      sizes_are = ap sizes e ∙ map-map (λ (r : Run). r.size) bare rs;
+    }
 
 pub runs_length : (n : ℕ) (l : List ℕ) → length (runs_in n l) ≡ n
 unfolding runs_in
