@@ -274,5 +274,6 @@ module _ (p : Plan) (n : ℕ) (rows columns : List ℕ) where
             → BlockPut (ask 11 b (given (pages_on p rows columns n s))) n (Err k) old old
         go true j =
             let own = own_page p n s found in
-            absurd (omega (arith, there_none (area_pages p.order (area_of p s) rows columns) 0 (number_of k) j, area_length p.order (area_of p s) rows columns, own))
+            let pages = area_pages p.order (area_of p s) rows columns in
+            absurd (omega (arith, there_none pages 0 (number_of k) j, area_length p.order (area_of p s) rows columns, own))
         go false j = let same : 11 ≡ number_of k = cc in record { answer = ap refused (sym same); array_is = refl }

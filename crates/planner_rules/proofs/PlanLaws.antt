@@ -315,7 +315,8 @@ module _ (c : Sides) (s : Sheet) (gs : List PrintRange) where
 
       pub runs_fit_lem : (length (row_runs_of (layouts_of c s gs)) ≤ row_room) × (length (column_runs_of (layouts_of c s gs)) ≤ column_room)
       runs_fit_lem =
-          let f = and_parts (leb (length (row_runs_of (layouts_of c s gs))) row_room) (leb (length (column_runs_of (layouts_of c s gs))) column_room) both_yes.0 in
+          let ls = layouts_of c s gs in
+          let f = and_parts (leb (length (row_runs_of ls)) row_room) (leb (length (column_runs_of ls)) column_room) both_yes.0 in
           (leb-true _ _ f.0, leb-true _ _ f.1)
 
   -- 12 alone

@@ -1,6 +1,7 @@
 -- Document 01, section "Runs". Everything is said of the slots from a run's first on: is are their indexes, ss their sizes, n how many
 -- the run has so far. Merges are two lists side by side: firsts and lasts. Assumes nothing.
-use Rattle.std.specs.Prelude.{Option, Some, None, Bool, true, false, cond, List, [], ◌∷◌, ◌++◌, ℕ, zero, suc, pred, ◌+◌, ◌-◌, min, max, length, get_or, take, drop, leb, ltb}
+use Rattle.std.specs.Prelude.{Option, Some, None, Bool, true, false, cond, List, [], ◌∷◌, ◌++◌, ℕ, zero, suc, pred, ◌+◌, ◌-◌, min, max}
+use Rattle.std.specs.Prelude.{length, get_or, take, drop, leb, ltb}
 use Rattle.planner_rules.specs.declared.titles.Title.{Title}
 use Rattle.planner_rules.specs.declared.titles.Title.TheVariants.{Absent, Pair}
 use Rattle.planner_rules.specs.declared.titles.Span.{Span}

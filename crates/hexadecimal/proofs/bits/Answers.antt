@@ -1,5 +1,6 @@
 -- `hexadecimal::bits` meets its contract: one digit more, and none left.
-use Rattle.std.proofs.Common.{◌≡◌, Bool, true, false, cond, ℕ, ◌+◌, ◌-◌, ◌*◌, ◌%◌, ◌^◌, ◌≤◌, ◌<◌, List, length, get_or, drop, drop_of_length-le, drop-cons, add-one, sym, ap, refl, ◌∙◌}
+use Rattle.std.proofs.Common.{◌≡◌, Bool, true, false, cond, ℕ, ◌+◌, ◌-◌, ◌*◌, ◌%◌, ◌^◌, ◌≤◌, ◌<◌, sym, ap, refl, ◌∙◌}
+use Rattle.std.proofs.Common.{List, length, get_or, drop, drop_of_length-le, drop-cons, add-one}
 use Rattle.std.proofs.Common.{arith}
 use Rattle.std.proofs.lemmas.Nat.{or_shifted}
 use Rattle.std.specs.Int.Bits.{bit_or}

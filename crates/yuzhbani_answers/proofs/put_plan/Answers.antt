@@ -7,7 +7,9 @@ pub loop-k-init : goal.loop-k-init
 loop-k-init c =
     record {
       few = omega arith;
-      put = rw (c.copy_from_slice.ensures.after, c.copy_from_slice-2.ensures.after, c.from.ensures, c.len.ensures.value) (front_put c.args.plan.now _ (search rules));
+      put =
+        rw (c.copy_from_slice.ensures.after, c.copy_from_slice-2.ensures.after, c.from.ensures, c.len.ensures.value)
+        (front_put c.args.plan.now _ (search rules));
       back = λ k h. absurd (omega arith);
     }
 
