@@ -1,7 +1,7 @@
 -- The code's tables of paper sizes are the definition's list of sheets, in units: one test, computed over the whole table. Assumes nothing.
 use Rattle.std.specs.Prelude.{Option, None, Some, ◌==◌}
 use Rattle.std.specs.List.{find}
-use Rattle.std.proofs.Common.{◌≡◌, ℕ, ◌<◌, Bool, true, false, cond, ◌&&◌, T, eqb, List, [], ◌∷◌, get_or, ℤ, pos, negsuc, refl, ap, subst, sym, ◌∙◌, drop}
+use Rattle.std.proofs.Common.{◌≡◌, ℕ, Bool, true, false, cond, ◌&&◌, T, eqb, List, [], ◌∷◌, ℤ, pos, negsuc, refl, ap, subst, sym, ◌∙◌}
 use Rattle.std.proofs.Common.{eqb→eq, eqb-true, eq-eqb, ne_eqb}
 use borrow.Author.Tests.{eqb-false}
 use lib.Ieee.{mul, div, round, of_int}

@@ -13,7 +13,7 @@ use Rattle.job_records.specs.declared.records.Record.{Record}
 use Rattle.job_records.specs.declared.records.Head.{Head}
 use Rattle.std.specs.Prelude.{Option, Some, None}
 use Rattle.job_questions.specs.declared.Items.{Items}
-use Rattle.job_records.specs.Records.{Format, RW, CL, MR, BR, BC, found, formats, known, head_record, step, rank, is_end, used, onto}
+use Rattle.job_records.specs.Records.{Format, RW, CL, MR, BR, BC, formats, known, head_record, step, rank, is_end, used, onto}
 use Rattle.job_records.specs.Records.{records_from, records, marked}
 use Rattle.job_questions.specs.Verdict.{questions, in_order, verdict_lent, items_of}
 use Rattle.job_reader.specs.Reading.{Lists, even_lists, room_in, fit_in, asked, job_of, read_job}

@@ -25,7 +25,6 @@ use Rattle.job_reader.specs.Reading.{Lists, even_lists, room_in, fit_in, asked, 
 use Rattle.planner_rules.specs.Areas.{one_to_eight}
 use Rattle.job_questions.proofs.PassLaws.{All, sorted_of}
 use Rattle.std.proofs.lemmas.Bool.{and_parts}
-use Rattle.std.proofs.lemmas.List.{take_rest}
 
 -- ---- questions in order, whatever is given at the end
 

@@ -109,7 +109,7 @@ fn next_of(s: &[u8], wanted: Mark) -> Option<Head>
     next_record(s).filter(|head| head.found.mark() == wanted)
 }
 
-// What is left of a job from its first record that may repeat.
+// What is left of a job from its first record that may repeat. Not by `Records`: it is what is left that is answered, and no record.
 fn past_settings(job: SortedJob<'_>) -> SortedJob<'_>
     ensures first { result.first ≡ mark.Row }
     ensures kept { Kept RW job.entry.bytes.now result.bytes.now }

@@ -1,4 +1,4 @@
-// Little-endian numbers in bytes, each read where all its bytes are there.
+// Little-endian numbers in bytes, each read where all its bytes are there: by a function of each type, since no trait has `from_le_bytes`.
 ghost use Rattle.std.specs.Prelude.{◌≡◌, ◌+◌, ◌≤◌, length};
 ghost use Rattle.job_records.specs.LittleEndian.{u16_at, u32_at, u64_at, i64_of, f64_of};
 

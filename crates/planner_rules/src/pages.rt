@@ -78,6 +78,7 @@ impl From<NoteNumbers> for Notes {
 
 // What an area came to: its scale, 1 where no permille fits it, how many runs of rows and of columns its pages are made of, and whether its
 // bodies are empty. The 1 is a `u64`, not a `bool`: it is a count of notes, which the notes of a plan add up, and a host hands it back as a number.
+// Its counts of runs are two fields and no `RunCounts`, as a host's numbers and the definitions have them.
 #[derive(Clone, Copy, Default)]
 pub struct AreaPlan {
     pub permille: u16,

@@ -8,8 +8,8 @@ loop-k-init c =
     record {
       few = omega arith;
       put =
-        rw (c.copy_from_slice.ensures.after, c.copy_from_slice-2.ensures.after, c.from.ensures, c.len.ensures.value)
-        (front_put c.args.plan.now _ (search rules));
+          rw (c.copy_from_slice.ensures.after, c.copy_from_slice-2.ensures.after, c.from.ensures, c.len.ensures.value)
+          (front_put c.args.plan.now _ (search rules));
       back = λ k h. absurd (omega arith);
     }
 
