@@ -65,7 +65,7 @@ fn letter() -> PaperGeometry {
     upright(1).geometry
 }
 
-// No margin at all.
+// No margin at all. `standard_papers` has it too: a library of both programs' would be longer than it is.
 const NONE: Margins = Margins {
     left: 0.0,
     right: 0.0,

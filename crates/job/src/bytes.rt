@@ -176,7 +176,7 @@ pub fn count_job(bytes: &[u8]) -> Result<Plan, Refusal>
     answer_job(&mut PageCount, bytes)
 }
 
-// Writes the runs of the area with a number, from 1, at a permille to the fronts of two lent lists.
+// Writes the runs of the area with a number, from 1, at a permille to the fronts of two lent lists. Two slices: as at `plan_job`.
 #[tactic(auto, unfolding(crate::specs::PlanJob::write_job_area))]
 pub fn write_job_area(
     bytes: &[u8],

@@ -95,7 +95,7 @@ fn follows_on(last: Option<Mark>, next: Mark) -> bool
     }
 }
 
-// `all_upright` of `planner_questions` asks it of a `PrintRange`: for ranges of both types one body would go by a trait of their four numbers.
+// 6 of a range, asked of it as the planner has it, so that `is_upright` is one for both.
 fn firsts_ok(a: Range) -> bool
     ensures { result ≡ firsts_ok a }
 {

@@ -61,7 +61,7 @@ pub struct JobLists<'a> {
     pub columns: LentAxis<'a>,
 }
 
-// A slot as it goes to the lists.
+// A slot as it goes to the lists. No `Slot`, whose size has a sign, as its bytes do.
 #[derive(Clone, Copy)]
 pub(crate) struct Measured {
     pub index: u32,

@@ -9,7 +9,8 @@ use geometry::Margins;
 use job_records::{JobAreas, MarginBits, Range, float};
 use planner_rules::{PageOrder, PrintRange, Settings, Title};
 
-// The settings of a job, in the order of their records.
+// The settings of a job, in the order of their records. `fit` and `order` are bytes, as in their records: what each byte means, whatever it is, `fit_on`
+// and `over_then_down` say.
 #[derive(Clone, Drop)]
 pub struct JobSettings {
     pub paper: Option<u16>,

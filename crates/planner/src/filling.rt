@@ -19,7 +19,7 @@ pub(crate) fn total(slots: Measured) -> u64
     slots.sizes.iter().sum()
 }
 
-// The sum of eight sizes. Written out by pairs: the library's sum would be a loop inside the fill's, unless the compiler sees that there are eight.
+// The sum of eight sizes. Written out by pairs, which shows its bound at once: `sum` would require it, of a list that is known by its length alone.
 fn sum_of_eight(s: &[u64]) -> u64
     requires small { Small s.now }
     requires s_len { length s.now ≡ 8 }

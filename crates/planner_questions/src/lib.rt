@@ -61,7 +61,8 @@ pub fn all_within(indexes: &[u32], limit: u32) -> bool
 }
 
 // Each index is below the next: all are asked, so that there is no branch on what one of them answers. By a `for`: the
-// closure of a fold would first have to be told that a window has two indexes, and nothing hands it that.
+// closure of a fold would first have to be told that a window has two indexes, and nothing hands it that; a zip with the tail would first ask whether
+// there is one.
 fn strictly_rising(indexes: &[u32]) -> bool
     ensures { result ≡ rising indexes.now }
 {

@@ -2,7 +2,8 @@
 ghost use Rattle.std.specs.Prelude.{◌≡◌, ℕ, Bool};
 ghost use Rattle.planner_rules.specs.Titles.{no_merge};
 
-// The measured slots of an axis, or a stretch of them: their indexes and their sizes.
+// The measured slots of an axis, or a stretch of them: their indexes and their sizes. Two slices and not one of pairs, as hosts lend them and document
+// 01 has it: question 6 asks whether slices that make up one list are equally long. Merges are two likewise.
 #[derive(Clone, Copy)]
 pub struct SlotList<'a> {
     pub indexes: &'a [u32],

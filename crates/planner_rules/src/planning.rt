@@ -50,7 +50,7 @@ pub struct RunCounts {
     pub columns: usize,
 }
 
-// An axis of an area, as the settings make it.
+// An axis of an area, as the settings make it. Its target is 0 for any number, as that of a `Fit`.
 #[derive(Clone, Copy)]
 pub struct AxisRange {
     pub limit: u32,

@@ -10,7 +10,7 @@ use planner_rules::{AreaPlan, AreaPlans, NoteNumbers, Notes, Page, PageOrder, Pl
 use std::array;
 use units::Refusal;
 
-// Any number above 0 is over then down.
+// Any number above 0 is over then down. No `From<u64>`: `PageOrder` is not of this crate.
 pub fn order_from(n: u64) -> PageOrder
     ensures { result ≡ section.order_from n }
 {
@@ -55,7 +55,7 @@ fn put_plan(numbers: &mut [u64; 60], plan: &Plan)
 }
 
 // The answer of a plan call; the numbers of its plan are put, or nothing. Not by `put`: the sixty go to the lent array area after area, and would be
-// made in another array first, to be copied.
+// made in another array first, to be copied, and the proof would say of both what `plan_numbers` says.
 #[inline(always)]
 pub fn put_planning(planning: Result<Plan, Refusal>, numbers: &mut [u64; 60]) -> u8
     ensures value { result ≡ answer_to (outcome planning) }
