@@ -71,8 +71,8 @@ fn plan_of(shared: &Shared, counted: CountedAreas) -> Plan
 
 impl SheetArea<'_> {
     // Counts an area that stands alone and, where its runs have room and its pages are within the limit, writes it. Beside `plan_several` for speed:
-    // there an area is made ready and its capacities are found twice, to be counted and to be written. As one of several it was tried, and misses the bar
-    // that one area takes no longer than it took before a plan had several (docs/DECISIONS.md, T-02, 17).
+    // there an area is made ready and its capacities are found twice, to be counted and to be written (docs/DECISIONS.md, T-02, 17). What that costs
+    // since areas are a slice was not measured.
     #[inline(always)]
     fn plan(&self, row_runs: &mut [u64], column_runs: &mut [u64]) -> Result<Plan, Refusal>
         ensures { let of = self.now.sheet in
