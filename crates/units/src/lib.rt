@@ -74,6 +74,13 @@ impl fmt::Display for Fixed {
     }
 }
 
+// What is left of a length after another, where both are there and the difference is an i64.
+pub fn less(a: Result<Fixed, Refusal>, b: Result<Fixed, Refusal>) -> Result<Fixed, Refusal>
+    ensures { length_outcome result ≡ less_of (length_outcome a) (length_outcome b) }
+{
+    a?.less(b?)
+}
+
 // The length of so many units, where they are an i64.
 fn within(units: Option<i64>) -> Result<Fixed, Refusal>
     ensures { MatchOption units (length_outcome result ≡ refused 10) (λ n. length_outcome result ≡ given n) }
