@@ -48,7 +48,8 @@ impl JobAreas {
     // Those that count.
     #[inline(always)]
     pub fn as_slice(&self) -> &[Range]
-        ensures { result.now ≡ ranges_in self.now }
+        ensures value { result.now ≡ ranges_in self.now }
+        ensures few { length result.now ≤ 8 }
     {
         &self.ranges[..self.count.min(8)]
     }
