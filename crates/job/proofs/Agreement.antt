@@ -8,6 +8,7 @@ use Rattle.planner_rules.specs.declared.planning.PrintRange.{PrintRange}
 use Rattle.planner_rules.specs.Plan.{Sheet, planned, counted, area_written}
 use Rattle.job_reader.specs.declared.lists.Job.{Job}
 use Rattle.std.specs.Prelude.{Ok}
+use Rattle.job_records.specs.Areas.{ranges_in}
 use Rattle.job_records.specs.Records.{records}
 use Rattle.job_questions.specs.Verdict.{questions, question6, in_order, items_of, verdict_lent}
 use Rattle.job_reader.specs.Reading.{Lists, even_lists as items_even, room_in, asked, job_of, read_job, JobRead}
@@ -52,7 +53,7 @@ module _ (s : List ℕ) (before after : Lists) (j : Job) (w : JobRead s (Ok j) b
   sheet = sheet_read j.settings (fronts j.items after)
 
   abbrev areas : List PrintRange
-  areas = areas_for j.settings.areas.items
+  areas = areas_for (ranges_in j.settings.areas)
 
   same_sheet : sheet ≡ job_sheet s
   same_sheet = sheet_is s j after job_is (read_to s before after (Ok j) w j refl job_is)

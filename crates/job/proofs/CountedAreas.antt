@@ -10,6 +10,7 @@ use lib.Dec.{leb}
 use lib.ListN.{length, get_or, take, drop, length-map}
 use lib.IntN.{ℤ}
 use lib.Seq.{take_at, drop-append-add}
+use borrow.Author.Tests.{leb-true}
 use Rattle.units.specs.Outcome.{Outcome, given}
 use Rattle.std.specs.Prelude.{Option}
 use Rattle.planner_rules.specs.declared.pages.AreaPlan.{AreaPlan}
@@ -19,7 +20,7 @@ use Rattle.planner_rules.specs.declared.planning.Settings.{Settings}
 use Rattle.planner_rules.specs.Questions.{ask}
 use Rattle.planner_rules.specs.Runs.{Run}
 use Rattle.planner_rules.specs.Lent.{room_in}
-use Rattle.planner_rules.specs.Areas.{no_range, no_plan, over_areas}
+use Rattle.planner_rules.specs.Areas.{no_range, one_to_eight, plans_in, no_plan, over_areas}
 use Rattle.planner_rules.specs.Scale.{Scale, middle, halve, fixed_scale, fit_scale}
 use Rattle.planner_rules.specs.Pages.{joined, or_empty, pages_in, row_runs, column_runs}
 use Rattle.planner_rules.specs.Plan.{AxisInput, Sheet, Sides, rows_in, columns_in, chosen_scale, cut_runs, page_runs}
@@ -31,9 +32,10 @@ use Rattle.planner_rules.proofs.Laws.{either, split}
 use Rattle.planner_rules.proofs.Halving.{by_test, halve_stop, halve_up, halve_down}
 use Rattle.planner_rules.proofs.PlanLaws.{questions_first, numbered_is, asks_number}
 use Rattle.planner_rules.proofs.RunCount.{area_never_eleven}
-use Rattle.planner_rules.proofs.Demand.{ask_yes, then_yes}
+use Rattle.planner_rules.proofs.Demand.{ask_yes, then_yes, all_yes}
 use Rattle.std.proofs.lemmas.List.{get_or-map}
-use Rattle.planner_rules.proofs.AreaLists.{over_map}
+use Rattle.planner_rules.proofs.AreaLists.{held_are, over_map}
+use Rattle.std.proofs.lemmas.Bool.{and_parts}
 
 -- ---- no permille is 0
 
@@ -93,6 +95,11 @@ module _ (c : Sides) (s : Sheet) (gs : List PrintRange) where
   plans_are : plans ≡ map came gs
   plans_are = map-map plan_in (area_layout c s) gs
 
+  -- a plan holds them all
+  pub plans_held : length gs ≤ 8 → plans_in (plan_of c s (layouts_of c s gs)).areas ≡ plans
+  unfolding plan_of
+  plans_held few = held_are no_plan plans (omega (arith, few, ap length plans_are, length-map gs came))
+
   -- the pages of a plan are those of its areas, and each area has one
   pub pages_are : (plan_of c s (layouts_of c s gs)).pages ≡ over_areas pages_in plans
   unfolding plan_of
@@ -142,23 +149,30 @@ counted_as s areas l e =
     let same : whole ≡ l = let e : given whole ≡ given l = y.1 in cc in
     record { sides = c; asked_is = i; is = same }
 
+-- they are no more than eight
+few_areas : (s : Sheet) (areas : List PrintRange) (c : Sides) → asked s areas ≡ given c → length areas ≤ 8
+few_areas s areas c e =
+    let y = all_yes s areas (λ (x : Sides). given x) c e in
+    let count = and_parts (leb 1 (length areas)) (leb (length areas) 8) y.four in
+    leb-true (length areas) 8 count.1
+
 -- ---- one area of it, written
 
 -- the runs of the area with the number k, from 0, where one plan has them
 abbrev pub rows_own : Layout → ℕ → List Run
 rows_own l k =
-    let areas = l.plan.areas.items in
+    let areas = plans_in l.plan.areas in
     take (get_or areas k no_plan).row_runs (drop (row_runs (take k areas)) l.rows)
 
 abbrev pub columns_own : Layout → ℕ → List Run
 columns_own l k =
-    let areas = l.plan.areas.items in
+    let areas = plans_in l.plan.areas in
     take (get_or areas k no_plan).column_runs (drop (column_runs (take k areas)) l.columns)
 
 -- the area is written at the permille that was found for it, and its runs are those
 pub record Writes (o : ℕ → Outcome AreaLayout) (l : Layout) (k : ℕ) : Type 0 where
   pub area : AreaLayout
-  pub is : o (get_or l.plan.areas.items k no_plan).permille ≡ given area
+  pub is : o (get_or (plans_in l.plan.areas) k no_plan).permille ≡ given area
   pub rows_are : area.rows ≡ rows_own l k
   pub columns_are : area.columns ≡ columns_own l k
 
@@ -172,21 +186,21 @@ module _ (s : Sheet) (areas : List PrintRange) (c : Sides) (asked_is : asked s a
   abbrev to : PrintRange → AreaPlan
   to = came c s gs
 
-  plan_areas : l.plan.areas.items ≡ map to gs
-  unfolding layout plan_of
-  plan_areas = plans_are c s gs
+  plan_areas : plans_in l.plan.areas ≡ map to gs
+  unfolding layout
+  plan_areas = plans_held c s gs (few_areas s areas c asked_is) ∙ plans_are c s gs
 
-  module _ (k : ℕ) (h : k < length l.plan.areas.items) where
+  module _ (k : ℕ) (h : k < length (plans_in l.plan.areas)) where
     abbrev g : PrintRange
     g = get_or gs k no_range
 
     abbrev p : ℕ
-    p = (get_or l.plan.areas.items k no_plan).permille
+    p = (get_or (plans_in l.plan.areas) k no_plan).permille
 
     inside : k < length gs
     inside = omega (arith, ap length plan_areas, length-map gs to)
 
-    at : get_or l.plan.areas.items k no_plan ≡ to g
+    at : get_or (plans_in l.plan.areas) k no_plan ≡ to g
     at = rw plan_areas (get_or-map to gs k no_range no_plan inside)
 
     permille_is : p ≡ (chosen_scale s.settings c (rows_in s g) (columns_in s g)).permille
@@ -230,7 +244,7 @@ module _ (s : Sheet) (areas : List PrintRange) (c : Sides) (asked_is : asked s a
           }
 
 -- an area of what was counted, in lists with room for as many runs as there are slots, and for one
-pub counted_writes : (s : Sheet) (areas : List PrintRange) (l : Layout) → counted s areas ≡ given l → (k : ℕ) → k < length l.plan.areas.items
+pub counted_writes : (s : Sheet) (areas : List PrintRange) (l : Layout) → counted s areas ≡ given l → (k : ℕ) → k < length (plans_in l.plan.areas)
     → (rows columns : List ℕ) → length s.row_indexes ≤ room_in rows → 1 ≤ room_in rows → length s.column_indexes ≤ room_in columns
     → 1 ≤ room_in columns → Writes (λ (q : ℕ). area_written s areas (k + 1) q rows columns) l k
 counted_writes s areas l e k h rows columns room one column_room column_one =
@@ -240,14 +254,14 @@ counted_writes s areas l e k h rows columns room one column_room column_one =
 -- the pages of a plan are those of its areas, and each area has one
 abbrev pub Adds : Plan → Type 0
 Adds p =
-    (p.pages ≡ over_areas pages_in p.areas.items)
-    × ((k : ℕ) → k < length p.areas.items → 1 ≤ pages_in (get_or p.areas.items k no_plan))
+    (p.pages ≡ over_areas pages_in (plans_in p.areas))
+    × ((k : ℕ) → k < length (plans_in p.areas) → 1 ≤ pages_in (get_or (plans_in p.areas) k no_plan))
 
 -- so of what was counted
 pub counted_pages : (s : Sheet) (areas : List PrintRange) (l : Layout) → counted s areas ≡ given l → Adds l.plan
-unfolding layout plan_of
+unfolding layout
 counted_pages s areas l e =
     let w = counted_as s areas l e in
-    let whole : Adds (layout w.sides s areas).plan =
-    (pages_are w.sides s areas, some_page w.sides s areas) in
+    let held = plans_held w.sides s areas (few_areas s areas w.sides w.asked_is) in
+    let whole : Adds (layout w.sides s areas).plan = rw held (pages_are w.sides s areas, some_page w.sides s areas) in
     subst (λ (x : Layout). Adds x.plan) w.is whole

@@ -15,6 +15,7 @@ use Rattle.job_reader.specs.declared.lists.Job.{Job}
 use Rattle.units.specs.declared.refusal.Refusal.{Refusal}
 use Rattle.units.specs.Refusals.{number_of, outcome}
 use Rattle.std.specs.Prelude.{Result, Ok, Err}
+use Rattle.job_records.specs.Areas.{ranges_in}
 use Rattle.job_records.specs.Records.{RW, CL, MR, BR, BC, records, marked, values, field}
 use Rattle.job_questions.specs.Verdict.{verdict_lent, question1}
 use Rattle.job_reader.specs.Reading.{Lists, lists, even_lists as items_even, room_in, read_job, job_of, JobRead}
@@ -120,8 +121,8 @@ pub sheet_is : (s : List ℕ) (j : Job) (after : Lists) → j ≡ job_of (record
     → sheet_read j.settings (fronts j.items after) ≡ job_sheet s
 sheet_is s j after m f = ap₂ sheet_read (ap (λ (x : Job). x.settings) m) (fronts_are s j.items after f)
 
-pub areas_are : (s : List ℕ) (j : Job) → j ≡ job_of (records s) → areas_for j.settings.areas.items ≡ job_areas s
-areas_are s j m = ap (λ (x : Job). areas_for x.settings.areas.items) m
+pub areas_are : (s : List ℕ) (j : Job) → j ≡ job_of (records s) → areas_for (ranges_in j.settings.areas) ≡ job_areas s
+areas_are s j m = ap (λ (x : Job). areas_for (ranges_in x.settings.areas)) m
 
 -- ---- the questions of a job that is read
 
@@ -193,7 +194,7 @@ module _ {s : List ℕ} {before after : Lists} (holds : Holds s before) {got : R
 
     -- an answer to what was read answers the job
     pub reading_told : {j : Job} → got ≡ Ok j → {set : Settings} {areas : List PrintRange} (l : SheetLists) → set ≡ settings_for j.settings
-        → areas ≡ areas_for j.settings.areas.items → lists_in l ≡ fronts j.items after
+        → areas ≡ areas_for (ranges_in j.settings.areas) → lists_in l ≡ fronts j.items after
         → ((items : Items) → told (given items) (sheet_with set j.settings.row_title j.settings.column_title l) areas r)
         → JobTold told s r
     reading_told {j} k l e f h t =

@@ -6,6 +6,7 @@ use Prim.Native.Nat.{ℕ, ◌+◌, ◌*◌, ◌≤◌, ◌<◌}
 use native.Mathlib.Omega.{arith}
 use lib.ListN.{length, length-map}
 use Rattle.units.specs.Outcome.{Outcome, given, refused, and_then}
+use Rattle.planner_rules.specs.Areas.{plans_in}
 use Rattle.planner_rules.specs.Lent.{room_in}
 use Rattle.planner_rules.specs.Plan.{Layout, planned, counted, area_written}
 use Rattle.planner_rules.proofs.NoTen.{among, plan_numbers_lem, count_numbers, area_numbers}
@@ -98,7 +99,7 @@ job_never_eleven s rows columns hr hc e =
 
 -- "Its run lists hold 5,000 entries an axis": area by area, that many are enough for all; a job that was counted is written, each area at the
 -- permille that was found for it, and refused with nothing
-pub job_writes : (s : List ℕ) (l : Layout) → count_job s ≡ given l → (k : ℕ) → k < length l.plan.areas.items
+pub job_writes : (s : List ℕ) (l : Layout) → count_job s ≡ given l → (k : ℕ) → k < length (plans_in l.plan.areas)
     → (rows columns : List ℕ) → 5000 ≤ room_in rows → 5000 ≤ room_in columns → Writes (λ (p : ℕ). write_job_area s (k + 1) p rows columns) l k
 unfolding count_job write_job_area
 job_writes s l e k h rows columns hr hc =

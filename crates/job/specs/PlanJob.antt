@@ -8,6 +8,7 @@ use Rattle.planner_rules.specs.Plan.{Sheet, Layout, AreaLayout, Planned, Counted
 use Rattle.planner_rules.specs.Demand.{CoversPairs, FewestPlan, LargestPlan}
 use Rattle.planner_rules.specs.declared.pages.Plan as pages
 use Rattle.planner_rules.specs.declared.planning.RunCounts.{RunCounts}
+use Rattle.job_records.specs.Areas.{ranges_in}
 use Rattle.job_records.specs.Records.{RW, CL, MR, BR, BC, records, values}
 use Rattle.job_questions.specs.Verdict.{verdict, question1, items_of}
 use Rattle.job_reader.specs.declared.lists.LentAxis.{LentAxis}
@@ -51,7 +52,7 @@ job_sheet s = sheet_read (settings_of (records s)) (job_lists s)
 
 -- "AR may stand up to eight times": the areas, in job order
 abbrev pub job_areas : List ℕ → List PrintRange
-job_areas s = areas_for (settings_of (records s)).areas.items
+job_areas s = areas_for (ranges_in (settings_of (records s)).areas)
 
 -- ---- the calls
 

@@ -4,6 +4,7 @@ use Rattle.std.specs.Prelude.{ℕ, ◌+◌, Bool, true, cond, ◌&&◌, ◌||◌
 use Rattle.std.specs.Int.Signed.{le_z}
 use Rattle.units.specs.Grid.{last_row, last_column, largest_size}
 use Rattle.units.specs.Outcome.{Outcome, given, refused}
+use Rattle.job_records.specs.Areas.{ranges_in}
 use Rattle.job_records.specs.Records.{UC, AR, RW, CL, MR, BR, BC, rank, step, ended, records, rest, marked, values}
 use Rattle.planner_rules.specs.Areas.{one_to_eight}
 use Rattle.planner_rules.specs.Union.{cells_hold}
@@ -148,7 +149,7 @@ question7 s = every in_grid (records s)
 
 -- "15 when the union exceeds UC, asked after 7"
 abbrev pub question15 : List ℕ → Bool
-question15 s = cells_hold (limit_from (marked UC (records s))) (areas_for (areas_from (marked AR (records s))).items)
+question15 s = cells_hold (limit_from (marked UC (records s))) (areas_for (ranges_in (areas_from (marked AR (records s)))))
 
 -- "8. Slot indexes strictly rising and inside the grid?"
 abbrev pub question8 : List ℕ → Bool

@@ -18,7 +18,7 @@ use job_walk::{SortedJob, next_record};
 use units::Refusal;
 
 // What a job holds besides its lists.
-#[derive(Clone, Drop)]
+#[derive(Clone, Copy)]
 pub struct Job {
     pub settings: JobSettings,
     pub items: Items,

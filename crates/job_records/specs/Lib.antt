@@ -2,3 +2,4 @@
 pub mod LittleEndian
 pub mod Marks
 pub mod Records
+pub mod Areas

@@ -1,11 +1,11 @@
 // The records of a job, one at a time: document 01, section "Jobs".
-ghost use Rattle.std.specs.Prelude.{◌≡◌, ◌≤◌, length};
+ghost use Rattle.std.specs.Prelude.{◌≡◌, ◌≤◌, ◌<◌, [], length};
 ghost use Rattle.job_records.specs.Records.{range_at, margins_at, row_at, column_at, kind_of, head_record, step_outcome, mark_before};
 ghost use Rattle.job_records.specs.Marks.{bytes_of};
+ghost use Rattle.job_records.specs.Areas.{ranges_in, held_ranges, pushed};
 
 use crate::little_endian::{signed, u16_at, u32_at, u64_at};
 use crate::marks::Mark;
-use arrayvec::ArrayVec;
 
 // A rectangle of cells.
 #[derive(Clone, Copy, Default)]
@@ -16,8 +16,44 @@ pub struct Range {
     pub last_column: u16,
 }
 
-// The print areas of a job, in job order. Eight have room, and no job has more.
-pub type JobAreas = ArrayVec<Range, 8>;
+// The print areas of a job, at most eight, in job order; what stands past their count is no area. Not one type with the `AreaPlans` of a plan: as there.
+#[derive(Clone, Copy)]
+pub struct JobAreas {
+    pub count: usize,
+    pub ranges: [Range; 8],
+}
+
+impl JobAreas {
+    // No area.
+    #[inline(always)]
+    pub fn new() -> Self
+        ensures { result ≡ held_ranges [] }
+    {
+        JobAreas {
+            count: 0,
+            ranges: [Range::default(); 8],
+        }
+    }
+
+    // One area more.
+    #[inline(always)]
+    pub fn push(&mut self, area: Range)
+        requires { self.old.count < 8 }
+        ensures { self.new ≡ pushed self.old area }
+    {
+        self.ranges[self.count] = area;
+        self.count += 1;
+    }
+
+    // Those that count.
+    #[inline(always)]
+    pub fn as_slice(&self) -> &[Range]
+        ensures value { result.now ≡ ranges_in self.now }
+        ensures few { length result.now ≤ 8 }
+    {
+        &self.ranges[..self.count.min(8)]
+    }
+}
 
 // A measured row or column. The size stands first: behind the index a range would end inside it, and a `Record` would be written in halves.
 #[derive(Clone, Copy)]

@@ -11,7 +11,7 @@ use Rattle.planner_rules.specs.declared.pages.AreaPlan.{AreaPlan}
 use Rattle.planner_rules.specs.declared.pages.Plan.{Plan}
 use Rattle.planner_rules.specs.declared.pages.Spot.{Spot}
 use Rattle.std.specs.Prelude.{Some, None}
-use Rattle.planner_rules.specs.Areas.{no_plan}
+use Rattle.planner_rules.specs.Areas.{plans_in, no_plan}
 use Rattle.planner_rules.specs.Pages.{pages_in, spot_from, spot_of}
 use Rattle.planner_rules.proofs.Laws.{split}
 use Rattle.job_report.specs.Blocks.{area_of}
@@ -45,18 +45,18 @@ spot_within (a ∷ areas) k before s e =
 pub record Placed (p : Plan) (n : ℕ) (s : Spot) : Type 0 where
   pub from_one : 1 ≤ n
   pub to_count : n ≤ p.pages
-  pub is : spot_from 0 (n - 1) p.areas.items ≡ Some s
-  pub within : Within p.areas.items 0 (n - 1) s
+  pub is : spot_from 0 (n - 1) (plans_in p.areas) ≡ Some s
+  pub within : Within (plans_in p.areas) 0 (n - 1) s
 
 pub placed : (p : Plan) (n : ℕ) (s : Spot) → spot_of p n ≡ Some s → Placed p n s
 unfolding spot_of
 placed p n s e = go (leb 1 n && leb n p.pages) refl e
   where
-    go : (b : Bool) → (leb 1 n && leb n p.pages) ≡ b → cond b (spot_from 0 (n - 1) p.areas.items) None ≡ Some s → Placed p n s
+    go : (b : Bool) → (leb 1 n && leb n p.pages) ≡ b → cond b (spot_from 0 (n - 1) (plans_in p.areas)) None ≡ Some s → Placed p n s
     go false i j = absurd cc
     go true i j =
         let asked = and_parts (leb 1 n) (leb n p.pages) i in
-        let w = spot_within p.areas.items 0 (n - 1) s j in
+        let w = spot_within (plans_in p.areas) 0 (n - 1) s j in
         record {
           from_one = leb-true 1 n asked.0;
           to_count = leb-true n p.pages asked.1;
@@ -69,5 +69,5 @@ pub own_page : (p : Plan) (n : ℕ) (s : Spot) → spot_of p n ≡ Some s → s.
 own_page p n s e = let none : s.area - 0 ≡ s.area = omega arith in rw none at (placed p n s e).within.own
 
 -- one of the plan's
-pub spot_within_plan : (p : Plan) (n : ℕ) (s : Spot) → spot_of p n ≡ Some s → s.area < length p.areas.items
+pub spot_within_plan : (p : Plan) (n : ℕ) (s : Spot) → spot_of p n ≡ Some s → s.area < length (plans_in p.areas)
 spot_within_plan p n s e = omega (arith, (placed p n s e).within.to_last)

@@ -15,7 +15,7 @@ use Rattle.planner_rules.specs.declared.pages.Plan.{Plan}
 use Rattle.planner_rules.specs.declared.pages.Spot.{Spot}
 use Rattle.std.specs.Prelude.{Option, Some, None, Ok}
 use Rattle.planner_rules.specs.Questions.{ask}
-use Rattle.planner_rules.specs.Areas.{no_plan, over_areas}
+use Rattle.planner_rules.specs.Areas.{plans_in, no_plan, over_areas}
 use Rattle.planner_rules.specs.Pages.{area_pages, pages_in, holds_area, spot_from, spot_of}
 use Rattle.io.specs.Counts.{IsPrefixLen}
 use Rattle.planner_rules.proofs.Laws.{split}
@@ -108,8 +108,8 @@ module _ (p : Plan) (rows columns : List ℕ) (n : ℕ) (b : Block) (old new : L
 
 -- a finished plan: its pages are those of its areas, and each area has one
 pub record Whole (p : Plan) : Type 0 where
-  pub pages_are : p.pages ≡ over_areas pages_in p.areas.items
-  pub each : (k : ℕ) → k < length p.areas.items → 1 ≤ pages_in (get_or p.areas.items k no_plan)
+  pub pages_are : p.pages ≡ over_areas pages_in (plans_in p.areas)
+  pub each : (k : ℕ) → k < length (plans_in p.areas) → 1 ≤ pages_in (get_or (plans_in p.areas) k no_plan)
 
 module _ (p : Plan) (rows columns : ℕ → List ℕ) where
   -- the line that stands before a page: that of its area, before the area's first page
@@ -235,16 +235,16 @@ module _ (p : Plan) (rows columns : ℕ → List ℕ) where
 
   -- what is printed up to a number past the last page
   printed_tail : Whole p → {from next : ℕ} {bytes : List ℕ} → Printed from next bytes → 1 ≤ from → p.pages < next
-      → bytes ≡ tail_lines 0 (from - 1) from p.areas.items
-  printed_tail w {from} none low past = sym (tail_none 0 (from - 1) from p.areas.items (omega (arith, w.pages_are)))
+      → bytes ≡ tail_lines 0 (from - 1) from (plans_in p.areas)
+  printed_tail w {from} none low past = sym (tail_none 0 (from - 1) from (plans_in p.areas) (omega (arith, w.pages_are)))
   printed_tail w {from} (another {bytes = bytes} s b old new found v more) low past =
       let got = block_got p (rows s.area) (columns s.area) from b old new s found v in
       let area : s.area - 0 ≡ s.area = omega arith in
       let some = got.some in
       let number : from + b.pages - 1 ≡ from - 1 + b.pages = omega arith in
-      let rest : bytes ≡ tail_lines 0 (from - 1 + b.pages) (from + b.pages) p.areas.items =
+      let rest : bytes ≡ tail_lines 0 (from - 1 + b.pages) (from + b.pages) (plans_in p.areas) =
       rw number at (printed_tail w more (omega arith) past) in
-      let step = rw area at (tail_step b.pages some 0 (from - 1) from p.areas.items s w.each got.at.is (rw area got.in_area)) in
+      let step = rw area at (tail_step b.pages some 0 (from - 1) from (plans_in p.areas) s w.each got.at.is (rw area got.in_area)) in
       rw (got.lines_are, rest) (sym step)
 
   -- "program `plan` counts all pages first, then plans area by area": the first lines, then what is printed of the pages from 1 on up to a number
@@ -253,4 +253,4 @@ module _ (p : Plan) (rows columns : ℕ → List ℕ) where
       → head_lines (given p) ++ bytes ≡ report_lines p rows columns
   unfolding report_lines
   printed_all w next bytes b past =
-      ap (λ (l : List ℕ). head_lines (given p) ++ l) (printed_tail w b (omega arith) past ∙ tail_first 0 1 p.areas.items w.each)
+      ap (λ (l : List ℕ). head_lines (given p) ++ l) (printed_tail w b (omega arith) past ∙ tail_first 0 1 (plans_in p.areas) w.each)

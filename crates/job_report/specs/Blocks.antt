@@ -9,7 +9,7 @@ use Rattle.planner_rules.specs.declared.pages.Plan.{Plan}
 use Rattle.planner_rules.specs.declared.pages.Spot.{Spot}
 use Rattle.planner_rules.specs.Slots.{written}
 use Rattle.planner_rules.specs.Questions.{ask}
-use Rattle.planner_rules.specs.Areas.{no_plan}
+use Rattle.planner_rules.specs.Areas.{plans_in, no_plan}
 use Rattle.planner_rules.specs.Pages.{area_pages, holds_area, spot_of}
 use Rattle.job_report.specs.declared.blocks.Block.{Block}
 use Rattle.job_report.specs.Lines.{page_line}
@@ -40,7 +40,7 @@ block_of n pages = record { pages = held 0 n pages; bytes = length (block_lines 
 
 -- the area that a page belongs to
 abbrev pub area_of : Plan → Spot → AreaPlan
-area_of p s = get_or p.areas.items s.area no_plan
+area_of p s = get_or (plans_in p.areas) s.area no_plan
 
 -- the pages of that area from the page with the number n on, none past the plan's count; the lists hold the area's runs at the front
 unfoldable pub pages_on : Plan → List ℕ → List ℕ → ℕ → Spot → List Page

@@ -8,6 +8,7 @@ use Rattle.planner_rules.specs.declared.pages.Page.{Page}
 use Rattle.planner_rules.specs.declared.pages.PageOrder.TheVariants.{DownThenOver}
 use Rattle.planner_rules.specs.declared.pages.AreaPlan.{AreaPlan}
 use Rattle.planner_rules.specs.declared.pages.Plan.{Plan}
+use Rattle.planner_rules.specs.Areas.{held_plans}
 use Rattle.job_report.specs.Lines.{digits_within, decimal, page_line, area_line, head_lines}
 
 -- ---- the digits of a large number
@@ -51,7 +52,7 @@ two_by_two = record { permille = 1000; unreachable = 0; row_runs = 2; column_run
 
 -- the plan "For Letter, range 0,0 to 2,1, three rows and two columns of 400,000"
 abbrev example : Plan
-example = record { areas = record { items = two_by_two ∷ [] }; pages = 4; order = DownThenOver; notes = no_notes }
+example = record { areas = held_plans (two_by_two ∷ []); pages = 4; order = DownThenOver; notes = no_notes }
 
 -- its second page, where the sizes are so many
 abbrev second_sized : ℕ → Page

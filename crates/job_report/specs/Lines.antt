@@ -5,7 +5,7 @@ use Rattle.planner_rules.specs.declared.pages.Notes.{Notes}
 use Rattle.planner_rules.specs.declared.pages.Page.{Page}
 use Rattle.planner_rules.specs.declared.pages.Plan.{Plan}
 use Rattle.planner_rules.specs.Slots.{written}
-use Rattle.planner_rules.specs.Areas.{no_plan}
+use Rattle.planner_rules.specs.Areas.{plans_in, no_plan}
 use Rattle.job_report.specs.declared.text.Text.{Text}
 
 -- ---- a line
@@ -35,7 +35,7 @@ line word ns = word ++ numbers ns ++ (10 ∷ [])
 
 -- "the first area's permille"
 abbrev pub first_permille : Plan → ℕ
-first_permille p = (get_or p.areas.items 0 no_plan).permille
+first_permille p = (get_or (plans_in p.areas) 0 no_plan).permille
 
 -- "Permille, pages", after `plan`: "The plan line shows the first area's permille", and the pages' total
 unfoldable pub plan_line : Plan → List ℕ

@@ -4,6 +4,7 @@ use Rattle.units.specs.Outcome.{given}
 use Rattle.planner_rules.specs.declared.pages.AreaPlan.{AreaPlan}
 use Rattle.planner_rules.specs.declared.pages.PageOrder.{PageOrder}
 use Rattle.planner_rules.specs.declared.pages.Plan.{Plan}
+use Rattle.planner_rules.specs.Areas.{plans_in}
 use Rattle.planner_rules.specs.Pages.{area_pages, pages_in}
 use Rattle.job_report.specs.Lines.{area_line, head_lines}
 use Rattle.job_report.specs.Blocks.{lines_from}
@@ -23,4 +24,4 @@ areas_lines order rows columns k n (a ∷ areas) =
 -- the first lines, then those of the areas
 unfoldable pub report_lines : Plan → (ℕ → List ℕ) → (ℕ → List ℕ) → List ℕ
 unfolding head_lines areas_lines
-report_lines p rows columns = head_lines (given p) ++ areas_lines p.order rows columns 0 1 p.areas.items
+report_lines p rows columns = head_lines (given p) ++ areas_lines p.order rows columns 0 1 (plans_in p.areas)

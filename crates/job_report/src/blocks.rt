@@ -1,6 +1,7 @@
 // Blocks of page lines (document 01, section "Jobs"), for a program that writes many at a time. A block has pages of one area. No `Display`,
 // as in `text.rt`.
 ghost use Rattle.std.specs.Prelude.{◌≡◌, ◌<◌, length};
+ghost use Rattle.planner_rules.specs.Areas.{plans_in};
 ghost use Rattle.job_report.specs.Blocks as section;
 
 use crate::text::Text;
@@ -21,10 +22,10 @@ pub struct Block {
 
 // The area that a page belongs to.
 fn area_at(plan: &Plan, spot: Spot) -> AreaPlan
-    requires { spot.area < length plan.now.areas.items }
+    requires { spot.area < length (plans_in plan.now.areas) }
     ensures { result ≡ section.area_of plan.now spot }
 {
-    plan.areas[spot.area]
+    plan.areas.as_slice()[spot.area]
 }
 
 // Puts the lines of an area's pages from one that is there on. No number goes past the plan's count.

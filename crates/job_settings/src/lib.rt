@@ -2,6 +2,7 @@
 #![tactic(auto)]
 
 ghost use Rattle.std.specs.Prelude.{◌≡◌};
+ghost use Rattle.job_records.specs.Areas.{ranges_in};
 ghost use Rattle.job_settings.specs.Meaning as section;
 
 use arrayvec::ArrayVec;
@@ -11,7 +12,7 @@ use planner_rules::{PageOrder, PrintRange, Settings, Title};
 
 // The settings of a job, in the order of their records. `fit` and `order` are bytes, as in their records: what each byte means, whatever it is, `fit_on`
 // and `over_then_down` say.
-#[derive(Clone, Drop)]
+#[derive(Clone, Copy)]
 pub struct JobSettings {
     pub paper: Option<u16>,
     pub landscape: bool,
@@ -111,10 +112,10 @@ pub fn range_for(cells: Range) -> PrintRange
 
 // The areas as the planner takes them. No `From`, as for a range.
 pub fn areas_for(read: &JobAreas) -> ArrayVec<PrintRange, 8>
-    ensures { result.items ≡ section.areas_for read.now.items }
+    ensures { result.items ≡ section.areas_for (ranges_in read.now) }
 {
     let mut areas = ArrayVec::new();
-    for cells in read.iter() {
+    for cells in read.as_slice() {
         areas.push(range_for(*cells));
     }
     areas

@@ -2,16 +2,15 @@
 use mathlib.Core.Path.{◌≡◌, refl, sym, ap, ◌∙◌}
 use mathlib.Core.Bool.{Bool, true, false, not, cond}
 use mathlib.Core.List.{List, [], ◌∷◌, ◌++◌, map}
-use Prim.Native.Nat.{ℕ, ◌-◌, ◌≤◌, ◌<◌}
+use Prim.Native.Nat.{ℕ, ◌+◌, ◌-◌, ◌≤◌, ◌<◌}
 use native.Mathlib.Decide.{dec_le}
 use native.Mathlib.Nat.{lt_of_not-le}
 use native.Mathlib.Omega.{arith}
 use lib.Dec.{ltb, eqb}
-use lib.ListN.{length, take, drop, length-map}
+use lib.ListN.{length, take, drop, length-map, length-append}
 use lib.Seq.{take_all}
 use Rattle.std.proofs.lemmas.List.{append-nil, take-append-le, take_rest}
 use borrow.Author.Tests.{eq-eqb, ne_eqb, eqb-true, lt-ltb, le-ltb}
-use Rattle.arrayvec.specs.ArrayVec.{ArrayVec}
 use Rattle.job_records.specs.declared.records.Range.{Range}
 use Rattle.job_records.specs.declared.records.Record.{Record}
 use Rattle.job_records.specs.declared.records.Record.TheVariants.{Area}
@@ -19,6 +18,9 @@ use Rattle.job_records.specs.declared.records.Head.{Head}
 use Rattle.std.specs.Prelude.{Option, Some, None}
 use Rattle.job_records.proofs.MarkLaws.{some_place}
 use Rattle.job_records.specs.Records.{AR, mark_before, step, rank, is_end, goes_on, records, marked}
+use Rattle.job_records.specs.Areas.{ranges_in, nowhere, held_ranges, pushed}
+use Rattle.job_records.specs.declared.records.JobAreas.{JobAreas}
+use Rattle.planner_rules.proofs.AreaLists.{held_are, held_more}
 use Rattle.job_walk.specs.Areas.{range_from, areas_from}
 use Rattle.job_walk.specs.declared.sorted.SortedJob.{SortedJob}
 use Rattle.job_records.specs.Marks.{place}
@@ -193,6 +195,23 @@ pub area_on : (r : Record) (rs : List Record) → rank r ≤ AR → ((a : Range)
 unfolding in_place
 area_on r rs l q = rw (le-ltb AR (rank r) l, ne_eqb (rank r) AR (λ i. only_area r i q))
 
+-- one more than were collected
+pub one_more : (a b : JobAreas) (x : Range) → a.count < 8 → a ≡ held_ranges (ranges_in a) → b ≡ pushed a x
+    → (b ≡ held_ranges (ranges_in b)) × (ranges_in b ≡ ranges_in a ++ x ∷ [])
+one_more a b x h e p =
+    let xs = ranges_in a in
+    let long : length xs < 8 = omega (arith, ap (λ (z : JobAreas). z.count) e) in
+    let count : length xs + 1 ≡ length (xs ++ x ∷ []) = omega (arith, length-append xs (x ∷ [])) in
+    let ranges = held_more nowhere xs x long in
+    let next : pushed (held_ranges xs) x ≡ held_ranges (xs ++ x ∷ []) = λ i. record { count = count i; ranges = ranges i } in
+    let more : b ≡ held_ranges (xs ++ x ∷ []) = p ∙ ap (λ (z : JobAreas). pushed z x) e ∙ next in
+    let is : ranges_in b ≡ xs ++ x ∷ [] = ap ranges_in more ∙ held_are nowhere (xs ++ x ∷ []) (omega (arith, count)) in
+    (more ∙ ap held_ranges (sym is), is)
+
+-- so many were collected
+pub collected_count : (a : JobAreas) → a ≡ held_ranges (ranges_in a) → length (ranges_in a) ≡ a.count
+collected_count a e = sym (ap (λ (z : JobAreas). z.count) e)
+
 -- those that were collected are the first eight, where no more are left or they are eight
 pub collected : (xs left all : List Range) → xs ++ left ≡ all → length xs ≤ 8 → left ≡ [] → xs ≡ take 8 all
 collected xs left all e h n =
@@ -207,10 +226,10 @@ module _ (job : SortedJob) (few : length (marked AR (records job.bytes.now)) ≤
   abbrev all : List Record
   all = marked AR (records job.bytes.now)
 
-  first_eight : take 8 (areas_from (in_place AR (records job.bytes.now))).items ≡ (areas_from all).items
+  first_eight : take 8 (map range_from (in_place AR (records job.bytes.now))) ≡ map range_from all
   first_eight =
       ap (λ (xs : List Record). take 8 (map range_from xs)) (marked_in_place AR job)
       ∙ take_all 8 (map range_from all) (omega (arith, length-map all range_from))
 
-  pub all_areas : (a : ArrayVec Range) → a.items ≡ take 8 (areas_from (in_place AR (records job.bytes.now))).items → a ≡ areas_from all
-  all_areas a e = λ i. record { items = (e ∙ first_eight) i }
+  pub all_areas : (a : JobAreas) → a ≡ held_ranges (take 8 (map range_from (in_place AR (records job.bytes.now)))) → a ≡ areas_from all
+  all_areas a e = e ∙ ap held_ranges first_eight

@@ -1,7 +1,8 @@
 -- The areas of a job, and the limits of its pages and of their cells, from the records with their marks (document 02, T-02). Assumes nothing.
 use Rattle.std.specs.Prelude.{List, [], ◌∷◌, map, ℕ, Bool, cond, ◌||◌, eqb, Option, Some, None}
-use Rattle.arrayvec.specs.ArrayVec.{ArrayVec}
 use Rattle.job_records.specs.Records.{LP, UC, field}
+use Rattle.job_records.specs.Areas.{held_ranges}
+use Rattle.job_records.specs.declared.records.JobAreas.{JobAreas}
 use Rattle.job_records.specs.declared.records.Range.{Range}
 use Rattle.job_records.specs.declared.records.Record.{Record}
 
@@ -22,6 +23,6 @@ limit_in k rs = cond (is_limit k) (limit_from rs) None
 abbrev pub range_from : Record → Range
 range_from r = record { first_row = field 0 r; first_column = field 1 r; last_row = field 2 r; last_column = field 3 r }
 
--- "in job order"
-abbrev pub areas_from : List Record → ArrayVec Range
-areas_from rs = record { items = map range_from rs }
+-- "AR may stand up to eight times"; "in job order"
+abbrev pub areas_from : List Record → JobAreas
+areas_from rs = held_ranges (map range_from rs)

@@ -1,10 +1,11 @@
 // The records of a job one by one, those that are looked for by their mark, the limits and the areas: document 01, section "Jobs".
 #![tactic(auto)]
 
-ghost use Rattle.std.specs.Prelude.{◌≡◌, take};
+ghost use Rattle.std.specs.Prelude.{◌≡◌, map, take};
 ghost use Rattle.std.specs.Iterator.{YieldsFirst, item_count};
 ghost use Rattle.job_records.specs.Marks.{place};
 ghost use Rattle.job_records.specs.Records.{step, records, AR};
+ghost use Rattle.job_records.specs.Areas.{held_ranges};
 ghost use Rattle.job_walk.specs.Walk as walk;
 ghost use Rattle.job_walk.specs.Areas as section;
 
@@ -69,11 +70,11 @@ pub fn limit_of(bytes: &[u8], wanted: Mark) -> Option<u64>
 
 // The areas, in job order: at most eight, for no job has more.
 pub fn areas_of(bytes: &[u8]) -> JobAreas
-    ensures { result.items ≡ take 8 (section.areas_from (walk.in_place AR (records bytes.now))).items }
+    ensures { result ≡ held_ranges (take 8 (map section.range_from (walk.in_place AR (records bytes.now)))) }
 {
     let mut areas = JobAreas::new();
     for found in (Records { rest: bytes }) {
-        if found.mark() > Mark::Area || areas.is_full() {
+        if found.mark() > Mark::Area || areas.count == 8 {
             break;
         }
         if let Record::Area(cells) = found {

@@ -5,6 +5,7 @@ use mathlib.Core.List.{List, ◌++◌}
 use Prim.Native.Nat.{ℕ, ◌+◌, ◌≤◌, ◌<◌}
 use lib.ListN.{length}
 use Rattle.units.specs.Outcome.{given}
+use Rattle.planner_rules.specs.Areas.{plans_in}
 use Rattle.planner_rules.specs.Lent.{room_in}
 use Rattle.planner_rules.specs.Plan.{Layout}
 use Rattle.job.specs.PlanJob.{count_job, write_job_area}
@@ -25,6 +26,6 @@ module _ (s : List ℕ) (l : Layout) (counted : count_job s ≡ given l) where
   prints rows columns next bytes b past = printed_all l.plan rows columns whole next bytes b past
 
   -- lists of 5,000 runs take each area in turn
-  pub takes : (k : ℕ) → k < length l.plan.areas.items → (rows columns : List ℕ) → 5000 ≤ room_in rows → 5000 ≤ room_in columns
+  pub takes : (k : ℕ) → k < length (plans_in l.plan.areas) → (rows columns : List ℕ) → 5000 ≤ room_in rows → 5000 ≤ room_in columns
       → Writes (λ (p : ℕ). write_job_area s (k + 1) p rows columns) l k
   takes k h rows columns hr hc = job_writes s l counted k h rows columns hr hc

@@ -1,6 +1,7 @@
 // The plan of a job's bytes, as it is printed. `print_head` and `print_area` stand in `job_cases` too: no library of the repository writes to a
 // stream, and what has the bodies, `head_lines` and `area_line`, is one already.
 ghost use Rattle.std.specs.Prelude.{◌+◌, ◌≡◌, ◌≤◌, ◌<◌, IfOk, length};
+ghost use Rattle.planner_rules.specs.Areas.{plans_in};
 
 use crate::failure::Failure;
 use job::{count_job, write_job_area};
@@ -48,17 +49,17 @@ struct Counted<'a> {
 
 impl Counted<'_> {
     fn spot(&self, number: u64) -> Result<Spot, Failure>
-        ensures { IfOk result (λ spot. spot.area < length self.now.plan.areas.items) }
+        ensures { IfOk result (λ spot. spot.area < length (plans_in self.now.plan.areas)) }
     {
         page_spot(&self.plan, number).ok_or(Failure::Refused)
     }
 
     // Writes the line of an area, by its number from 0, and its runs to the lists.
     fn begin_area<W: Write>(&mut self, out: &mut W, at: usize) -> Result<(), Failure>
-        requires { at < length self.old.plan.areas.items }
+        requires { at < length (plans_in self.old.plan.areas) }
         ensures { self.new.plan ≡ self.old.plan }
     {
-        let permille = self.plan.areas[at].permille;
+        let permille = self.plan.areas.as_slice()[at].permille;
         let number = at as u64 + 1;
         print_area(out, number, permille)?;
         write_job_area(

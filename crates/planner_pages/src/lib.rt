@@ -6,7 +6,7 @@ mod areas;
 ghost use Rattle.std.specs.Prelude.{◌≡◌, suc, ◌+◌, ◌≤◌, ◌<◌, length};
 ghost use Rattle.units.specs.Outcome.{given};
 ghost use Rattle.units.specs.Refusals.{outcome};
-ghost use Rattle.planner_rules.specs.Areas.{over_areas};
+ghost use Rattle.planner_rules.specs.Areas.{plans_in, over_areas};
 ghost use Rattle.planner_rules.specs.Lent.{room_in};
 ghost use Rattle.planner_rules.specs.Pages.{numbered, areas_pages};
 ghost use Rattle.planner_rules.specs.Pages as section;
@@ -95,10 +95,10 @@ fn holds_runs(plan: &Plan, runs: RunLists<'_>) -> bool
 // The page at a spot, over the lists of runs that were lent to the plan. That the lists hold all runs is asked here and in `page_after` alone: a struct
 // of a plan and its runs, with that as its fact, would be made for these two, and the public calls, which ask 11, would still take both.
 fn spot_page(plan: &Plan, spot: Spot, runs: RunLists<'_>) -> Page
-    requires rows_fit { section.row_runs plan.now.areas.items ≤ room_in runs.rows.now }
-    requires columns_fit { section.column_runs plan.now.areas.items ≤ room_in runs.columns.now }
-    requires stands { section.Stands plan.now.areas.items spot }
-    ensures { result ≡ section.spot_page plan.now.order plan.now.areas.items runs.entry.rows.now runs.entry.columns.now spot }
+    requires rows_fit { section.row_runs (plans_in plan.now.areas) ≤ room_in runs.rows.now }
+    requires columns_fit { section.column_runs (plans_in plan.now.areas) ≤ room_in runs.columns.now }
+    requires stands { section.Stands (plans_in plan.now.areas) spot }
+    ensures { result ≡ section.spot_page plan.now.order (plans_in plan.now.areas) runs.entry.rows.now runs.entry.columns.now spot }
 {
     let areas = plan.areas.as_slice();
     let area = areas[spot.area];
@@ -153,10 +153,10 @@ pub fn page_numbered(plan: &Plan, number: u64, runs: RunLists<'_>) -> Result<Pag
 
 // The page of a plan that has so many pages before it.
 fn page_after(before: usize, plan: &Plan, runs: RunLists<'_>) -> Page
-    requires rows_fit { section.row_runs plan.now.areas.items ≤ room_in runs.rows.now }
-    requires columns_fit { section.column_runs plan.now.areas.items ≤ room_in runs.columns.now }
-    requires before_bound { before < over_areas section.pages_in plan.now.areas.items }
-    ensures { numbered (areas_pages plan.now.order plan.now.areas.items runs.entry.rows.now runs.entry.columns.now) (suc before) ≡ given result }
+    requires rows_fit { section.row_runs (plans_in plan.now.areas) ≤ room_in runs.rows.now }
+    requires columns_fit { section.column_runs (plans_in plan.now.areas) ≤ room_in runs.columns.now }
+    requires before_bound { before < over_areas section.pages_in (plans_in plan.now.areas) }
+    ensures { numbered (areas_pages plan.now.order (plans_in plan.now.areas) runs.entry.rows.now runs.entry.columns.now) (suc before) ≡ given result }
 {
     let spot = walk(plan.areas.as_slice(), before).unwrap();
     spot_page(plan, spot, runs)

@@ -2,10 +2,10 @@
 use mathlib.Core.Path.{◌≡◌, refl, sym, ap, ◌∙◌, subst}
 use mathlib.Core.Bool.{Bool, true}
 use mathlib.Core.List.{List, [], ◌∷◌, ◌++◌, map, append_assoc}
-use Prim.Native.Nat.{ℕ, zero, suc, ◌+◌, ◌-◌, ◌*◌, ◌≤◌}
+use Prim.Native.Nat.{ℕ, zero, suc, ◌+◌, ◌-◌, ◌*◌, ◌≤◌, ◌<◌}
 use native.Mathlib.Omega.{arith}
-use lib.ListN.{length, take, drop, length-append}
-use lib.Seq.{drop-drop, drop_at}
+use lib.ListN.{length, take, drop, set, replicate, length-append}
+use lib.Seq.{drop-drop, drop_at, take-append_seam}
 use Rattle.units.specs.Outcome.{given}
 use Rattle.planner_rules.specs.declared.planning.PrintRange.{PrintRange}
 use Rattle.planner_rules.specs.Runs.{Run}
@@ -13,8 +13,27 @@ use Rattle.planner_rules.specs.Areas.{over_areas, every_area, no_range}
 use Rattle.planner_rules.specs.Lent.{flat, run_numbers}
 use Rattle.planner_rules.specs.Pages.{numbered, joined, after_runs}
 use Rattle.planner_rules.proofs.Lent.{flat_append, flat-length}
+use Rattle.std.proofs.lemmas.List.{take-take, take-replicate}
 use Rattle.std.proofs.lemmas.List.Recursion.{and_at}
 use Rattle.planner_rules.proofs.PageLaws.{numbered_at}
+
+-- ---- a list of eight at most, held in eight places
+
+module _ {A : Type 0} (d : A) where
+  -- what counts is what was put there
+  pub held_are : (xs : List A) → length xs ≤ 8 → take (length xs) (take 8 (xs ++ replicate 8 d)) ≡ xs
+  held_are xs h = take-take (length xs) 8 (xs ++ replicate 8 d) h ∙ take-append_seam xs (replicate 8 d)
+
+  -- one more, at the first place that is free
+  put : (n m : ℕ) (xs : List A) (x : A) → length xs < n → n ≤ m
+      → set (take n (xs ++ replicate m d)) (length xs) x ≡ take n ((xs ++ x ∷ []) ++ replicate m d)
+  put zero m xs x h l = absurd (omega arith)
+  put (suc n) m [] x h l = rw (take-replicate (suc n) m d l, take-replicate n m d (omega arith)) refl
+  put (suc n) m (y ∷ ys) x h l = ap (λ (zs : List A). y ∷ zs) (put n m ys x (omega arith) (omega arith))
+
+  pub held_more : (xs : List A) (x : A) → length xs < 8
+      → set (take 8 (xs ++ replicate 8 d)) (length xs) x ≡ take 8 ((xs ++ x ∷ []) ++ replicate 8 d)
+  held_more xs x h = put 8 8 xs x h (omega arith)
 
 -- ---- one of a list by its number
 

@@ -184,8 +184,8 @@ module _ (before : ℕ) (areas : List AreaPlan) where
   walk_past n q = subst (Walked 0 before areas) q (walked 0 before areas)
 
   -- where there is no page all pages were taken off
-  pub walk_all : (n : ℕ) → walk_from 0 before areas ≡ Err n → over_areas pages_in areas ≤ before
-  walk_all n q = omega (arith, (walk_past n q).passed)
+  pub walk_all : (n : ℕ) → walk_from 0 before areas ≡ Err n → over_areas pages_in areas + n ≡ before
+  walk_all n q = (walk_past n q).passed
 
   -- where there is one there are more pages than so many
   pub walk_more : (s : Spot) → walk_from 0 before areas ≡ Ok s → before < over_areas pages_in areas

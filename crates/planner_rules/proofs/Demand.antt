@@ -22,7 +22,7 @@ use Rattle.planner_rules.specs.declared.titles.Axis.TheVariants.{Rows, Columns}
 use Rattle.planner_rules.specs.Questions.{ask, all_within, rising_within}
 use Rattle.planner_rules.specs.Titles.{limit_of}
 use Rattle.planner_rules.specs.Runs.{Run}
-use Rattle.planner_rules.specs.Areas.{one_to_eight, every_area, inside_grid, over_areas}
+use Rattle.planner_rules.specs.Areas.{one_to_eight, every_area, inside_grid, plans_in, no_plan, over_areas}
 use Rattle.planner_rules.specs.Union.{cells_hold}
 use Rattle.planner_rules.specs.Lent.{flat, room_in, number_at, runs_in, firsts, lasts, sizes}
 use Rattle.planner_rules.specs.Pages.{run_at, page_at, pages_in, after_runs, area_pages, areas_pages, pages_of, row_runs}
@@ -41,7 +41,7 @@ use Rattle.planner_rules.proofs.QuestionLaws.{rising_of}
 use Rattle.planner_rules.proofs.Lent.{stands, runs_length, field_at, flat-length}
 use Rattle.planner_rules.proofs.PageLaws.{vertical_of, horizontal_of, before_of, numbered_take, page_after}
 use Rattle.planner_rules.proofs.PageLaws.{vertical_below, horizontal_below, before_of_place, before_below, vertical_is, horizontal_is}
-use Rattle.planner_rules.proofs.AreaLists.{numbered-map, every_one, before_and_it, over_map}
+use Rattle.planner_rules.proofs.AreaLists.{held_are, numbered-map, every_one, before_and_it, over_map}
 use Rattle.planner_rules.proofs.AreaLists.{over_same, how_many, together_length, from_area}
 use Rattle.planner_rules.proofs.AreaPages.{own_page}
 use Rattle.planner_rules.proofs.PlanLaws.{formed_of}
@@ -204,11 +204,13 @@ module _ (s : Sheet) (areas : List PrintRange) (plan : Plan) (rows columns : Lis
   abbrev came : PrintRange → AreaPlan
   came g = plan_in (area_layout c s g)
 
-  plans_are : plan.areas.items ≡ map plan_in (layouts_of c s gs)
+  plans_are : (plans_in plan.areas) ≡ map plan_in (layouts_of c s gs)
   unfolding plan_of
-  plans_are = ap (λ (x : Plan). x.areas.items) (sym d.plan_is)
+  plans_are =
+      ap (λ (x : Plan). plans_in x.areas) (sym d.plan_is)
+      ∙ held_are no_plan (map plan_in (layouts_of c s gs)) (omega (arith, d.few, length-map (layouts_of c s gs) plan_in, length-map gs (area_layout c s)))
 
-  pub pages_are : plan.pages ≡ over_areas pages_in plan.areas.items
+  pub pages_are : plan.pages ≡ over_areas pages_in (plans_in plan.areas)
   unfolding plan_of
   pages_are =
       ap (λ (x : Plan). x.pages) (sym d.plan_is) ∙ sym (over_map pages_in plan_in (layouts_of c s gs))
@@ -246,14 +248,14 @@ module _ (s : Sheet) (areas : List PrintRange) (plan : Plan) (rows columns : Lis
       let column_sum = ap column_runs plans_are ∙ columns_of gs ∙ sym (together_length (λ (l : AreaLayout). l.columns) (layouts_of c s gs)) in
       let rs = row_runs_of (layouts_of c s gs) in
       let cs = column_runs_of (layouts_of c s gs) in
-      let in_rows : row_runs plan.areas.items ≤ room_in rows =
+      let in_rows : row_runs (plans_in plan.areas) ≤ room_in rows =
       omega (arith, row_sum, ap length d.rows_are, length-append (flat rs) d.row_tail, flat-length rs) in
-      let in_columns : column_runs plan.areas.items ≤ room_in columns =
+      let in_columns : column_runs (plans_in plan.areas) ≤ room_in columns =
       omega (arith, column_sum, ap length d.columns_are, length-append (flat cs) d.column_tail, flat-length cs) in
       rw (le-leb _ _ in_rows, le-leb _ _ in_columns)
 
   module _ (n : ℕ) (g : PrintRange) (e : IsArea areas n g) where
-    pub came_to : numbered plan.areas.items n ≡ given (came g)
+    pub came_to : numbered (plans_in plan.areas) n ≡ given (came g)
     came_to =
         ap (λ (l : List AreaPlan). numbered l n) plans_are
         ∙ numbered-map plan_in (layouts_of c s gs) n (area_layout c s g) (numbered-map (area_layout c s) gs n g e)
@@ -293,8 +295,8 @@ module _ (s : Sheet) (areas : List PrintRange) (plan : Plan) (rows columns : Lis
 -- ---- covered
 
 module _ (plan : Plan) (rows columns : List ℕ) (held : holds_runs plan rows columns ≡ true)
-    (pages_are : plan.pages ≡ over_areas pages_in plan.areas.items) (n : ℕ) (a : AreaPlan)
-    (is_it : numbered plan.areas.items n ≡ given a) where
+    (pages_are : plan.pages ≡ over_areas pages_in (plans_in plan.areas)) (n : ℕ) (a : AreaPlan)
+    (is_it : numbered (plans_in plan.areas) n ≡ given a) where
   abbrev down : ℕ
   down = a.row_runs
 
@@ -318,14 +320,14 @@ module _ (plan : Plan) (rows columns : List ℕ) (held : holds_runs plan rows co
   after before = at (vertical_of plan.order down over before) (horizontal_of plan.order down over before)
 
   to_last : start + down * over ≤ plan.pages
-  to_last = omega (arith, pages_are, before_and_it pages_in plan.areas.items n a is_it)
+  to_last = omega (arith, pages_are, before_and_it pages_in (plans_in plan.areas) n a is_it)
 
   page_is : (before : ℕ) → before < down * over → page_numbered plan rows columns (start + suc before) ≡ given (after before)
   unfolding page_numbered pages_of area_pages
   page_is before h =
       rw held
-      (numbered_take plan.pages (areas_pages plan.order plan.areas.items rows columns) (start + suc before) (omega (arith, to_last))
-      ∙ own_page plan.order plan.areas.items rows columns n a is_it (suc before) (omega arith) (omega arith)
+      (numbered_take plan.pages (areas_pages plan.order (plans_in plan.areas) rows columns) (start + suc before) (omega (arith, to_last))
+      ∙ own_page plan.order (plans_in plan.areas) rows columns n a is_it (suc before) (omega arith) (omega arith)
       ∙ page_after down over at plan.order before h)
 
   -- a page of the area's own is one of these
@@ -512,7 +514,7 @@ module _ (s : Sheet) (content : (c : Sides) × (content_sides s.settings ≡ giv
         let area : AreaPlan = plan_in (area_layout c s g) in
         record {
           area = area;
-          is_it = subst (λ (x : Sides). numbered plan.areas.items n ≡ given (plan_in (area_layout x s g))) same
+          is_it = subst (λ (x : Sides). numbered (plans_in plan.areas) n ≡ given (plan_in (area_layout x s g))) same
               (came_to s areas plan rows columns d n g x);
           so = area_chosen c s g (EachReaches (rows_in s g) (columns_in s g) height width)
               (scale_is s.settings c (rows_in s g) (columns_in s g) height width fit

@@ -11,7 +11,7 @@ use Rattle.units.specs.Outcome.{Outcome, given, refused}
 use Rattle.planner_rules.specs.declared.pages.Page.{Page}
 use Rattle.planner_rules.specs.declared.pages.Plan.{Plan}
 use Rattle.planner_rules.specs.declared.planning.PrintRange.{PrintRange}
-use Rattle.planner_rules.specs.Areas.{over_areas}
+use Rattle.planner_rules.specs.Areas.{plans_in, over_areas}
 use Rattle.planner_rules.specs.Pages.{pages_in, areas_pages, pages_of, holds_runs, numbered, page_numbered, list_pages, pages_lent}
 use Rattle.planner_rules.specs.Plan.{Sheet, Planned, planned}
 use Rattle.planner_rules.specs.Demand.{Finished}
@@ -49,15 +49,15 @@ numbered_some (x ∷ xs) (suc zero) low high = (x, refl)
 numbered_some (x ∷ xs) (suc (suc n)) low high = numbered_some xs (suc n) (omega arith) (omega arith)
 
 module _ (plan : Plan) (rows columns : List ℕ) (held : holds_runs plan rows columns ≡ true)
-    (pages_are : plan.pages ≡ over_areas pages_in plan.areas.items) where
+    (pages_are : plan.pages ≡ over_areas pages_in (plans_in plan.areas)) where
   abbrev all : List Page
   all = pages_of plan rows columns
 
   many : length all ≡ plan.pages
   unfolding pages_of
   many =
-      let joint : List Page = areas_pages plan.order plan.areas.items rows columns in
-      omega (arith, pages_are, length-take plan.pages joint, areas_length plan.order plan.areas.items rows columns)
+      let joint : List Page = areas_pages plan.order (plans_in plan.areas) rows columns in
+      omega (arith, pages_are, length-take plan.pages joint, areas_length plan.order (plans_in plan.areas) rows columns)
 
   asked : (n : ℕ) → page_numbered plan rows columns n ≡ numbered all n
   unfolding page_numbered

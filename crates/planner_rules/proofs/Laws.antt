@@ -8,7 +8,7 @@ use native.Mathlib.Numerals.{add-one}
 use native.Mathlib.Omega.{arith}
 use lib.ListN.{length, get_or, take, drop, length-take, length-drop, drop_of_length-le, get_or-eq_default}
 use lib.Seq.{take-add, drop-cons, drop-drop, drop-length, get_or-drop, get_or-take, length-take-le}
-use borrow.Author.Tests.{le-leb, lt-leb, ltb-true, ltb-false}
+use borrow.Author.Tests.{le-leb, lt-leb, lt-ltb, le-ltb}
 use mathlib.Core.Bool.{Bool, true, false, cond, not, ◌&&◌, and-true, and_assoc, and_comm}
 use mathlib.Core.Logic.{◌⊎◌, inl, inr}
 use lib.Dec.{leb, ltb, lit<}
@@ -17,7 +17,6 @@ use Rattle.planner_rules.specs.Titles.{no_merge}
 use Rattle.planner_rules.specs.Runs.{more, natural, Run, runs_by}
 use Rattle.std.proofs.lemmas.List.{take_rest}
 use Rattle.std.proofs.lemmas.List.Edits.{length-between}
-use Rattle.std.proofs.lemmas.Bool.{cond_both}
 
 -- what holds of both is true of the one picked
 pub either {ℓ} : {X : Type ℓ} (P : X → Type 0) (b : Bool) {x y : X} → P x → P y → P (cond b x y)
@@ -239,8 +238,8 @@ small-take n l h s = record { few = simp length-take-le (omega (arith, s.few)); 
         ]
 
 -- the same with what the test says
-pub either_lt : {X : Type 0} (P : X → Type 0) (a b : ℕ) {x y : X} → (a < b → P x) → (b ≤ a → P y) → P (cond (ltb a b) x y)
-either_lt P a b {x} {y} f g = cond_both (ltb a b) x y P (λ e. f (ltb-true a b e)) (λ e. g (ltb-false a b e))
+pub either_lt {ℓ} : {X : Type ℓ} (P : X → Type 0) (a b : ℕ) {x y : X} → (a < b → P x) → (b ≤ a → P y) → P (cond (ltb a b) x y)
+either_lt P a b {x} {y} f g = split b a (λ h. rw (le-ltb a b h) (g h)) (λ h. rw (lt-ltb a b h) (f h))
 
 -- ---- the part `&l[a..e]`
 

@@ -10,26 +10,26 @@ use lib.Dec.{leb}
 use lib.ListN.{length, take, drop, set, length-take}
 use lib.Seq.{take-length}
 use borrow.Author.Tests.{le-leb, lt-leb, leb-true}
-use Rattle.std.specs.Prelude.{Ok, Err}
+use Rattle.std.specs.Prelude.{Result, Ok, Err}
 use Rattle.units.specs.Outcome.{Outcome, given, refused}
 use Rattle.planner_rules.specs.declared.pages.AreaPlan.{AreaPlan}
 use Rattle.planner_rules.specs.declared.pages.Page.{Page}
 use Rattle.planner_rules.specs.declared.pages.Plan.{Plan}
 use Rattle.planner_rules.specs.declared.pages.Spot.{Spot}
 use Rattle.planner_rules.specs.Questions.{ask}
-use Rattle.planner_rules.specs.Areas.{over_areas}
+use Rattle.planner_rules.specs.Areas.{plans_in, over_areas}
 use Rattle.planner_rules.specs.Lent.{room_in}
 use Rattle.planner_rules.specs.Pages.{pages_in, areas_pages, pages_of, row_runs, column_runs, holds_runs, numbered, page_numbered, list_pages, pages_lent}
-use Rattle.planner_rules.specs.Pages.{page_count, walk_from}
+use Rattle.planner_rules.specs.Pages.{page_count, walk_from, spot_page}
 use Rattle.planner_rules.proofs.PageLaws.{numbered_first, numbered_take}
-use Rattle.planner_rules.proofs.AreaPages.{areas_length, walk_past, walk_more}
+use Rattle.planner_rules.proofs.AreaPages.{areas_length, walk_past, walk_all, walk_more, walk_page}
 use Rattle.planner_rules.proofs.PagesCode.{rooms_of}
 
 -- ---- how many pages a plan has
 
 module _ (p : Plan) where
   abbrev areas : List AreaPlan
-  areas = p.areas.items
+  areas = (plans_in p.areas)
 
   -- by where the walk ends that takes off as many pages as the plan says
   pub count_within : (s : Spot) → walk_from 0 p.pages areas ≡ Ok s → p.pages ≡ page_count p
@@ -127,7 +127,7 @@ module _ (p : Plan) (rows columns : List ℕ) (room : ℕ) where
 
   -- what `page_after` of `planner_pages` relies on for the page that has i pages before it
   pub page_asked : (i : ℕ) → i < count
-      → (row_runs p.areas.items ≤ room_in rows) × ((column_runs p.areas.items ≤ room_in columns) × (i < over_areas pages_in p.areas.items))
+      → (row_runs (plans_in p.areas) ≤ room_in rows) × ((column_runs (plans_in p.areas) ≤ room_in columns) × (i < over_areas pages_in (plans_in p.areas)))
   unfolding list_pages
   page_asked i h =
       let y = all_yes (holds_runs p rows columns) fit (length pages) i h in
@@ -136,11 +136,21 @@ module _ (p : Plan) (rows columns : List ℕ) (room : ℕ) where
       (rooms.0, (rooms.1, omega (arith, low, list_length p rows columns)))
 
   -- that page is the next of the list
-  pub page_next : (i : ℕ) → i < count → numbered pages (suc i) ≡ numbered (areas_pages p.order p.areas.items rows columns) (suc i)
+  pub page_next : (i : ℕ) → i < count → numbered pages (suc i) ≡ numbered (areas_pages p.order (plans_in p.areas) rows columns) (suc i)
   unfolding pages_of
   page_next i h =
       let within : suc i ≤ p.pages = omega (arith, count_pages_of, list_length p rows columns) in
-      numbered_take p.pages (areas_pages p.order p.areas.items rows columns) (suc i) within
+      numbered_take p.pages (areas_pages p.order (plans_in p.areas) rows columns) (suc i) within
+
+  -- and stands where the walk ends
+  pub page_next_is : (i : ℕ) → i < count
+      → (s : Spot) × (walk_from 0 i (plans_in p.areas) ≡ Ok s) × (numbered pages (suc i) ≡ given (spot_page p.order (plans_in p.areas) rows columns s))
+  page_next_is i h = ended (walk_from 0 i (plans_in p.areas)) refl
+    where
+      ended : (r : Result Spot ℕ) → walk_from 0 i (plans_in p.areas) ≡ r
+          → (s : Spot) × (walk_from 0 i (plans_in p.areas) ≡ Ok s) × (numbered pages (suc i) ≡ given (spot_page p.order (plans_in p.areas) rows columns s))
+      ended (Ok s) q = (s, q, page_next i h ∙ walk_page p.order (plans_in p.areas) rows columns i s q)
+      ended (Err n) q = absurd (omega (arith, walk_all i (plans_in p.areas) n q, (page_asked i h).1.1))
 
 -- when all are written
 pub pages_lent_lem : (p : Plan) (rows columns : List ℕ) (ys : List Page)

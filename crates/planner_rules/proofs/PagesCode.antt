@@ -17,6 +17,7 @@ use Rattle.planner_rules.specs.declared.pages.PageRun.{PageRun}
 use Rattle.planner_rules.specs.declared.pages.Place.{Place}
 use Rattle.planner_rules.specs.declared.pages.Plan.{Plan}
 use Rattle.planner_rules.specs.declared.pages.Spot.{Spot}
+use Rattle.planner_rules.specs.Areas.{plans_in}
 use Rattle.planner_rules.specs.Lent.{run_numbers, room_in, number_at}
 use Rattle.planner_rules.specs.Pages.{run_at, page_at, pages_in, area_pages, after_runs, areas_pages, pages_of, row_runs, column_runs}
 use Rattle.planner_rules.specs.Pages.{runs_held, holds_runs, numbered, page_numbered, spot_from, spot_of, area_numbered, place_of}
@@ -84,7 +85,7 @@ module _ (order : PageOrder) (a : AreaPlan) (rows columns : List ℕ) (n : ℕ) 
 
 module _ (p : Plan) (n : ℕ) where
   abbrev areas : List AreaPlan
-  areas = p.areas.items
+  areas = (plans_in p.areas)
 
   abbrev end : Result Spot ℕ
   end = walk_from 0 (n - 1) areas
@@ -112,18 +113,18 @@ module _ (p : Plan) (n : ℕ) where
 
 -- 11 says that the lists have room
 pub rooms_of : (p : Plan) (rows columns : List ℕ) → holds_runs p rows columns ≡ true
-    → (row_runs p.areas.items ≤ room_in rows) × (column_runs p.areas.items ≤ room_in columns)
+    → (row_runs (plans_in p.areas) ≤ room_in rows) × (column_runs (plans_in p.areas) ≤ room_in columns)
 unfolding runs_held
 rooms_of p rows columns h =
-    let rows_wanted = row_runs p.areas.items in
-    let columns_wanted = column_runs p.areas.items in
+    let rows_wanted = row_runs (plans_in p.areas) in
+    let columns_wanted = column_runs (plans_in p.areas) in
     let rooms = and_parts (leb rows_wanted (room_in rows)) (leb columns_wanted (room_in columns)) h in
     (leb-true rows_wanted (room_in rows) rooms.0, leb-true columns_wanted (room_in columns) rooms.1)
 
 -- the page that is asked for stands at a spot
 abbrev Answered : Plan → List ℕ → List ℕ → ℕ → Spot → Type 0
 Answered p rows columns n s =
-    let areas = p.areas.items in
+    let areas = (plans_in p.areas) in
     Stands areas s × (numbered (pages_of p rows columns) n ≡ given (spot_page p.order areas rows columns s))
 
 -- what a spot, or that there is none, says of that page
@@ -179,8 +180,8 @@ module _ (p : Plan) (rows columns : List ℕ) (n : ℕ) where
     page_missing q = sym (answers.missing (sym e ∙ q)) ∙ asked
 
     module _ (s : Spot) (q : f ≡ Some s) where
-      pub page_stands : Stands p.areas.items s
+      pub page_stands : Stands (plans_in p.areas) s
       page_stands = (answers.found s (sym e ∙ q)).0
 
-      pub page_found : given (spot_page p.order p.areas.items rows columns s) ≡ page_numbered p rows columns n
+      pub page_found : given (spot_page p.order (plans_in p.areas) rows columns s) ≡ page_numbered p rows columns n
       page_found = sym (answers.found s (sym e ∙ q)).1 ∙ asked

@@ -10,7 +10,7 @@ use Rattle.planner_rules.specs.declared.pages.Plan.{Plan}
 use Rattle.planner_rules.specs.declared.planning.PrintRange.{PrintRange}
 use Rattle.planner_rules.specs.Scale.{units}
 use Rattle.planner_rules.specs.Lent.{runs_in, firsts, lasts, sizes}
-use Rattle.planner_rules.specs.Areas.{over_areas}
+use Rattle.planner_rules.specs.Areas.{plans_in, over_areas}
 use Rattle.planner_rules.specs.Pages.{numbered, pages_in, row_runs, column_runs, after_runs, page_numbered}
 use Rattle.planner_rules.specs.Plan.{AxisInput, Sheet, Sides, rows_in, columns_in, title_of, start_of, body_part, content_sides}
 use Rattle.planner_rules.specs.Division.{◌∈◌, kept_breaks, FewestRuns}
@@ -29,12 +29,12 @@ IsArea areas n g = numbered areas n ≡ given g
 -- what that area came to, and that this is so
 pub record CameTo (plan : Plan) (n : ℕ) (This : AreaPlan → Type 0) : Type 0 where
   pub area : AreaPlan
-  pub is_it : numbered plan.areas.items n ≡ given area
+  pub is_it : numbered (plans_in plan.areas) n ≡ given area
   pub so : This area
 
 -- what stands before it in job order
 abbrev pub areas_before : Plan → ℕ → List AreaPlan
-areas_before plan n = take (n - 1) plan.areas.items
+areas_before plan n = take (n - 1) (plans_in plan.areas)
 
 -- how many pages: "page numbers run on"
 abbrev pub pages_before : Plan → ℕ → ℕ
@@ -143,4 +143,4 @@ pub record LargestPlan (r : Outcome Plan) (s : Sheet) (areas : List PrintRange) 
       → (height width : ℕ) → Exceeds c.height (rows_in s g) height → Exceeds c.width (columns_in s g) width
       → CameTo plan n (λ (a : AreaPlan). Chosen (EachReaches (rows_in s g) (columns_in s g) height width) a.permille a.unreachable)
   pub noted : (plan : Plan) → Finished r plan
-      → plan.notes.fit_unreachable ≡ over_areas (λ (a : AreaPlan). a.unreachable) plan.areas.items
+      → plan.notes.fit_unreachable ≡ over_areas (λ (a : AreaPlan). a.unreachable) (plans_in plan.areas)

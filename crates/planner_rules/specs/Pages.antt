@@ -14,7 +14,7 @@ use Rattle.planner_rules.specs.declared.pages.Plan.{Plan}
 use Rattle.planner_rules.specs.declared.pages.Spot.{Spot}
 use Rattle.planner_rules.specs.Questions.{ask}
 use Rattle.planner_rules.specs.Runs.{Run}
-use Rattle.planner_rules.specs.Areas.{no_plan, over_areas}
+use Rattle.planner_rules.specs.Areas.{plans_in, no_plan, over_areas}
 use Rattle.planner_rules.specs.Lent.{run_numbers, room_in, number_at}
 use Rattle.planner_rules.specs.Scale.{Space, fits_side, printed}
 
@@ -133,7 +133,7 @@ areas_pages order (a ∷ areas) rows columns =
 -- the pages of a plan, in order: "page numbers run on"; no more than its count
 unfoldable pub pages_of : Plan → List ℕ → List ℕ → List Page
 unfolding areas_pages
-pages_of p rows columns = take p.pages (areas_pages p.order p.areas.items rows columns)
+pages_of p rows columns = take p.pages (areas_pages p.order (plans_in p.areas) rows columns)
 
 -- how many runs of rows the areas have together
 abbrev pub row_runs : List AreaPlan → ℕ
@@ -151,7 +151,7 @@ runs_held areas row_room column_room = leb (row_runs areas) row_room && leb (col
 
 -- 11 of a plan and the two lists of its runs: they have room for as many as all areas say
 abbrev pub holds_runs : Plan → List ℕ → List ℕ → Bool
-holds_runs p rows columns = runs_held p.areas.items (room_in rows) (room_in columns)
+holds_runs p rows columns = runs_held (plans_in p.areas) (room_in rows) (room_in columns)
 
 -- the n-th of a list, from 1: "Page number from 1 to the count?"
 unfoldable pub numbered : {A : Type 0} → List A → ℕ → Outcome A
@@ -189,7 +189,7 @@ spot_from k before (a ∷ areas) =
 -- the spot of the page with a number: "Page number from 1 to the count?"
 unfoldable pub spot_of : Plan → ℕ → Option Spot
 unfolding spot_from
-spot_of p n = cond (leb 1 n && leb n p.pages) (spot_from 0 (n - 1) p.areas.items) None
+spot_of p n = cond (leb 1 n && leb n p.pages) (spot_from 0 (n - 1) (plans_in p.areas)) None
 
 -- ---- an area's own pages, over lists that hold its runs at the front
 
@@ -206,7 +206,7 @@ area_numbered order a rows columns n = ask 11 (holds_area a rows columns) (numbe
 
 -- how many pages a plan has, where no count goes past the places that the runs make
 abbrev pub page_count : Plan → ℕ
-page_count p = min p.pages (over_areas pages_in p.areas.items)
+page_count p = min p.pages (over_areas pages_in (plans_in p.areas))
 
 -- where the page of an area stands that has so many of the area's pages before it: "down, then over", or the other order
 abbrev pub place_of : PageOrder → ℕ → ℕ → ℕ → Place

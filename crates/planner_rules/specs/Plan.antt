@@ -26,7 +26,7 @@ use Rattle.planner_rules.specs.declared.planning.FinalCut.{FinalCut}
 use Rattle.planner_rules.specs.declared.planning.ContentSides.{ContentSides}
 use Rattle.planner_rules.specs.Slots.{Slots, below, mid}
 use Rattle.planner_rules.specs.Questions.{ask, equally_long, all_ordered, all_within, rising_within, all_small, no_or}
-use Rattle.planner_rules.specs.Areas.{one_to_eight, every_area, upright, inside_grid, over_areas}
+use Rattle.planner_rules.specs.Areas.{one_to_eight, every_area, upright, inside_grid, held_plans, over_areas}
 use Rattle.planner_rules.specs.Union.{cells_hold}
 use Rattle.planner_rules.specs.Titles.{limit_of, widened, body_start, title_total}
 use Rattle.planner_rules.specs.Runs.{Run, axis_runs, shifts, expansions}
@@ -306,7 +306,7 @@ notes_of c sheet ls = record {
 -- the plan of areas: what each came to, and "the pages' total"
 unfoldable pub plan_of : Sides → Sheet → List AreaLayout → Plan
 plan_of c sheet ls = record {
-  areas = record { items = map plan_in ls };
+  areas = held_plans (map plan_in ls);
   pages = over_areas (λ (l : AreaLayout). pages_in (plan_in l)) ls;
   order = sheet.settings.order;
   notes = notes_of c sheet ls;

@@ -1,6 +1,6 @@
 -- What the private functions of the plan calls hand to each other: what all areas share, an area that is ready, counted areas, and runs that are
 -- written area by area. Assumes nothing.
-use Rattle.std.specs.Prelude.{◌≡◌, Result, Ok, Err, List, [], ◌∷◌, ◌++◌, map, ℕ, ◌+◌, ◌*◌, ◌^◌, ◌≤◌, ◌<◌, max, length, get_or}
+use Rattle.std.specs.Prelude.{◌≡◌, Result, Ok, Err, List, [], map, ℕ, ◌+◌, ◌*◌, ◌^◌, ◌≤◌, ◌<◌, max, length, get_or}
 use Rattle.units.specs.Grid.{last_row, last_column}
 use Rattle.units.specs.Outcome.{Outcome, given, refused}
 use Rattle.units.specs.Refusals.{number_of}
@@ -20,7 +20,7 @@ use Rattle.planner_rules.specs.declared.planning.CountedArea.{CountedArea}
 use Rattle.planner_rules.specs.declared.planning.CountedAreas.{CountedAreas}
 use Rattle.planner_rules.specs.declared.planning.Shared.{Shared}
 use Rattle.planner_rules.specs.Slots.{Slots, Rising, below}
-use Rattle.planner_rules.specs.Areas.{no_range, over_areas}
+use Rattle.planner_rules.specs.Areas.{no_range, held_plans, pushed, over_areas}
 use Rattle.planner_rules.specs.Titles.{limit_of, widened, body_start, title_total}
 use Rattle.planner_rules.specs.Runs.{Run}
 use Rattle.planner_rules.specs.Lent.{Room}
@@ -165,7 +165,7 @@ pub record Few (a : CountedArea) : Type 0 where
 -- what areas come to together
 abbrev pub counted_of : List AreaLayout → CountedAreas
 counted_of ls = record {
-  areas = record { items = map plan_in ls };
+  areas = held_plans (map plan_in ls);
   rows = over_areas (λ (l : AreaLayout). (plan_in l).row_runs) ls;
   columns = over_areas (λ (l : AreaLayout). (plan_in l).column_runs) ls;
   pages = over_areas (λ (l : AreaLayout). pages_in (plan_in l)) ls;
@@ -199,7 +199,7 @@ plan_from x all = record {
 
 -- how many areas were counted
 abbrev pub counted_areas : CountedAreas → ℕ
-counted_areas all = length all.areas.items
+counted_areas all = all.areas.count
 
 -- so many areas have few runs and notes
 pub record FewAll (all : CountedAreas) : Type 0 where
@@ -213,7 +213,7 @@ pub record FewAll (all : CountedAreas) : Type 0 where
 
 -- an area more, behind the others
 pub record Added (r all : CountedAreas) (a : CountedArea) : Type 0 where
-  pub plans_are : r.areas.items ≡ all.areas.items ++ a.area ∷ []
+  pub plans_are : r.areas ≡ pushed all.areas a.area
   pub rows_are : r.rows ≡ all.rows + a.area.row_runs
   pub columns_are : r.columns ≡ all.columns + a.area.column_runs
   pub pages_are : r.pages ≡ all.pages + pages_in a.area

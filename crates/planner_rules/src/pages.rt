@@ -1,8 +1,7 @@
 // Pages: document 01, section "Pages".
-ghost use Rattle.std.specs.Prelude.{◌≡◌};
+ghost use Rattle.std.specs.Prelude.{◌≡◌, ◌<◌, []};
+ghost use Rattle.planner_rules.specs.Areas.{plans_in, held_plans, pushed};
 ghost use Rattle.planner_rules.specs.Pages as section;
-
-use arrayvec::ArrayVec;
 
 #[derive(Clone, Copy)]
 pub enum PageOrder {
@@ -89,11 +88,47 @@ pub struct AreaPlan {
     pub columns_empty: bool,
 }
 
-// What the areas came to, in job order. Eight have room, and no more are asked for.
-pub type AreaPlans = ArrayVec<AreaPlan, 8>;
+// What the areas came to, in job order, at most eight; what stands past their count is no area. Not one type with the `JobAreas` of the records: it would
+// hold an array of a type parameter, and calls through other types would owe that its size is below 2^63.
+#[derive(Clone, Copy)]
+pub struct AreaPlans {
+    pub count: usize,
+    pub plans: [AreaPlan; 8],
+}
+
+impl AreaPlans {
+    // No area.
+    #[inline(always)]
+    pub fn new() -> Self
+        ensures { result ≡ held_plans [] }
+    {
+        AreaPlans {
+            count: 0,
+            plans: [AreaPlan::default(); 8],
+        }
+    }
+
+    // One area more.
+    #[inline(always)]
+    pub fn push(&mut self, area: AreaPlan)
+        requires { self.old.count < 8 }
+        ensures { self.new ≡ pushed self.old area }
+    {
+        self.plans[self.count] = area;
+        self.count += 1;
+    }
+
+    // Those that count.
+    #[inline(always)]
+    pub fn as_slice(&self) -> &[AreaPlan]
+        ensures { result.now ≡ plans_in self.now }
+    {
+        &self.plans[..self.count.min(8)]
+    }
+}
 
 // A finished plan. Its runs stand in the lists that were lent to it, area after area.
-#[derive(Clone, Drop)]
+#[derive(Clone, Copy)]
 pub struct Plan {
     pub areas: AreaPlans,
     pub pages: u64,

@@ -121,7 +121,7 @@ pub struct CountedArea {
 }
 
 // What the areas were counted to: each, all their runs of rows and of columns, their pages and their notes.
-#[derive(Clone, Drop)]
+#[derive(Clone, Copy)]
 pub struct CountedAreas {
     pub areas: AreaPlans,
     pub rows: usize,

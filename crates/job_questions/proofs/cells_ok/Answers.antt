@@ -6,8 +6,8 @@ use Prim.Native.Nat.{ℕ}
 use Rattle.planner_rules.specs.Union.{cells_hold}
 use Rattle.std.specs.Prelude.{Option, None}
 use Rattle.planner_rules.specs.declared.planning.PrintRange.{PrintRange}
-use Rattle.arrayvec.specs.ArrayVec.{ArrayVec}
-use Rattle.job_records.specs.declared.records.Range.{Range}
+use Rattle.job_records.specs.Areas.{ranges_in}
+use Rattle.job_records.specs.declared.records.JobAreas.{JobAreas}
 use Rattle.job_records.specs.Records.{UC, records, marked}
 use Rattle.job_settings.specs.Meaning.{areas_for}
 use Rattle.job_walk.specs.Areas.{limit_from}
@@ -33,5 +33,5 @@ returns-in_default c =
 pub returns : goal.returns
 returns c =
     let limit = limit_is c.limit_of-limit.result c.args.job c.limit_of-limit.ensures in
-    let read = c.areas_for-areas.ensures ∙ ap (λ (a : ArrayVec Range). areas_for a.items) (all_areas c.args.job c.requires _ c.areas_of-read.ensures) in
+    let read = c.areas_for-areas.ensures ∙ ap (λ (a : JobAreas). areas_for (ranges_in a)) (all_areas c.args.job c.requires _ c.areas_of-read.ensures) in
     c.cells_hold.ensures ∙ ap₂ cells_hold limit (c.as_slice.ensures.value ∙ read)

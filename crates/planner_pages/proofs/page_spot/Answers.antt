@@ -3,12 +3,13 @@ use Rattle.std.proofs.Common.{◌≡◌, ◌∙◌, ℕ, sym, rules, arith, None
 use Rattle.std.specs.Result.{result_ok}
 use Rattle.planner_rules.specs.declared.pages.Plan.{Plan}
 use Rattle.planner_rules.specs.declared.pages.Spot.{Spot}
+use Rattle.planner_rules.specs.Areas.{plans_in}
 use Rattle.planner_rules.specs.Pages.{spot_of, walk_from}
 use Rattle.planner_rules.proofs.PagesCode.{spot_zero, spot_past, spot_found, spot_missing}
 use Rattle.planner_pages.proofs.page_spot.Goals as goal
 
 module _ (p : Plan) (n : ℕ) (low : 1 ≤ n) (high : n ≤ p.pages) where
-  spot_is : (r : Result Spot ℕ) → r ≡ walk_from 0 (n - 1) p.areas.items → result_ok r ≡ spot_of p n
+  spot_is : (r : Result Spot ℕ) → r ≡ walk_from 0 (n - 1) (plans_in p.areas) → result_ok r ≡ spot_of p n
   spot_is (Ok s) e = spot_found p n low high s (sym e)
   spot_is (Err m) e = spot_missing p n low high m (sym e)
 
@@ -26,5 +27,5 @@ pub returns : goal.returns
 returns c =
     let low : 1 ≤ c.args.number = grind arith in
     let e : c.in_ok-before.before ≡ c.args.number - 1 = grind arith in
-    let end = rw (c.as_slice.ensures.value, e) at c.walk.ensures in
+    let end = rw (c.as_slice.ensures, e) at c.walk.ensures in
     c.ok.ensures.value ∙ spot_is c.args.plan.now c.args.number low (omega arith) c.walk.result end

@@ -5,7 +5,7 @@ use Rattle.planner.proofs.areas.no_areas.Goals as goal
 pub returns : goal.returns
 unfolding over_areas
 returns c = λ i. record {
-  areas = record { items = c.new.ensures i };
+  areas = c.new.ensures i;
   rows = 0;
   columns = 0;
   pages = 0;
