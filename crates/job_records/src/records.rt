@@ -2,7 +2,7 @@
 ghost use Rattle.std.specs.Prelude.{◌≡◌, ◌≤◌, ◌<◌, [], length};
 ghost use Rattle.job_records.specs.Records.{range_at, margins_at, row_at, column_at, kind_of, head_record, step_outcome, mark_before};
 ghost use Rattle.job_records.specs.Marks.{bytes_of};
-ghost use Rattle.job_records.specs.Areas.{ranges_in, held_ranges, pushed};
+ghost use Rattle.job_records.specs.Areas.{ranges_in, held_ranges};
 
 use crate::little_endian::{signed, u16_at, u32_at, u64_at};
 use crate::marks::Mark;
@@ -33,16 +33,6 @@ impl JobAreas {
             count: 0,
             ranges: [Range::default(); 8],
         }
-    }
-
-    // One area more.
-    #[inline(always)]
-    pub fn push(&mut self, area: Range)
-        requires { self.old.count < 8 }
-        ensures { self.new ≡ pushed self.old area }
-    {
-        self.ranges[self.count] = area;
-        self.count += 1;
     }
 
     // Those that count.

@@ -78,7 +78,8 @@ pub fn areas_of(bytes: &[u8]) -> JobAreas
             break;
         }
         if let Record::Area(cells) = found {
-            areas.push(cells);
+            areas.ranges[areas.count] = cells;
+            areas.count += 1;
         }
     }
     areas

@@ -33,7 +33,8 @@ pub(crate) fn add_area(all: &mut CountedAreas, counted: CountedArea)
 {
     let area = counted.area;
     let notes = counted.notes;
-    all.areas.push(area);
+    all.areas.plans[all.areas.count] = area;
+    all.areas.count += 1;
     all.rows += area.row_runs;
     all.columns += area.column_runs;
     all.pages += (area.row_runs as u64) * (area.column_runs as u64);

@@ -1,6 +1,6 @@
 // Pages: document 01, section "Pages".
 ghost use Rattle.std.specs.Prelude.{◌≡◌, ◌<◌, []};
-ghost use Rattle.planner_rules.specs.Areas.{plans_in, held_plans, pushed};
+ghost use Rattle.planner_rules.specs.Areas.{plans_in, held_plans};
 ghost use Rattle.planner_rules.specs.Pages as section;
 
 #[derive(Clone, Copy)]
@@ -106,16 +106,6 @@ impl AreaPlans {
             count: 0,
             plans: [AreaPlan::default(); 8],
         }
-    }
-
-    // One area more.
-    #[inline(always)]
-    pub fn push(&mut self, area: AreaPlan)
-        requires { self.old.count < 8 }
-        ensures { self.new ≡ pushed self.old area }
-    {
-        self.plans[self.count] = area;
-        self.count += 1;
     }
 
     // Those that count.
