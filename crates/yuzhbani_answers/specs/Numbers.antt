@@ -5,7 +5,7 @@ use Rattle.planner_rules.specs.declared.pages.PageOrder.{PageOrder}
 use Rattle.planner_rules.specs.declared.pages.PageOrder.TheVariants.{DownThenOver, OverThenDown}
 use Rattle.planner_rules.specs.declared.pages.Page.{Page}
 use Rattle.planner_rules.specs.declared.pages.AreaPlan.{AreaPlan}
-use Rattle.arrayvec.specs.ArrayVec.{ArrayVec}
+use Rattle.planner_rules.specs.declared.pages.AreaPlans.{AreaPlans}
 use Rattle.planner_rules.specs.declared.pages.Plan.{Plan}
 use Rattle.planner_rules.specs.Areas.{no_plan}
 use Rattle.planner_rules.specs.Pages.{note_numbers}
@@ -38,10 +38,10 @@ area_at as' k = get_or as' k no_plan
 abbrev pub eight_areas : List AreaPlan → List AreaPlan
 eight_areas as' = area_at as' 0 ∷ area_at as' 1 ∷ area_at as' 2 ∷ area_at as' 3 ∷ area_at as' 4 ∷ area_at as' 5 ∷ area_at as' 6 ∷ area_at as' 7 ∷ []
 
--- how many areas there are, pages, order, the nine notes in order, and the eight areas
+-- how many areas there are, pages, order, the nine notes in order, and the eight areas; behind the last that counts, nothing is meant
 unfoldable pub plan_numbers : Plan → List ℕ
 plan_numbers p =
-    length p.areas.items ∷ p.pages ∷ order_number p.order ∷ (note_numbers p.notes ++ areas_numbers (eight_areas p.areas.items))
+    p.areas.count ∷ p.pages ∷ order_number p.order ∷ (note_numbers p.notes ++ areas_numbers (eight_areas p.areas.plans))
 
 -- "A page has its vertical and horizontal run numbers from 0 and both runs", rows first; "A run has first, last, size, empty-body mark, manual-break mark."
 unfoldable pub page_numbers : Page → List ℕ
@@ -72,10 +72,12 @@ area_from ns at = record {
 }
 
 -- the areas; of more than eight, those that stand there are meant
-unfoldable pub areas_from : List ℕ → ArrayVec AreaPlan
+unfoldable pub areas_from : List ℕ → AreaPlans
 areas_from ns = record {
-  items = take (get_or ns 0 0) (area_from ns 12 ∷ area_from ns 18 ∷ area_from ns 24 ∷ area_from ns 30 ∷ area_from ns 36 ∷ area_from ns 42
-      ∷ area_from ns 48 ∷ area_from ns 54 ∷ []);
+  count = get_or ns 0 0;
+  plans =
+      area_from ns 12 ∷ area_from ns 18 ∷ area_from ns 24 ∷ area_from ns 30 ∷ area_from ns 36 ∷ area_from ns 42
+      ∷ area_from ns 48 ∷ area_from ns 54 ∷ [];
 }
 
 -- the plan that sixty numbers stand for

@@ -40,15 +40,16 @@ fn area_numbers(area: AreaPlan) -> [u64; 6]
     ]
 }
 
-// The count of areas, the pages, the order and the notes, then six numbers for each of eight areas; those of an area that is not there are 0.
+// The count of areas, the pages, the order and the notes, then six numbers for each of eight areas, as they stand.
 fn put_plan(numbers: &mut [u64; 60], plan: &Plan)
     ensures numbers_after { numbers.new ≡ section.plan_numbers plan.now }
     ensures plan_value { section.plan_from (section.plan_numbers plan.now) ≡ plan.now }
 {
     *numbers = [0; 60];
-    numbers[..3].copy_from_slice(&[plan.areas.len() as u64, plan.pages, plan.order as u64]);
+    numbers[..3].copy_from_slice(&[plan.areas.count as u64, plan.pages, plan.order as u64]);
     numbers[3..12].copy_from_slice(&NoteNumbers::from(plan.notes));
-    for (k, area) in plan.areas.as_slice().iter().enumerate() {
+    // As a slice: of an array behind a `&` no fact says that it has eight.
+    for (k, area) in plan.areas.plans[..].iter().enumerate() {
         let at = 12 + 6 * k;
         numbers[at..at + 6].copy_from_slice(&area_numbers(*area));
     }
@@ -91,14 +92,15 @@ impl PlanNumbers<'_> {
         }
     }
 
-    // The areas; of more than eight, those that stand there.
+    // The areas, by their count; of more than eight, those that stand there are meant.
     #[tactic(auto, unfolding(crate::specs::Numbers::areas_from))]
     fn areas(self) -> AreaPlans
         ensures { result ≡ section.areas_from self.entry.0.now }
     {
-        let mut areas = AreaPlans::from(array::from_fn(|k| self.area(12 + 6 * k)));
-        areas.truncate(self.0[0] as usize);
-        areas
+        AreaPlans {
+            count: self.0[0] as usize,
+            plans: array::from_fn(|k| self.area(12 + 6 * k)),
+        }
     }
 }
 
