@@ -2,13 +2,13 @@
 use mathlib.Core.Path.{◌≡◌, refl, sym, ap, ◌∙◌}
 use mathlib.Core.Bool.{Bool, true, false, not, cond}
 use mathlib.Core.List.{List, [], ◌∷◌, ◌++◌, map}
-use Prim.Native.Nat.{ℕ, ◌-◌, ◌≤◌, ◌<◌}
+use Prim.Native.Nat.{ℕ, zero, suc, ◌-◌, ◌≤◌, ◌<◌}
 use native.Mathlib.Decide.{dec_le}
 use native.Mathlib.Nat.{lt_of_not-le}
 use native.Mathlib.Omega.{arith}
 use lib.Dec.{ltb, eqb}
 use lib.ListN.{length, take, drop, length-map}
-use lib.Seq.{take_all}
+use lib.Seq.{drop-nil, take_all}
 use Rattle.std.proofs.lemmas.List.{append-nil, take-append-le, take_rest}
 use borrow.Author.Tests.{eq-eqb, ne_eqb, eqb-true, lt-ltb, le-ltb}
 use Rattle.arrayvec.specs.ArrayVec.{ArrayVec}
@@ -121,19 +121,30 @@ module _ (s : List ℕ) {f : Option Head} (e : f ≡ before (step s)) where
 abbrev pub looked : ℕ → List ℕ → Option Record
 looked k s = first_of (in_place k (records s))
 
--- r is the next of some records, and x its rank: none comes, or it is the one, or the look goes on after it
-pub record Seen (k : ℕ) (r : Record) (rs : List Record) (x : ℕ) : Type 0 where
-  pub past : k < x → None ≡ first_of (in_place k (r ∷ rs))
-  pub here : x ≡ k → Some r ≡ first_of (in_place k (r ∷ rs))
-  pub on : x ≤ k → (x ≡ k → ⊥) → first_of (in_place k rs) ≡ first_of (in_place k (r ∷ rs))
+first_after : (n : ℕ) → (n ≡ 0 → ⊥) → (r : Record) (rs : List Record) → first_of (drop (n - 1) rs) ≡ first_of (drop n (r ∷ rs))
+first_after zero z r rs = absurd (z refl)
+first_after (suc n) z r rs = let j : suc n - 1 ≡ n = omega arith in ap (λ (i : ℕ). first_of (drop i rs)) j
 
-pub look_next : (k : ℕ) (r : Record) (rs : List Record) {x : ℕ} → x ≡ rank r → Seen k r rs x
+-- r is the next of some records, and x its rank, where n of them are to be passed over: none comes, or it is the one, or the look goes on after it
+pub record Seen (k n : ℕ) (r : Record) (rs : List Record) (x : ℕ) : Type 0 where
+  pub past : k < x → None ≡ first_of (drop n (in_place k (r ∷ rs)))
+  pub here : x ≡ k → n ≡ 0 → Some r ≡ first_of (drop n (in_place k (r ∷ rs)))
+  pub after : x ≡ k → (n ≡ 0 → ⊥) → first_of (drop (n - 1) (in_place k rs)) ≡ first_of (drop n (in_place k (r ∷ rs)))
+  pub on : x ≤ k → (x ≡ k → ⊥) → first_of (drop n (in_place k rs)) ≡ first_of (drop n (in_place k (r ∷ rs)))
+
+pub look_next : (k n : ℕ) (r : Record) (rs : List Record) {x : ℕ} → x ≡ rank r → Seen k n r rs x
 unfolding in_place
-look_next k r rs i = record {
-  past = λ l. rw (lt-ltb k (rank r) (omega arith));
-  here = λ l. rw (le-ltb k (rank r) (omega arith), eq-eqb (rank r) k (sym i ∙ l));
+look_next k n r rs i = record {
+  past = λ l. rw (lt-ltb k (rank r) (omega arith), drop-nil n);
+  here = λ l z. rw (le-ltb k (rank r) (omega arith), eq-eqb (rank r) k (sym i ∙ l), z);
+  after = λ l z. rw (le-ltb k (rank r) (omega arith), eq-eqb (rank r) k (sym i ∙ l)) (first_after n z r (in_place k rs));
   on = λ l q. rw (le-ltb k (rank r) (omega arith), ne_eqb (rank r) k (λ u. q (i ∙ u)));
 }
+
+-- no record is left
+pub look_end : (k n : ℕ) → None ≡ first_of (drop n (in_place k []))
+unfolding in_place
+look_end k n = rw (drop-nil n)
 
 -- ---- the record that was found
 

@@ -1,7 +1,7 @@
 // The records of a job one by one, those that are looked for by their mark, the limits and the areas: document 01, section "Jobs".
 #![tactic(auto)]
 
-ghost use Rattle.std.specs.Prelude.{◌≡◌, take};
+ghost use Rattle.std.specs.Prelude.{◌≡◌, take, drop};
 ghost use Rattle.std.specs.Iterator.{YieldsFirst, item_count};
 ghost use Rattle.job_records.specs.Marks.{place};
 ghost use Rattle.job_records.specs.Records.{step, records, AR};
@@ -41,20 +41,39 @@ impl<'a> Iterator for Records<'a> {
     }
 }
 
-// The first record with a mark, if there is one. The first record with a later mark ends the search.
-pub fn find_record(bytes: &[u8], wanted: Mark) -> Option<Record>
-    ensures { result ≡ walk.first_of (walk.in_place (place wanted) (records bytes.now)) }
+// The place of a mark in the order of the records, from 1.
+fn place_of(mark: Mark) -> u8
+    ensures { result ≡ place mark }
 {
+    mark as u8 + 1
+}
+
+// The record whose mark has the place `wanted` that has so many of them before it, if there is one: of any number, be it a mark's place or not. The
+// first record with a later mark ends the search.
+pub fn find_record_after(bytes: &[u8], wanted: u8, before: usize) -> Option<Record>
+    ensures { result ≡ walk.first_of (drop before (walk.in_place wanted (records bytes.now))) }
+{
+    let mut left = before;
     for found in (Records { rest: bytes }) {
-        let mark = found.mark();
-        if mark > wanted {
+        let place = place_of(found.mark());
+        if place > wanted {
             break;
         }
-        if mark == wanted {
-            return Some(found);
+        if place == wanted {
+            if left == 0 {
+                return Some(found);
+            }
+            left -= 1;
         }
     }
     None
+}
+
+// The first record with a mark, if there is one.
+pub fn find_record(bytes: &[u8], wanted: Mark) -> Option<Record>
+    ensures { result ≡ walk.first_of (walk.in_place (place wanted) (records bytes.now)) }
+{
+    find_record_after(bytes, place_of(wanted), 0)
 }
 
 // The limit of pages or of cells, by its mark; of any other mark there is none.
