@@ -6,4 +6,4 @@ mod lines;
 mod text;
 
 pub use blocks::{Block, area_block};
-pub use lines::{area_line, head_lines, page_line, refusal_line};
+pub use lines::{area_line, head_lines, page_line, refusal_line, told_lines};

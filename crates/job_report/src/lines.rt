@@ -1,6 +1,7 @@
 // The lines of a plan: document 01, section "Jobs", and document 02, T-02. No `Display`, as in `text.rt`.
 ghost use Rattle.std.specs.Prelude.{◌≡◌, ◌+◌, ◌≤◌, length};
-ghost use Rattle.units.specs.Refusals.{outcome};
+ghost use Rattle.units.specs.Outcome.{given};
+ghost use Rattle.units.specs.Refusals.{outcome, by_number};
 ghost use Rattle.job_report.specs.Lines as section;
 
 use crate::text::Text;
@@ -78,17 +79,34 @@ impl Text<'_> {
         self.line(b"page", &list);
     }
 
-    // The first two lines of a plan, or the line of a refusal.
+    // The first two lines of a plan.
+    fn plan_head(&mut self, plan: &Plan)
+        requires { self.old.at + 242 ≤ length self.old.out.now }
+        ensures { section.TextPut (section.head_lines (given plan.now)) self.old self.new }
+    {
+        self.plan(plan);
+        self.notes(plan.notes);
+    }
+
+    // These, or the line of a refusal.
     fn head(&mut self, planning: &Result<Plan, Refusal>)
         requires { self.old.at + 242 ≤ length self.old.out.now }
         ensures { section.TextPut (section.head_lines (outcome planning.now)) self.old self.new }
     {
         match planning {
-            Ok(plan) => {
-                self.plan(plan);
-                self.notes(plan.notes);
-            }
+            Ok(plan) => self.plan_head(plan),
             Err(refusal) => self.refusal(refusal.number()),
+        }
+    }
+
+    // The same where a refusal is any number, of a question or not.
+    fn told(&mut self, planning: &Result<Plan, u8>)
+        requires { self.old.at + 242 ≤ length self.old.out.now }
+        ensures { section.TextPut (section.head_lines (by_number planning.now)) self.old self.new }
+    {
+        match planning {
+            Ok(plan) => self.plan_head(plan),
+            Err(number) => self.refusal(*number),
         }
     }
 }
@@ -102,6 +120,15 @@ pub fn head_lines(planning: &Result<Plan, Refusal>, out: &mut [u8; 256]) -> usiz
 {
     let mut text = Text { out, at: 0 };
     text.head(planning);
+    text.at
+}
+
+// The same of an answer whose refusal is any number, of a question or not.
+pub fn told_lines(planning: &Result<Plan, u8>, out: &mut [u8; 256]) -> usize
+    ensures { section.LinesPut (section.head_lines (by_number planning.now)) result out.old out.new }
+{
+    let mut text = Text { out, at: 0 };
+    text.told(planning);
     text.at
 }
 

@@ -2,26 +2,26 @@
 use mathlib.Core.Path.{◌≡◌, refl, sym, ap, ◌∙◌}
 use mathlib.Core.Bool.{Bool, true, false, not, cond}
 use mathlib.Core.List.{List, [], ◌∷◌, ◌++◌, map}
-use Prim.Native.Nat.{ℕ, ◌+◌, ◌-◌, ◌≤◌, ◌<◌}
+use Prim.Native.Nat.{ℕ, ◌+◌, ◌-◌, ◌≤◌, ◌<◌, zero, suc}
 use native.Mathlib.Decide.{dec_le}
 use native.Mathlib.Nat.{lt_of_not-le}
 use native.Mathlib.Omega.{arith}
 use lib.Dec.{ltb, eqb}
-use lib.ListN.{length, take, drop, length-map, length-append}
-use lib.Seq.{take_all}
-use Rattle.std.proofs.lemmas.List.{append-nil, take-append-le, take_rest}
+use lib.ListN.{length, take, drop, replicate, length-map, length-append}
+use lib.Seq.{take_all, drop-nil}
+use Rattle.std.proofs.lemmas.List.{append-nil, take-append-le, take_rest, take-map}
 use borrow.Author.Tests.{eq-eqb, ne_eqb, eqb-true, lt-ltb, le-ltb}
 use Rattle.job_records.specs.declared.records.Range.{Range}
 use Rattle.job_records.specs.declared.records.Record.{Record}
 use Rattle.job_records.specs.declared.records.Record.TheVariants.{Area}
 use Rattle.job_records.specs.declared.records.Head.{Head}
-use Rattle.std.specs.Prelude.{Option, Some, None}
+use Rattle.std.specs.Prelude.{Option, Some, None, min}
 use Rattle.job_records.proofs.MarkLaws.{some_place}
 use Rattle.job_records.specs.Records.{AR, mark_before, step, rank, is_end, goes_on, records, marked}
 use Rattle.job_records.specs.Areas.{ranges_in, nowhere, held_ranges, pushed}
 use Rattle.job_records.specs.declared.records.JobAreas.{JobAreas}
 use Rattle.planner_rules.proofs.AreaLists.{held_are, held_more}
-use Rattle.job_walk.specs.Areas.{range_from, areas_from}
+use Rattle.job_walk.specs.Areas.{range_from, areas_held, areas_from}
 use Rattle.job_walk.specs.declared.sorted.SortedJob.{SortedJob}
 use Rattle.job_records.specs.Marks.{place}
 use Rattle.job_walk.specs.Walk.{before, first_of, in_place, Sorted}
@@ -123,19 +123,30 @@ module _ (s : List ℕ) {f : Option Head} (e : f ≡ before (step s)) where
 abbrev pub looked : ℕ → List ℕ → Option Record
 looked k s = first_of (in_place k (records s))
 
--- r is the next of some records, and x its rank: none comes, or it is the one, or the look goes on after it
-pub record Seen (k : ℕ) (r : Record) (rs : List Record) (x : ℕ) : Type 0 where
-  pub past : k < x → None ≡ first_of (in_place k (r ∷ rs))
-  pub here : x ≡ k → Some r ≡ first_of (in_place k (r ∷ rs))
-  pub on : x ≤ k → (x ≡ k → ⊥) → first_of (in_place k rs) ≡ first_of (in_place k (r ∷ rs))
+first_after : (n : ℕ) → (n ≡ 0 → ⊥) → (r : Record) (rs : List Record) → first_of (drop (n - 1) rs) ≡ first_of (drop n (r ∷ rs))
+first_after zero z r rs = absurd (z refl)
+first_after (suc n) z r rs = let j : suc n - 1 ≡ n = omega arith in ap (λ (i : ℕ). first_of (drop i rs)) j
 
-pub look_next : (k : ℕ) (r : Record) (rs : List Record) {x : ℕ} → x ≡ rank r → Seen k r rs x
+-- r is the next of some records, and x its rank, where n of them are to be passed over: none comes, or it is the one, or the look goes on after it
+pub record Seen (k n : ℕ) (r : Record) (rs : List Record) (x : ℕ) : Type 0 where
+  pub past : k < x → None ≡ first_of (drop n (in_place k (r ∷ rs)))
+  pub here : x ≡ k → n ≡ 0 → Some r ≡ first_of (drop n (in_place k (r ∷ rs)))
+  pub after : x ≡ k → (n ≡ 0 → ⊥) → first_of (drop (n - 1) (in_place k rs)) ≡ first_of (drop n (in_place k (r ∷ rs)))
+  pub on : x ≤ k → (x ≡ k → ⊥) → first_of (drop n (in_place k rs)) ≡ first_of (drop n (in_place k (r ∷ rs)))
+
+pub look_next : (k n : ℕ) (r : Record) (rs : List Record) {x : ℕ} → x ≡ rank r → Seen k n r rs x
 unfolding in_place
-look_next k r rs i = record {
-  past = λ l. rw (lt-ltb k (rank r) (omega arith));
-  here = λ l. rw (le-ltb k (rank r) (omega arith), eq-eqb (rank r) k (sym i ∙ l));
+look_next k n r rs i = record {
+  past = λ l. rw (lt-ltb k (rank r) (omega arith), drop-nil n);
+  here = λ l z. rw (le-ltb k (rank r) (omega arith), eq-eqb (rank r) k (sym i ∙ l), z);
+  after = λ l z. rw (le-ltb k (rank r) (omega arith), eq-eqb (rank r) k (sym i ∙ l)) (first_after n z r (in_place k rs));
   on = λ l q. rw (le-ltb k (rank r) (omega arith), ne_eqb (rank r) k (λ u. q (i ∙ u)));
 }
+
+-- no record is left
+pub look_end : (k n : ℕ) → None ≡ first_of (drop n (in_place k []))
+unfolding in_place
+look_end k n = rw (drop-nil n)
 
 -- ---- the record that was found
 
@@ -212,14 +223,38 @@ one_more a b x h e p =
 pub collected_count : (a : JobAreas) → a ≡ held_ranges (ranges_in a) → length (ranges_in a) ≡ a.count
 collected_count a e = sym (ap (λ (z : JobAreas). z.count) e)
 
--- those that were collected are the first eight, where no more are left or they are eight
-pub collected : (xs left all : List Range) → xs ++ left ≡ all → length xs ≤ 8 → left ≡ [] → xs ≡ take 8 all
-collected xs left all e h n =
-    let whole : xs ≡ all = sym (append-nil xs) ∙ ap (λ (ys : List Range). xs ++ ys) (sym n) ∙ e in
-    sym (take_all 8 xs h) ∙ ap (take 8) whole
+-- those that were collected are the first so many, where no more are left or they are so many
+pub collected : (n : ℕ) (xs left all : List Range) → xs ++ left ≡ all → length xs ≤ n → left ≡ [] → xs ≡ take n all
+collected n xs left all e h l =
+    let whole : xs ≡ all = sym (append-nil xs) ∙ ap (λ (ys : List Range). xs ++ ys) (sym l) ∙ e in
+    sym (take_all n xs h) ∙ ap (take n) whole
 
-pub collected_eight : (xs left all : List Range) → xs ++ left ≡ all → length xs ≡ 8 → xs ≡ take 8 all
-collected_eight xs left all e h = sym (take_all 8 xs (omega arith)) ∙ sym (take-append-le 8 xs left (omega arith)) ∙ ap (take 8) e
+pub collected_most : (n : ℕ) (xs left all : List Range) → xs ++ left ≡ all → length xs ≡ n → xs ≡ take n all
+collected_most n xs left all e h = sym (take_all n xs (omega arith)) ∙ sym (take-append-le n xs left (omega arith)) ∙ ap (take n) e
+
+-- what is held of the first eight is what is held of more of them
+first_held : (n c : ℕ) (xs ys : List Range) → n ≤ c → take n (take n xs ++ ys) ≡ take n (take c xs ++ ys)
+first_held zero c xs ys h = refl
+first_held (suc n) zero xs ys h = absurd (omega arith)
+first_held (suc n) (suc c) [] ys h = refl
+first_held (suc n) (suc c) (x ∷ xs) ys h = ap (λ (zs : List Range). x ∷ zs) (first_held n c xs ys (omega arith))
+
+-- those that a count says
+pub held_counted : (c : ℕ) (rs : List Record)
+    → (held_ranges (take (min c 8) (map range_from rs))).ranges ≡ (areas_held c (take c rs)).ranges
+held_counted c rs =
+    let xs = map range_from rs in
+    let blank = replicate 8 nowhere in
+    let held = λ (ys : List Range). take 8 (ys ++ blank) in
+    let is : held (take (min c 8) xs) ≡ held (take c xs) = by (dec_le c 8) in
+    is ∙ ap held (take-map range_from c rs)
+  where
+    by : Dec (c ≤ 8) → take 8 (take (min c 8) (map range_from rs) ++ replicate 8 nowhere) ≡ take 8 (take c (map range_from rs) ++ replicate 8 nowhere)
+    by (yes h) = let e : min c 8 ≡ c = omega (arith, h) in rw e refl
+    by (no h) =
+        let most : 8 ≤ c = omega (arith, lt_of_not-le h) in
+        let e : min c 8 ≡ 8 = omega (arith, most) in
+        rw e (first_held 8 c (map range_from rs) (replicate 8 nowhere) most)
 
 -- in order, and no more than eight, they are the areas of the job
 module _ (job : SortedJob) (few : length (marked AR (records job.bytes.now)) ≤ 8) where

@@ -26,3 +26,7 @@ range_from r = record { first_row = field 0 r; first_column = field 1 r; last_ro
 -- "AR may stand up to eight times"; "in job order"
 abbrev pub areas_from : List Record → JobAreas
 areas_from rs = held_ranges (map range_from rs)
+
+-- the first eight, and a count
+abbrev pub areas_held : ℕ → List Record → JobAreas
+areas_held n rs = record { count = n; ranges = (held_ranges (map range_from rs)).ranges }

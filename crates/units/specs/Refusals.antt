@@ -26,3 +26,8 @@ number_of no.TooManyCells = 15
 abbrev pub outcome : {A : Type 0} → Result A Refusal → Outcome A
 outcome (Ok a) = given a
 outcome (Err r) = refused (number_of r)
+
+-- the same of an answer told by its number: any number, of a question or not
+abbrev pub by_number : {A : Type 0} → Result A ℕ → Outcome A
+by_number (Ok a) = given a
+by_number (Err n) = refused n

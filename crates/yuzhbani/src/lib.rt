@@ -19,7 +19,7 @@ ghost use Rattle.yuzhbani_request.specs.Request.{sheet_requested, areas_from, ar
 ghost use Rattle.yuzhbani.specs.Calls as calls;
 
 use job::{count_job, plan_job, write_job_area};
-use job_report::{Block, area_block, area_line, head_lines, refusal_line};
+use job_report::{Block, area_block, area_line, told_lines};
 use planner::plan_pages;
 use planner_pages::page_numbered;
 use planner_rules::{AxisLists, MergeList, Plan, RunCounts, RunLists, SheetLists, SlotList};
@@ -215,10 +215,7 @@ pub extern "C" fn yuzhbani_head(answer: u8, numbers: &[u64; 60], out: &mut [u8; 
     ensures { LinesPut (head_lines (section.told answer numbers.now))
         result out.old out.new }
 {
-    match told(answer, numbers) {
-        Ok(plan) => head_lines(&Ok(plan), out),
-        Err(number) => refusal_line(number, out),
-    }
+    told_lines(&told(answer, numbers), out)
 }
 
 // The line before the pages of a later area, by its number from 1 and its permille, at the start of `out`; it answers how many bytes.

@@ -1,5 +1,5 @@
 -- The answer of a call, 0 or the number of a refusal, and the array that is lent for its numbers. Assumes nothing.
-use Rattle.std.specs.Prelude.{◌≡◌, List, ℕ, Result, Ok, Err}
+use Rattle.std.specs.Prelude.{◌≡◌, List, ℕ}
 use Rattle.units.specs.Outcome.{Outcome, given, refused}
 use Rattle.planner_rules.specs.declared.pages.Page.{Page}
 use Rattle.planner_rules.specs.declared.pages.Plan.{Plan}
@@ -38,8 +38,3 @@ numbers_of (refused n) old = old
 abbrev pub HadBack : Outcome Plan → Type 0
 HadBack (given p) = plan_from (plan_numbers p) ≡ p
 HadBack (refused n) = Unit {0}
-
--- what an answer stands for that a host told by its number: any number, of a question or not
-abbrev pub by_number : Result Plan ℕ → Outcome Plan
-by_number (Ok p) = given p
-by_number (Err n) = refused n

@@ -2,9 +2,9 @@
 #![tactic(auto)]
 
 ghost use Rattle.std.specs.Prelude.{◌≡◌, ◌≤◌, min};
-ghost use Rattle.units.specs.Refusals.{outcome};
+ghost use Rattle.units.specs.Refusals.{outcome, by_number};
 ghost use Rattle.yuzhbani_answers.specs.Numbers as section;
-ghost use Rattle.yuzhbani_answers.specs.Answers.{answer_to, numbers_of, HadBack, PageHanded, by_number, put_in};
+ghost use Rattle.yuzhbani_answers.specs.Answers.{answer_to, numbers_of, HadBack, PageHanded, put_in};
 
 use planner_rules::{AreaPlan, AreaPlans, NoteNumbers, Notes, Page, PageOrder, Plan};
 use std::array;
@@ -69,6 +69,22 @@ pub fn put_planning(planning: Result<Plan, Refusal>, numbers: &mut [u64; 60]) ->
             0
         }
         Err(refusal) => refusal.number(),
+    }
+}
+
+// The same of an answer whose refusal is any number, of a question or not.
+#[inline(always)]
+pub fn put_told(planning: Result<Plan, u8>, numbers: &mut [u64; 60]) -> u8
+    ensures value { result ≡ answer_to (by_number planning) }
+    ensures numbers_after { numbers.new ≡ numbers_of (by_number planning) numbers.old }
+    ensures had_back { HadBack (by_number planning) }
+{
+    match planning {
+        Ok(plan) => {
+            put_plan(numbers, &plan);
+            0
+        }
+        Err(number) => number,
     }
 }
 
@@ -171,4 +187,17 @@ pub fn put_page(answer: Result<Page, Refusal>, numbers: &mut [u64; 12]) -> u8
     ensures { PageHanded (outcome answer) result numbers.old numbers.new }
 {
     put(answer.map(page_numbers), numbers)
+}
+
+// The same of an answer whose refusal is any number, of a question or not.
+pub fn put_told_page(answer: Result<Page, u8>, numbers: &mut [u64; 12]) -> u8
+    ensures { PageHanded (by_number answer) result numbers.old numbers.new }
+{
+    match answer {
+        Ok(page) => {
+            *numbers = page_numbers(page);
+            0
+        }
+        Err(told) => told,
+    }
 }

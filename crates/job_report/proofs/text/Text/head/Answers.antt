@@ -1,12 +1,9 @@
--- The notes' line stands after the plan's, or the refusal's line stands alone.
-use Rattle.std.proofs.Common.{arith}
+-- A plan's lines are put, or the refusal's line alone.
 use Rattle.job_report.specs.Lines.{head_lines}
-use Rattle.job_report.proofs.TextLaws.{texts_join}
 use Rattle.job_report.proofs.text.Text.head.Goals as goal
 
 pub returns-in-Ok : goal.returns-in-Ok
-unfolding head_lines
-returns-in-Ok c = rw c.in-Ok.is (texts_join (omega arith) c.plan.ensures.put c.notes.ensures)
+returns-in-Ok c = rw c.in-Ok.is c.plan_head.ensures
 
 pub returns-in-Err : goal.returns-in-Err
 unfolding head_lines

@@ -1,17 +1,15 @@
 -- Each turn goes on by a record, and takes it over where it is an area.
-use Rattle.std.proofs.Common.{List, [], ◌++◌, length, refl, sym, ap, ◌∙◌, arith, eqb-true}
-use Rattle.std.proofs.lemmas.Bool.{eqb-false}
+use Rattle.std.proofs.Common.{List, ◌++◌, refl, sym, ap, ◌∙◌, arith}
 use Rattle.std.proofs.lemmas.List.{append_assoc}
-use Rattle.job_records.specs.declared.records.JobAreas.{JobAreas}
 use Rattle.job_records.specs.declared.records.Range.{Range}
 use Rattle.job_records.specs.Areas.{ranges_in, held_ranges}
 use Rattle.job_records.specs.Marks.{place}
 use Rattle.job_records.specs.declared.marks.Mark.TheVariants.{Area}
 use Rattle.job_records.proofs.MarkLaws.{later_place, no_later_place}
 use Rattle.job_walk.specs.Walk.{in_place}
-use Rattle.job_walk.proofs.WalkLaws.{ranges_left, area_past, area_here, area_on, collected, collected_eight, collected_count, one_more}
-use Rattle.job_walk.proofs.areas_of.Goals as goal
-use Rattle.job_walk.proofs.areas_of.Goals.{then-gt-via-then-gt, then-gt-via-else-gt+then-areas-eq8}
+use Rattle.job_walk.proofs.WalkLaws.{ranges_left, area_past, area_here, area_on, collected, collected_most, collected_count, one_more}
+use Rattle.job_walk.proofs.first_areas.Goals as goal
+use Rattle.job_walk.proofs.first_areas.Goals.{then-gt-via-then-gt, then-gt-via-else-gt+then-areas-most}
 
 pub returns-then-gt : goal.returns-then-gt
 returns-then-gt c =
@@ -21,18 +19,18 @@ returns-then-gt c =
       | then-gt-via-then-gt w ↦
           let past = later_place c.mark.result Area (sym c.gt.ensures ∙ w.if-gt.true) in
           let none = ap ranges_left c.in-Some.ensures.steps ∙ area_past c.in-Some.found _ (omega (arith, past, ap place c.mark.ensures)) in
-          collected _ _ _ l.4 (omega (arith, few, l.2)) none
-      | then-gt-via-else-gt+then-areas-eq8 w ↦ collected_eight _ _ _ l.4 (few ∙ w.if-areas-eq8.true)
+          collected _ _ _ _ l.4 (omega (arith, few, l.2)) none
+      | then-gt-via-else-gt+then-areas-most w ↦ collected_most _ _ _ _ l.4 (few ∙ w.if-areas-most.true)
     ])
 
 pub loop-found-preserved-in-Area : goal.loop-found-preserved-in-Area
 loop-found-preserved-in-Area c =
     let l = c.loop-found.invariant in
     let next = ap ranges_left c.in-Some.ensures.steps ∙ area_here c.in-Some.found _ c.in-Area.cells c.in-Area.is in
-    let more = one_more c.loop-found.areas _ c.in-Area.cells (omega (arith, l.2)) l.3 c.push.ensures in (
+    let more = one_more c.loop-found.areas _ c.in-Area.cells (omega (arith, l.2)) l.3 refl in (
       tt,
       tt,
-      omega (arith, l.2, ap (λ (z : JobAreas). z.count) c.push.ensures),
+      omega (arith, l.2),
       more.0,
       rw more.1 (append_assoc (ranges_in c.loop-found.areas) _ _ ∙ ap (λ (rs : List Range). ranges_in c.loop-found.areas ++ rs) (sym next) ∙ l.4),
     )
@@ -49,4 +47,4 @@ unfolding in_place
 returns-in-None c =
     let l = c.loop-found.invariant in
     let few = collected_count c.loop-found.areas l.3 in
-    l.3 ∙ ap held_ranges (collected _ _ _ l.4 (omega (arith, few, l.2)) (ap ranges_left c.in-None.ensures.steps.0))
+    l.3 ∙ ap held_ranges (collected _ _ _ _ l.4 (omega (arith, few, l.2)) (ap ranges_left c.in-None.ensures.steps.0))
