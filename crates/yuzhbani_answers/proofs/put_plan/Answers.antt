@@ -22,7 +22,7 @@ loop-k-preserved c =
         wide,
         l.invariant.put,
         c.copy_from_slice-in-loop-k.ensures.after,
-        c.area_numbers.ensures.value
+        c.area_numbers.ensures.value,
       ) (area_put p l.k (omega arith));
       back = below_more _ _ l.invariant.back c.area_numbers.ensures.area_back;
     }
