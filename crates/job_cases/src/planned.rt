@@ -95,7 +95,7 @@ impl RunVecs {
             let Some(spot) = page_spot(plan, number) else {
                 break;
             };
-            let Some(area) = plan.areas.get(spot.area).copied() else {
+            let Some(area) = plan.areas.as_slice().get(spot.area).copied() else {
                 break;
             };
             if spot.before == 0 {

@@ -12,7 +12,8 @@ use units::Refusal;
 fn first_permille(plan: &Plan) -> u16
     ensures { result ≡ section.first_permille plan.now }
 {
-    plan.areas.as_slice().first().map_or(0, |area| area.permille)
+    let areas = plan.areas.as_slice();
+    areas.first().map_or(0, |area| area.permille)
 }
 
 impl Text<'_> {

@@ -213,7 +213,7 @@ one_more a b x h e p =
     let xs = ranges_in a in
     let long : length xs < 8 = omega (arith, ap (λ (z : JobAreas). z.count) e) in
     let count : length xs + 1 ≡ length (xs ++ x ∷ []) = omega (arith, length-append xs (x ∷ [])) in
-    let ranges = held_more nowhere xs x long in
+    let ranges = held_more nowhere xs x in
     let next : pushed (held_ranges xs) x ≡ held_ranges (xs ++ x ∷ []) = λ i. record { count = count i; ranges = ranges i } in
     let more : b ≡ held_ranges (xs ++ x ∷ []) = p ∙ ap (λ (z : JobAreas). pushed z x) e ∙ next in
     let is : ranges_in b ≡ xs ++ x ∷ [] = ap ranges_in more ∙ held_are nowhere (xs ++ x ∷ []) (omega (arith, count)) in

@@ -25,15 +25,16 @@ fn read_area(fields: &mut Fields) -> Result<AreaPlan, Fault> {
     })
 }
 
-// What so many areas came to, of which some are read and the others have no runs; of more than eight, the first eight.
+// What so many areas came to, of which some are read and the others have no runs; of more than eight, the first eight are meant.
 fn read_areas(fields: &mut Fields, read: u8, count: u64) -> Result<AreaPlans, Fault> {
-    let mut areas = [AreaPlan::default(); 8];
-    for area in areas.iter_mut().take(usize::from(read)) {
+    let mut plans = [AreaPlan::default(); 8];
+    for area in plans.iter_mut().take(usize::from(read)) {
         *area = read_area(fields)?;
     }
-    let mut areas = AreaPlans::from(areas);
-    areas.truncate(count as usize);
-    Ok(areas)
+    Ok(AreaPlans {
+        count: count as usize,
+        plans,
+    })
 }
 
 #[derive(Drop)]

@@ -79,10 +79,10 @@ impl fmt::Display for PlanText {
         write!(
             f,
             "plan {} {pages} {order}{}",
-            areas.len(),
+            areas.count,
             NotesText(*notes)
         )?;
-        for area in areas {
+        for area in areas.as_slice() {
             write!(f, "{}", AreaText(*area))?;
         }
         Ok(())

@@ -2,7 +2,7 @@
 use mathlib.Core.Path.{◌≡◌, refl, sym, ap, ◌∙◌, subst}
 use mathlib.Core.Bool.{Bool, true}
 use mathlib.Core.List.{List, [], ◌∷◌, ◌++◌, map, append_assoc}
-use Prim.Native.Nat.{ℕ, zero, suc, ◌+◌, ◌-◌, ◌*◌, ◌≤◌, ◌<◌}
+use Prim.Native.Nat.{ℕ, zero, suc, ◌+◌, ◌-◌, ◌*◌, ◌≤◌}
 use native.Mathlib.Omega.{arith}
 use lib.ListN.{length, take, drop, set, replicate, length-append}
 use lib.Seq.{drop-drop, drop_at, take-append_seam}
@@ -24,16 +24,14 @@ module _ {A : Type 0} (d : A) where
   pub held_are : (xs : List A) → length xs ≤ 8 → take (length xs) (take 8 (xs ++ replicate 8 d)) ≡ xs
   held_are xs h = take-take (length xs) 8 (xs ++ replicate 8 d) h ∙ take-append_seam xs (replicate 8 d)
 
-  -- one more, at the first place that is free
-  put : (n m : ℕ) (xs : List A) (x : A) → length xs < n → n ≤ m
-      → set (take n (xs ++ replicate m d)) (length xs) x ≡ take n ((xs ++ x ∷ []) ++ replicate m d)
-  put zero m xs x h l = absurd (omega arith)
-  put (suc n) m [] x h l = rw (take-replicate (suc n) m d l, take-replicate n m d (omega arith)) refl
-  put (suc n) m (y ∷ ys) x h l = ap (λ (zs : List A). y ∷ zs) (put n m ys x (omega arith) (omega arith))
+  -- one more, at the first place that is free, if there is one
+  put : (n m : ℕ) (xs : List A) (x : A) → n ≤ m → set (take n (xs ++ replicate m d)) (length xs) x ≡ take n ((xs ++ x ∷ []) ++ replicate m d)
+  put zero m xs x l = refl
+  put (suc n) m [] x l = rw (take-replicate (suc n) m d l, take-replicate n m d (omega arith)) refl
+  put (suc n) m (y ∷ ys) x l = ap (λ (zs : List A). y ∷ zs) (put n m ys x (omega arith))
 
-  pub held_more : (xs : List A) (x : A) → length xs < 8
-      → set (take 8 (xs ++ replicate 8 d)) (length xs) x ≡ take 8 ((xs ++ x ∷ []) ++ replicate 8 d)
-  held_more xs x h = put 8 8 xs x h (omega arith)
+  pub held_more : (xs : List A) (x : A) → set (take 8 (xs ++ replicate 8 d)) (length xs) x ≡ take 8 ((xs ++ x ∷ []) ++ replicate 8 d)
+  held_more xs x = put 8 8 xs x (omega arith)
 
 -- ---- one of a list by its number
 

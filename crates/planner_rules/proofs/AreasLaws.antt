@@ -4,7 +4,7 @@ use mathlib.Core.List.{List, [], ◌∷◌, ◌++◌, map}
 use Prim.Native.Nat.{ℕ, ◌+◌, ◌<◌}
 use native.Mathlib.Numerals.{add-one}
 use native.Mathlib.Omega.{arith}
-use lib.ListN.{length, get_or, take, length-map, length-append, length-take}
+use lib.ListN.{length, get_or, take, length-append}
 use lib.Seq.{take-suc}
 use Rattle.planner_rules.specs.declared.pages.AreaPlan.{AreaPlan}
 use Rattle.planner_rules.specs.declared.planning.PrintRange.{PrintRange}
@@ -40,17 +40,17 @@ few_none = record {
 }
 
 -- areas as a plan holds them, and one more
-plans_more : (xs : List AreaPlan) (x : AreaPlan) → length xs < 8 → pushed (held_plans xs) x ≡ held_plans (xs ++ x ∷ [])
-plans_more xs x h =
+plans_more : (xs : List AreaPlan) (x : AreaPlan) → pushed (held_plans xs) x ≡ held_plans (xs ++ x ∷ [])
+plans_more xs x =
     let count : length xs + 1 ≡ length (xs ++ x ∷ []) = omega (arith, length-append xs (x ∷ [])) in
-    let plans = held_more no_plan xs x h in
+    let plans = held_more no_plan xs x in
     λ i. record { count = count i; plans = plans i }
 
 -- one more
-counted_more : (ls : List AreaLayout) (l : AreaLayout) (r : CountedAreas) → length ls < 8 → Added r (counted_of ls) l.counted → r ≡ counted_of (ls ++ l ∷ [])
-counted_more ls l r h w =
+counted_more : (ls : List AreaLayout) (l : AreaLayout) (r : CountedAreas) → Added r (counted_of ls) l.counted → r ≡ counted_of (ls ++ l ∷ [])
+counted_more ls l r w =
     let areas : r.areas ≡ held_plans (map plan_in (ls ++ l ∷ [])) =
-    w.plans_are ∙ plans_more (map plan_in ls) (plan_in l) (omega (arith, length-map ls plan_in)) ∙ ap held_plans (sym (map_push plan_in ls l)) in
+    w.plans_are ∙ plans_more (map plan_in ls) (plan_in l) ∙ ap held_plans (sym (map_push plan_in ls l)) in
     let sums : (f : AreaLayout → ℕ) (n : ℕ) → n ≡ over_areas f ls + f l → n ≡ over_areas f (ls ++ l ∷ []) = λ f n e. e ∙ sym (over_more f ls l) in
     let note : (f : AreaNotes → ℕ) (n : ℕ) → n ≡ noted f ls + f l.counted.notes → n ≡ noted f (ls ++ l ∷ []) =
     λ f n e. sums (λ (k : AreaLayout). f k.counted.notes) n e in
@@ -79,12 +79,11 @@ counted_more ls l r h w =
 
 module _ (c : Sides) (s : Sheet) (gs : List PrintRange) (k : ℕ) (g : PrintRange) (h : k < length gs) (e : g ≡ get_or gs k no_range) where
   -- the area after the first k is counted
-  pub counted_next : k < 8 → (all r : CountedAreas) (a : CountedArea) → all ≡ counted_of (layouts_of c s (take k gs)) → a ≡ (area_layout c s g).counted
+  pub counted_next : (all r : CountedAreas) (a : CountedArea) → all ≡ counted_of (layouts_of c s (take k gs)) → a ≡ (area_layout c s g).counted
       → Added r all a → r ≡ counted_of (layouts_of c s (take (k + 1) gs))
-  counted_next few all r a ea eg w =
+  counted_next all r a ea eg w =
       let ls = layouts_of c s (take k gs) in
       let next : layouts_of c s (take (k + 1) gs) ≡ ls ++ area_layout c s g ∷ [] =
       rw (add-one, take-suc gs k no_range h, ← e) (map_push (area_layout c s) (take k gs) g) in
       let added : Added r (counted_of ls) (area_layout c s g).counted = rw (← ea, ← eg) w in
-      let long : length ls < 8 = omega (arith, length-map (take k gs) (area_layout c s), length-take k gs) in
-      counted_more ls (area_layout c s g) r long added ∙ ap counted_of (sym next)
+      counted_more ls (area_layout c s g) r added ∙ ap counted_of (sym next)

@@ -204,7 +204,7 @@ module _ (s : Sheet) (areas : List PrintRange) (plan : Plan) (rows columns : Lis
   abbrev came : PrintRange → AreaPlan
   came g = plan_in (area_layout c s g)
 
-  plans_are : (plans_in plan.areas) ≡ map plan_in (layouts_of c s gs)
+  plans_are : plans_in plan.areas ≡ map plan_in (layouts_of c s gs)
   unfolding plan_of
   plans_are =
       ap (λ (x : Plan). plans_in x.areas) (sym d.plan_is)

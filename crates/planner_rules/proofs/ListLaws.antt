@@ -29,7 +29,7 @@ use Rattle.planner_rules.proofs.PagesCode.{rooms_of}
 
 module _ (p : Plan) where
   abbrev areas : List AreaPlan
-  areas = (plans_in p.areas)
+  areas = plans_in p.areas
 
   -- by where the walk ends that takes off as many pages as the plan says
   pub count_within : (s : Spot) → walk_from 0 p.pages areas ≡ Ok s → p.pages ≡ page_count p

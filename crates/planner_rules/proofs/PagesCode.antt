@@ -85,7 +85,7 @@ module _ (order : PageOrder) (a : AreaPlan) (rows columns : List ℕ) (n : ℕ) 
 
 module _ (p : Plan) (n : ℕ) where
   abbrev areas : List AreaPlan
-  areas = (plans_in p.areas)
+  areas = plans_in p.areas
 
   abbrev end : Result Spot ℕ
   end = walk_from 0 (n - 1) areas

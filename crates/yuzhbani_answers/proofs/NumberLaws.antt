@@ -2,9 +2,9 @@
 use mathlib.Core.Path.{◌≡◌, refl}
 use mathlib.Core.Bool.{Bool, true, false}
 use mathlib.Core.List.{List, [], ◌∷◌, ◌++◌}
-use Prim.Native.Nat.{ℕ, zero, suc, ◌+◌, ◌*◌, ◌≤◌, ◌<◌, min}
+use Prim.Native.Nat.{ℕ, zero, suc, ◌+◌, ◌*◌, ◌<◌, min}
 use native.Mathlib.Omega.{arith}
-use lib.ListN.{length, take, replicate}
+use lib.ListN.{length, replicate}
 use borrow.Rule.Slice.PartMut.{put_mid}
 use mir.Val.{bool_byte}
 use Rattle.planner_rules.specs.declared.pages.PageOrder.{PageOrder}
@@ -13,7 +13,6 @@ use Rattle.planner_rules.specs.declared.pages.AreaPlan.{AreaPlan}
 use Rattle.planner_rules.specs.declared.pages.Plan.{Plan}
 use Rattle.yuzhbani_answers.specs.Numbers.{bit, area_at, eight_areas, order_number, is_set, order_from, plan_numbers, area_from}
 use Rattle.planner_rules.specs.Pages.{note_numbers}
-use Rattle.planner_rules.proofs.Laws.{split}
 use Rattle.yuzhbani_answers.specs.Numbers.{area_numbers, numbers_up_to}
 use Rattle.yuzhbani_answers.specs.Numbers.{areas_from, plan_from, AreaBack, AllBack}
 

@@ -1,5 +1,5 @@
 -- The head and the areas are the numbers of the plan, which is had back from them.
-use Rattle.std.proofs.Common.{◌≡◌, refl, ap, ◌∙◌, ◌≤◌, ◌-◌, ◌+◌, ◌*◌, below_more, length, rules, arith}
+use Rattle.std.proofs.Common.{◌≡◌, ◌∙◌, ◌-◌, ◌+◌, ◌*◌, below_more, length, rules, arith}
 use Rattle.yuzhbani_answers.proofs.NumberLaws.{plan_back, front_put, area_put, all_put}
 use Rattle.yuzhbani_answers.proofs.put_plan.Goals as goal
 
@@ -22,7 +22,7 @@ loop-k-preserved c =
         wide,
         l.invariant.put,
         c.copy_from_slice-in-loop-k.ensures.after,
-        c.area_numbers.ensures.value
+        c.area_numbers.ensures.value,
       ) (area_put p l.k (omega arith));
       back = below_more _ _ l.invariant.back c.area_numbers.ensures.area_back;
     }

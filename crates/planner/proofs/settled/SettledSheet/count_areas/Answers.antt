@@ -44,7 +44,7 @@ loop-range-preserved c =
     record {
       within = omega arith;
       counted =
-          counted_next (sides_in a.shared.now) _ a.areas.now l.range-index _ (omega arith) refl (omega (arith, a.fine.few)) l.all _ _ l.invariant.counted
+          counted_next (sides_in a.shared.now) _ a.areas.now l.range-index _ (omega arith) refl l.all _ _ l.invariant.counted
           (rw (of.sheet_is, of.range_is) at c.count.ensures.counted) c.add_area.ensures.added;
       few = c.add_area.ensures.few_added;
     }

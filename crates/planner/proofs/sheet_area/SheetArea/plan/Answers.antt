@@ -33,7 +33,7 @@ module _ (x : Shared) (s : Sheet) (g : PrintRange) (k : CountedArea) (e : k ≡ 
   scale = chosen_scale s.settings (sides_in x) (rows_in s g) (columns_in s g)
 
   all_counted : (none r : CountedAreas) → none ≡ counted_of [] → Added r none k → r ≡ counted_of (layouts_of (sides_in x) s (g ∷ []))
-  all_counted none r q w = counted_next (sides_in x) s (g ∷ []) 0 g (omega arith) refl (omega arith) none r k q e w
+  all_counted none r q w = counted_next (sides_in x) s (g ∷ []) 0 g (omega arith) refl none r k q e w
 
   came_to : k.area ≡ plan_in laid
   came_to = ap (λ (c : CountedArea). c.area) e
