@@ -5,11 +5,17 @@
 //     p   planner::plan_pages; the lent lists are answered whole, and then pages by planner_pages::page_numbered, each after a `;` and its number
 //     n   planner_pages::page_numbered, of a plan that is not as it was answered
 use crate::axes::{RunsCase, TitleCase};
-use crate::fields::{Fault, Fields};
+use crate::fields::{Fault, read_byte, read_end};
 use crate::numbered::PageCase;
 use crate::plans::PlanCase;
-use std::alloc::Global;
-use std::io::{self, BufRead, Write};
+use arrayvec::ArrayVec;
+use std::io::Write;
+
+// Standard output.
+const STDOUT: i32 = 1;
+
+// The bytes that an answer has room for.
+const LINE: usize = 8192;
 
 #[derive(Drop)]
 enum Case {
@@ -21,50 +27,46 @@ enum Case {
 }
 
 impl Case {
-    fn read(alloc: Global, line: &[u8]) -> Result<Self, Fault> {
-        let line = line.strip_suffix(b"\n").ok_or(Fault::BadLine)?;
-        let (letter, rest) = line.split_first().ok_or(Fault::BadLine)?;
-        let mut fields = Fields::new(alloc, rest);
+    // Reads what follows a letter.
+    fn read(letter: u8) -> Result<Self, Fault> {
         let case = match letter {
-            b't' => Self::Title(TitleCase::read(&mut fields)?),
-            b'r' => Self::Runs(RunsCase::read(&mut fields)?),
-            b'p' => Self::Plan(PlanCase::read(&mut fields)?),
-            b'n' => Self::Page(PageCase::read(&mut fields)?),
+            b't' => Self::Title(TitleCase::read()?),
+            b'r' => Self::Runs(RunsCase::read()?),
+            b'p' => Self::Plan(PlanCase::read()?),
+            b'n' => Self::Page(PageCase::read()?),
             _ => Self::BadLetter,
         };
-        fields.end()?;
+        read_end()?;
         Ok(case)
     }
 
-    fn answer<W: Write>(self, alloc: Global, out: &mut W) -> io::Result<()> {
+    fn answer<W: Write>(self, out: &mut W) -> std::io::Result<()> {
         match self {
             Self::Title(case) => case.answer(out),
             Self::Runs(mut case) => case.answer(out),
-            Self::Plan(mut case) => case.answer(alloc, out),
+            Self::Plan(mut case) => case.answer(out),
             Self::Page(case) => case.answer(out),
             Self::BadLetter => writeln!(out, "bad letter"),
         }
     }
 }
 
-// Answers line after line, up to the first that is none.
-pub(crate) fn answer_all<R: BufRead, W: Write>(
-    alloc: Global,
-    lines: &mut R,
-    out: &mut W,
-) -> io::Result<()> {
-    let mut line = Vec::new(alloc);
+// Answers line after line, up to the first that is none. No more is read than a line's letter and lengths say, and a line is answered before
+// the next is read.
+pub(crate) fn answer_all() {
+    io::write_all(STDOUT, b"list\n");
     // Nothing says that the input ends, so the loop counts its turns, up to a number that no run reaches.
     for _ in 0..u64::MAX {
-        line.clear();
-        if lines.read_until(b'\n', &mut line)? == 0 {
+        let Some(letter) = read_byte() else {
             break;
-        }
-        match Case::read(alloc, &line) {
-            Ok(case) => case.answer(alloc, out)?,
-            Err(Fault::OutOfMemory(error)) => return Err(error.into()),
-            Err(fault) => return writeln!(out, "{fault}"),
-        }
+        };
+        let Ok(case) = Case::read(letter) else {
+            io::write_all(STDOUT, b"bad line\n");
+            break;
+        };
+        let mut line = ArrayVec::<u8, LINE>::new();
+        // What does not fit is left out.
+        let _ = case.answer(&mut line);
+        io::write_all(STDOUT, &line);
     }
-    Ok(())
 }
