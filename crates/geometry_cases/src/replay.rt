@@ -187,7 +187,7 @@ pub(crate) fn answer_all() {
             break;
         }
         let mut out = ArrayVec::<u8, ANSWER>::new();
-        // It fits: an answer has at most eight numbers.
+        // It fits: an answer has at most seven numbers.
         let _ = match read(&line) {
             Some(case) => answer(&mut out, case),
             None => writeln!(out, "bad line"),

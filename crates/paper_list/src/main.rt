@@ -5,8 +5,8 @@
 mod lists;
 mod standard;
 
-use lists::{Finding, Tally};
 use arrayvec::ArrayVec;
+use lists::{Finding, Tally};
 use std::io::Write;
 
 // Standard output.

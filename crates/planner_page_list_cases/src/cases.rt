@@ -195,6 +195,7 @@ impl Case<'_> {
     }
 }
 
+// Says what each case comes to, one after another.
 pub(crate) fn say_all() {
     for case in &CASES {
         let mut said = ArrayVec::<u8, SAID>::new();
