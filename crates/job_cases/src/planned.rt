@@ -41,12 +41,19 @@ fn print_page<W: Write>(number: u64, page: Page, out: &mut W) -> io::Result<()> 
 
 // The lists that the runs of each area are written to in turn.
 #[derive(Drop)]
-struct Runs {
+pub(crate) struct Runs {
     rows: [u64; NUMBERS],
     columns: [u64; NUMBERS],
 }
 
 impl Runs {
+    pub(crate) fn new() -> Self {
+        Self {
+            rows: [0; NUMBERS],
+            columns: [0; NUMBERS],
+        }
+    }
+
     // Writes the line of the area of a page, and its runs to the lists.
     fn begin_area<W: Write>(
         &mut self,
@@ -97,19 +104,15 @@ impl Runs {
         }
         Ok(())
     }
-}
 
-// Prints what `plan` prints for a job's bytes, and an empty line.
-pub(crate) fn print_plan<W: Write>(job: &[u8], out: &mut W) -> io::Result<()> {
-    let planning = count_job(job);
-    print_head(&planning, out)?;
-    if let Ok(plan) = planning {
-        let mut runs = Runs {
-            rows: [0; NUMBERS],
-            columns: [0; NUMBERS],
-        };
-        runs.print_pages(job, &plan, out)?;
+    // Prints what `plan` prints for a job's bytes, and an empty line.
+    pub(crate) fn print_plan<W: Write>(&mut self, job: &[u8], out: &mut W) -> io::Result<()> {
+        let planning = count_job(job);
+        print_head(&planning, out)?;
+        if let Ok(plan) = planning {
+            self.print_pages(job, &plan, out)?;
+        }
+        writeln!(out)?;
+        out.flush()
     }
-    writeln!(out)?;
-    out.flush()
 }

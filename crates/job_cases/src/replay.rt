@@ -1,7 +1,7 @@
 // Answers lines of input. A line is the number of a job's bytes as eight hexadecimal digits, the bytes as two digits each, and a line end. No
 // more is read than these lengths say, and a job is answered before the next line is read.
 use crate::block::{Block, STDOUT};
-use crate::planned::print_plan;
+use crate::planned::Runs;
 use arrayvec::ArrayVec;
 use hexadecimal::bits;
 use job_questions::MOST_BYTES;
@@ -15,8 +15,8 @@ const MOST: usize = MOST_BYTES + 1;
 // Two digits for each byte, and a line end.
 const TEXT: usize = 2 * MOST + 1;
 
-// Reads the rest of a line, and answers the job's bytes, of which there are so many, if it ends where it has to.
-fn read_job(count: u64, text: &mut [u8; TEXT]) -> Option<ArrayVec<u8, MOST>> {
+// Reads the rest of a line, and the bytes of its job, of which there are so many, if it ends where it has to.
+fn read_job(count: u64, text: &mut [u8; TEXT], job: &mut ArrayVec<u8, MOST>) -> Option<()> {
     if count > MOST as u64 {
         return None;
     }
@@ -26,14 +26,15 @@ fn read_job(count: u64, text: &mut [u8; TEXT]) -> Option<ArrayVec<u8, MOST>> {
     }
     let digits = text[..length].strip_suffix(b"\n")?;
     let bytes = digits.chunks_exact(2).map(|pair| (bits(pair) & 0xff) as u8);
-    let mut job = ArrayVec::new();
-    let _fits = job.extend(bytes);
-    Some(job)
+    job.clear();
+    job.extend(bytes).ok()
 }
 
 // Answers line after line, up to the first that is none.
 pub(crate) fn answer_all() {
     let mut text = [0; TEXT];
+    let mut job = ArrayVec::new();
+    let mut runs = Runs::new();
     let mut out = Block::new();
     // Nothing says that the input ends, so the loop counts its turns, up to a number that no run reaches.
     for _ in 0..u64::MAX {
@@ -41,11 +42,11 @@ pub(crate) fn answer_all() {
         if io::read_full(STDIN, &mut count) == 0 {
             break;
         }
-        let Some(job) = read_job(bits(&count), &mut text) else {
+        if read_job(bits(&count), &mut text, &mut job).is_none() {
             io::write_all(STDOUT, b"bad line\n");
             break;
-        };
+        }
         // A block takes all that it is given.
-        let _ = print_plan(&job, &mut out);
+        let _ = runs.print_plan(&job, &mut out);
     }
 }
