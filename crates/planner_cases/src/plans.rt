@@ -184,12 +184,15 @@ fn read_ranges(count: u8) -> Result<List<PrintRange>, Fault> {
     let last_columns = read_list(count)?;
     let firsts = first_rows.into_iter().zip(first_columns);
     let lasts = last_rows.into_iter().zip(last_columns);
-    let ranges = firsts.zip(lasts).map(|((first_row, first_column), (last_row, last_column))| PrintRange {
-            first_row,
-            first_column,
-            last_row,
-            last_column,
-        });
+    let ranges = firsts.zip(lasts).map(|(
+        (first_row, first_column),
+        (last_row, last_column),
+    )| PrintRange {
+        first_row,
+        first_column,
+        last_row,
+        last_column,
+    });
     let mut list = List::new();
     let _fits = list.extend(ranges);
     Ok(list)

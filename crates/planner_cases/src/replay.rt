@@ -55,6 +55,7 @@ impl Case {
 // the next is read.
 pub(crate) fn answer_all() {
     io::write_all(STDOUT, b"list\n");
+    let mut line = ArrayVec::<u8, LINE>::new();
     // Nothing says that the input ends, so the loop counts its turns, up to a number that no run reaches.
     for _ in 0..u64::MAX {
         let Some(letter) = read_byte() else {
@@ -64,7 +65,7 @@ pub(crate) fn answer_all() {
             io::write_all(STDOUT, b"bad line\n");
             break;
         };
-        let mut line = ArrayVec::<u8, LINE>::new();
+        line.clear();
         // What does not fit is left out.
         let _ = case.answer(&mut line);
         io::write_all(STDOUT, &line);

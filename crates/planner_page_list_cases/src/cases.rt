@@ -13,7 +13,7 @@ use units::Refusal;
 const STDOUT: i32 = 1;
 
 // The bytes that what is said of a plan has room for.
-const SAID: usize = 4096;
+const SAID: usize = 1024;
 
 // The sizes of the slots of an axis, of which there are at most five.
 const SIZES: [u64; 5] = [400_000; 5];

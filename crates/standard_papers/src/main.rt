@@ -126,17 +126,18 @@ fn write_paper<W: Write>(out: &mut W, code: u16, landscape: bool) -> std::io::Re
     write_limits(out, paper, 0.0, 1.0000000000000002)
 }
 
-// Prints the lines of a paper.
-fn print_paper(code: u16, landscape: bool) {
-    let mut lines = ArrayVec::<u8, LINES>::new();
+// Prints the lines of a paper, which stand where those of the paper before stood.
+fn print_paper(lines: &mut ArrayVec<u8, LINES>, code: u16, landscape: bool) {
+    lines.clear();
     // They fit: 23 lines of at most eight numbers.
-    let _ = write_paper(&mut lines, code, landscape);
-    io::write_all(STDOUT, &lines);
+    let _ = write_paper(lines, code, landscape);
+    io::write_all(STDOUT, lines);
 }
 
 fn main() {
+    let mut lines = ArrayVec::new();
     for code in CODES {
-        print_paper(code, false);
-        print_paper(code, true);
+        print_paper(&mut lines, code, false);
+        print_paper(&mut lines, code, true);
     }
 }
