@@ -40,11 +40,12 @@ impl Case {
         Ok(case)
     }
 
-    fn answer<W: Write>(self, out: &mut W) -> std::io::Result<()> {
+    // By reference: a case that is moved costs its room each time.
+    fn answer<W: Write>(&mut self, out: &mut W) -> std::io::Result<()> {
         match self {
             Self::Title(case) => case.answer(out),
-            Self::Runs(mut case) => case.answer(out),
-            Self::Plan(mut case) => case.answer(out),
+            Self::Runs(case) => case.answer(out),
+            Self::Plan(case) => case.answer(out),
             Self::Page(case) => case.answer(out),
             Self::BadLetter => writeln!(out, "bad letter"),
         }
@@ -61,7 +62,7 @@ pub(crate) fn answer_all() {
         let Some(letter) = read_byte() else {
             break;
         };
-        let Ok(case) = Case::read(letter) else {
+        let Ok(mut case) = Case::read(letter) else {
             io::write_all(STDOUT, b"bad line\n");
             break;
         };
