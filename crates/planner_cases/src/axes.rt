@@ -96,6 +96,8 @@ pub(crate) struct TitleCase {
 }
 
 impl TitleCase {
+    // Not inlined: its room is paid for at each line of the other letters then.
+    #[inline(never)]
     pub(crate) fn read() -> Result<Self, Fault> {
         let head = Head::read()?;
         Ok(Self {
@@ -126,6 +128,8 @@ pub(crate) struct RunsCase {
 }
 
 impl RunsCase {
+    // Not inlined: its room is paid for at each line of the other letters then.
+    #[inline(never)]
     pub(crate) fn read() -> Result<Self, Fault> {
         let head = Head::read()?;
         let lengths = head.lengths;

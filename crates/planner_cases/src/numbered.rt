@@ -50,6 +50,8 @@ pub(crate) struct PageCase {
 }
 
 impl PageCase {
+    // Not inlined: its room is paid for at each line of the other letters then.
+    #[inline(never)]
     pub(crate) fn read() -> Result<Self, Fault> {
         let head = read_part(HEAD);
         let mut fields = Fields::new(&head);

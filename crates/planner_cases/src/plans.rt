@@ -236,6 +236,8 @@ pub(crate) struct PlanCase {
 }
 
 impl PlanCase {
+    // Not inlined: its room is paid for at each line of the other letters then.
+    #[inline(never)]
     pub(crate) fn read() -> Result<Self, Fault> {
         let (asked, lengths) = Asked::read()?;
         let ranges = read_ranges(lengths.areas)?;
