@@ -9,6 +9,7 @@
 use crate::fields::{Fault, Fields, List, read_list, read_part};
 use crate::lent::{ROWS, Runs, numbers_from};
 use crate::lists::Lists;
+use crate::replay::Case;
 use crate::text::{Answer, Numbers, RunCount, WidenedTitle};
 use planner::partition_axis_with_breaks;
 use planner_rules::{Axis, AxisSetup, MergeList, Title};
@@ -95,10 +96,8 @@ pub(crate) struct TitleCase {
     merge_lasts: List<u32>,
 }
 
-impl TitleCase {
-    // Not inlined: its room is paid for at each line of the other letters then.
-    #[inline(never)]
-    pub(crate) fn read() -> Result<Self, Fault> {
+impl Case for TitleCase {
+    fn read() -> Result<Self, Fault> {
         let head = Head::read()?;
         Ok(Self {
             axis: head.axis,
@@ -108,7 +107,7 @@ impl TitleCase {
         })
     }
 
-    pub(crate) fn answer<W: Write>(&self, out: &mut W) -> io::Result<()> {
+    fn answer<W: Write>(&mut self, out: &mut W) -> io::Result<()> {
         let merges = MergeList {
             firsts: &self.merge_firsts,
             lasts: &self.merge_lasts,
@@ -127,10 +126,8 @@ pub(crate) struct RunsCase {
     runs: Runs,
 }
 
-impl RunsCase {
-    // Not inlined: its room is paid for at each line of the other letters then.
-    #[inline(never)]
-    pub(crate) fn read() -> Result<Self, Fault> {
+impl Case for RunsCase {
+    fn read() -> Result<Self, Fault> {
         let head = Head::read()?;
         let lengths = head.lengths;
         Ok(Self {
@@ -148,7 +145,7 @@ impl RunsCase {
     }
 
     // Cuts, which writes the runs to the lent list, and answers that whole.
-    pub(crate) fn answer<W: Write>(&mut self, out: &mut W) -> io::Result<()> {
+    fn answer<W: Write>(&mut self, out: &mut W) -> io::Result<()> {
         let lists = self.lists.lend();
         let tally = partition_axis_with_breaks(self.axis, self.setup, lists, &mut self.runs);
         let runs = Numbers(&self.runs);

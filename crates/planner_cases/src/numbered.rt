@@ -9,6 +9,7 @@
 // digits for each field. After it each area has 2 rows empty, columns empty, and 16 row runs, column runs; what is not there is 0.
 use crate::fields::{Fault, Fields, read_part};
 use crate::lent::{Runs, marked_from};
+use crate::replay::Case;
 use crate::text::numbered_page;
 use planner_rules::{AreaPlan, AreaPlans, Notes, PageOrder, Plan, RunLists};
 use std::io::{self, Write};
@@ -49,10 +50,8 @@ pub(crate) struct PageCase {
     column_runs: Runs,
 }
 
-impl PageCase {
-    // Not inlined: its room is paid for at each line of the other letters then.
-    #[inline(never)]
-    pub(crate) fn read() -> Result<Self, Fault> {
+impl Case for PageCase {
+    fn read() -> Result<Self, Fault> {
         let head = read_part(HEAD);
         let mut fields = Fields::new(&head);
         let over_then_down: bool = fields.next()?;
@@ -77,7 +76,7 @@ impl PageCase {
         })
     }
 
-    pub(crate) fn answer<W: Write>(&self, out: &mut W) -> io::Result<()> {
+    fn answer<W: Write>(&mut self, out: &mut W) -> io::Result<()> {
         let runs = RunLists {
             rows: &self.row_runs,
             columns: &self.column_runs,

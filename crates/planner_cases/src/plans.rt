@@ -14,6 +14,7 @@ use crate::axes::read_title;
 use crate::fields::{Fault, Fields, List, read_list, read_part};
 use crate::lent::{COLUMNS, ROWS, Runs, numbers_from};
 use crate::lists::Lists;
+use crate::replay::Case;
 use crate::text::{Answer, Numbers, PlanText, numbered_page};
 use arrayvec::ArrayVec;
 use geometry::Margins;
@@ -236,22 +237,6 @@ pub(crate) struct PlanCase {
 }
 
 impl PlanCase {
-    // Not inlined: its room is paid for at each line of the other letters then.
-    #[inline(never)]
-    pub(crate) fn read() -> Result<Self, Fault> {
-        let (asked, lengths) = Asked::read()?;
-        let ranges = read_ranges(lengths.areas)?;
-        let (rows, columns) = read_lists(&lengths)?;
-        Ok(Self {
-            asked,
-            ranges,
-            rows,
-            columns,
-            row_runs: numbers_from(ROWS, lengths.row_runs),
-            column_runs: numbers_from(COLUMNS, lengths.column_runs),
-        })
-    }
-
     // Plans, which writes the runs to the lent lists.
     fn plan(&mut self) -> Result<Plan, Refusal> {
         let request = Request {
@@ -266,9 +251,25 @@ impl PlanCase {
         };
         plan_pages(&request, &lists, &mut self.row_runs, &mut self.column_runs)
     }
+}
+
+impl Case for PlanCase {
+    fn read() -> Result<Self, Fault> {
+        let (asked, lengths) = Asked::read()?;
+        let ranges = read_ranges(lengths.areas)?;
+        let (rows, columns) = read_lists(&lengths)?;
+        Ok(Self {
+            asked,
+            ranges,
+            rows,
+            columns,
+            row_runs: numbers_from(ROWS, lengths.row_runs),
+            column_runs: numbers_from(COLUMNS, lengths.column_runs),
+        })
+    }
 
     // Plans, and answers what the lent lists hold then, and pages.
-    pub(crate) fn answer<W: Write>(&mut self, out: &mut W) -> io::Result<()> {
+    fn answer<W: Write>(&mut self, out: &mut W) -> io::Result<()> {
         let planned = Answer(self.plan().map(PlanText));
         let rows = Numbers(&self.row_runs);
         let columns = Numbers(&self.column_runs);

@@ -17,38 +17,48 @@ const STDOUT: i32 = 1;
 // The bytes that an answer has room for.
 const LINE: usize = 8192;
 
-#[derive(Drop)]
-enum Case {
-    Title(TitleCase),
-    Runs(RunsCase),
-    Plan(PlanCase),
-    Page(PageCase),
-    BadLetter,
+// What a line of a letter asks.
+pub(crate) trait Case: Drop {
+    // Reads what follows the letter.
+    fn read() -> Result<Self, Fault>
+    where
+        Self: Sized;
+
+    // Asks, and writes the answer.
+    fn answer<W: Write>(&mut self, out: &mut W) -> std::io::Result<()>;
 }
 
-impl Case {
-    // Reads what follows a letter.
-    fn read(letter: u8) -> Result<Self, Fault> {
-        let case = match letter {
-            b't' => Self::Title(TitleCase::read()?),
-            b'r' => Self::Runs(RunsCase::read()?),
-            b'p' => Self::Plan(PlanCase::read()?),
-            b'n' => Self::Page(PageCase::read()?),
-            _ => Self::BadLetter,
-        };
-        read_end()?;
-        Ok(case)
+// A line that has no letter of these.
+#[derive(Drop)]
+struct BadLetter;
+
+impl Case for BadLetter {
+    fn read() -> Result<Self, Fault> {
+        Ok(BadLetter)
     }
 
-    // By reference: a case that is moved costs its room each time.
     fn answer<W: Write>(&mut self, out: &mut W) -> std::io::Result<()> {
-        match self {
-            Self::Title(case) => case.answer(out),
-            Self::Runs(case) => case.answer(out),
-            Self::Plan(case) => case.answer(out),
-            Self::Page(case) => case.answer(out),
-            Self::BadLetter => writeln!(out, "bad letter"),
-        }
+        writeln!(out, "bad letter")
+    }
+}
+
+// Reads a case to the end of its line, and answers it. What does not fit is left out. Not inlined: a line of one letter would pay for the room
+// of all.
+#[inline(never)]
+fn answer<C: Case>(line: &mut ArrayVec<u8, LINE>) -> Result<(), Fault> {
+    let mut case = C::read()?;
+    read_end()?;
+    let _ = case.answer(line);
+    Ok(())
+}
+
+fn answer_letter(letter: u8, line: &mut ArrayVec<u8, LINE>) -> Result<(), Fault> {
+    match letter {
+        b't' => answer::<TitleCase>(line),
+        b'r' => answer::<RunsCase>(line),
+        b'p' => answer::<PlanCase>(line),
+        b'n' => answer::<PageCase>(line),
+        _ => answer::<BadLetter>(line),
     }
 }
 
@@ -62,13 +72,11 @@ pub(crate) fn answer_all() {
         let Some(letter) = read_byte() else {
             break;
         };
-        let Ok(mut case) = Case::read(letter) else {
+        line.clear();
+        if answer_letter(letter, &mut line).is_err() {
             io::write_all(STDOUT, b"bad line\n");
             break;
-        };
-        line.clear();
-        // What does not fit is left out.
-        let _ = case.answer(&mut line);
+        }
         io::write_all(STDOUT, &line);
     }
 }
