@@ -7,16 +7,22 @@
 //     p  paper_geometry     0 absent or 1 given, code, landscape 0 or 1
 //     m  content_geometry   width, height, left, right, top, bottom, header, footer
 //     a  content_geometry   width, height; margins absent
+use crate::STDOUT;
+use arrayvec::ArrayVec;
 use geometry::{Margins, Paper, PaperGeometry};
 use hexadecimal::{bits, digit};
 use job_records::{float, signed};
 use std::fmt::Display;
-use std::io;
-use std::io::{ErrorKind, Read, Write};
+use std::io::Write;
 use units::{Fixed, Refusal};
 
-// The bytes of a line with its line end.
+// Standard input.
+const STDIN: i32 = 0;
+
+// The bytes of a line with its line end, and those that an answer has room for.
 const LINE: usize = 138;
+
+const ANSWER: usize = 256;
 
 // The bits of the eight fields of a line.
 type Fields = [u64; 8];
@@ -133,20 +139,20 @@ fn read(line: &[u8; LINE]) -> Option<Case> {
 fn write_answer<W: Write, T: Display + Drop>(
     out: &mut W,
     answer: Result<T, Refusal>,
-) -> io::Result<()> {
+) -> std::io::Result<()> {
     match answer {
         Ok(value) => writeln!(out, "{value}"),
         Err(refusal) => writeln!(out, "{refusal}"),
     }
 }
 
-fn write_paper<W: Write>(out: &mut W, answer: Paper) -> io::Result<()> {
+fn write_paper<W: Write>(out: &mut W, answer: Paper) -> std::io::Result<()> {
     let paper = answer.geometry;
     write!(out, "{} {} ", paper.paper_code, paper.width)?;
     writeln!(out, "{} {}", paper.height, answer.unknown_paper)
 }
 
-fn answer<W: Write>(out: &mut W, case: Case) -> io::Result<()> {
+fn answer<W: Write>(out: &mut W, case: Case) -> std::io::Result<()> {
     match case {
         Case::Inches { inches } => write_answer(out, units::inches_to_fixed(inches)),
         Case::Capacity {
@@ -172,20 +178,20 @@ fn answer<W: Write>(out: &mut W, case: Case) -> io::Result<()> {
     }
 }
 
-// Nothing says that the input ends, so the loop counts its turns, up to a number that no run reaches.
-pub(crate) fn answer_all<R: Read, W: Write>(input: &mut R, out: &mut W) -> io::Result<()> {
-    let mut line = [0u8; LINE];
+// Answers line after line, up to the first that is cut off. No more is read than a line, and it is answered before the next is read.
+pub(crate) fn answer_all() {
+    // Nothing says that the input ends, so the loop counts its turns, up to a number that no run reaches.
     for _ in 0..u64::MAX {
-        if let Err(error) = input.read_exact(&mut line) {
-            if error.kind() == ErrorKind::UnexpectedEof {
-                break;
-            }
-            return Err(error);
+        let mut line = [0; LINE];
+        if io::read_full(STDIN, &mut line) < LINE {
+            break;
         }
-        match read(&line) {
-            Some(case) => answer(out, case)?,
-            None => writeln!(out, "bad line")?,
-        }
+        let mut out = ArrayVec::<u8, ANSWER>::new();
+        // It fits: an answer has at most seven numbers.
+        let _ = match read(&line) {
+            Some(case) => answer(&mut out, case),
+            None => writeln!(out, "bad line"),
+        };
+        io::write_all(STDOUT, &out);
     }
-    Ok(())
 }

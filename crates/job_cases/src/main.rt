@@ -2,15 +2,10 @@
 // Rust's answers to the list in `stdin`.
 #![tactic(auto)]
 
+mod block;
 mod planned;
 mod replay;
 
-use std::io::{self, BufReader, BufWriter, Write};
-
-fn main(rt: HostRuntime) -> io::Result<()> {
-    let alloc = rt.alloc();
-    let mut lines = BufReader::new(alloc, rt.reader())?;
-    let mut out = BufWriter::new(alloc, io::writer(&rt))?;
-    replay::answer_all(alloc, &mut lines, &mut out)?;
-    out.flush()
+fn main() {
+    replay::answer_all();
 }

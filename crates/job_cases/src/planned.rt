@@ -1,11 +1,11 @@
 // Plans a job and prints the plan, as program `plan` does: counted first, then area by area in the same lists; but page by page, by the calls
-// for one page, and not in blocks. The room for runs, `print_head` and `print_area` stand in `plan` too: no library of the repository writes to a
-// stream, and what has the bodies, `head_lines` and `area_line`, is one already.
+// for one page, and not by `area_block`. The room for runs, `print_head` and `print_area` stand in `plan` too: no library of the repository
+// writes to a stream, and what has the bodies, `head_lines` and `area_line`, is one already.
+use crate::block::LINE;
 use job::{count_job, write_job_area};
 use job_report::{area_line, head_lines, page_line};
 use planner_pages::{area_page, page_spot};
 use planner_rules::{AreaPlan, Page, Plan, RUN_NUMBERS, RunLists, Spot};
-use std::alloc::{AllocError, Global};
 use std::io::{self, Write};
 use units::Refusal;
 
@@ -13,9 +13,6 @@ use units::Refusal;
 const RUNS: usize = 5000;
 
 const NUMBERS: usize = RUN_NUMBERS * RUNS;
-
-// The most bytes of a line, or of the first lines.
-const LINE: usize = 256;
 
 // Each of the next three makes its array: one function for them would take the putting as a closure, and ask of it where the text ends.
 
@@ -44,17 +41,17 @@ fn print_page<W: Write>(number: u64, page: Page, out: &mut W) -> io::Result<()> 
 
 // The lists that the runs of each area are written to in turn.
 #[derive(Drop)]
-pub(crate) struct RunVecs {
-    rows: Vec<u64>,
-    columns: Vec<u64>,
+pub(crate) struct Runs {
+    rows: [u64; NUMBERS],
+    columns: [u64; NUMBERS],
 }
 
-impl RunVecs {
-    pub(crate) fn new(alloc: Global) -> Result<Self, AllocError> {
-        Ok(Self {
-            rows: vec![in alloc; 0; NUMBERS]?,
-            columns: vec![in alloc; 0; NUMBERS]?,
-        })
+impl Runs {
+    pub(crate) fn new() -> Self {
+        Self {
+            rows: [0; NUMBERS],
+            columns: [0; NUMBERS],
+        }
     }
 
     // Writes the line of the area of a page, and its runs to the lists.
@@ -115,6 +112,7 @@ impl RunVecs {
         if let Ok(plan) = planning {
             self.print_pages(job, &plan, out)?;
         }
-        writeln!(out)
+        writeln!(out)?;
+        out.flush()
     }
 }

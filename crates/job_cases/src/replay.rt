@@ -1,50 +1,52 @@
-// Answers lines of input. A line is the number of a job's bytes as eight hexadecimal digits, the bytes as two digits each, and a line end.
-use crate::planned::RunVecs;
+// Answers lines of input. A line is the number of a job's bytes as eight hexadecimal digits, the bytes as two digits each, and a line end. No
+// more is read than these lengths say, and a job is answered before the next line is read.
+use crate::block::{Block, STDOUT};
+use crate::planned::Runs;
+use arrayvec::ArrayVec;
 use hexadecimal::bits;
 use job_questions::MOST_BYTES;
-use std::alloc::{AllocError, Global};
-use std::io::{self, BufRead, Write};
+
+// Standard input.
+const STDIN: i32 = 0;
 
 // The most bytes that are read: one more than a job may have.
-const MOST: u64 = MOST_BYTES as u64 + 1;
+const MOST: usize = MOST_BYTES + 1;
 
-// The bytes of the job that a line has, if it has one.
-fn job_in(alloc: Global, line: &[u8]) -> Result<Option<Vec<u8>>, AllocError> {
-    let Some(line) = line.strip_suffix(b"\n") else {
-        return Ok(None);
-    };
-    let Some((count, digits)) = line.split_at_checked(8) else {
-        return Ok(None);
-    };
-    let count = bits(count);
-    if count > MOST || digits.len() as u64 != 2 * count {
-        return Ok(None);
+// Two digits for each byte, and a line end.
+const TEXT: usize = 2 * MOST + 1;
+
+// Reads the rest of a line, and the bytes of its job, of which there are so many, if it ends where it has to.
+fn read_job(count: u64, text: &mut [u8; TEXT], job: &mut ArrayVec<u8, MOST>) -> Option<()> {
+    if count > MOST as u64 {
+        return None;
     }
-    let bytes = digits
-        .chunks_exact(2)
-        .map(|pair| (bits(pair) & 0xff) as u8)
-        .collect(alloc)?;
-    Ok(Some(bytes))
+    let length = 2 * count as usize + 1;
+    if io::read_full(STDIN, &mut text[..length]) < length {
+        return None;
+    }
+    let digits = text[..length].strip_suffix(b"\n")?;
+    let bytes = digits.chunks_exact(2).map(|pair| (bits(pair) & 0xff) as u8);
+    job.clear();
+    job.extend(bytes).ok()
 }
 
 // Answers line after line, up to the first that is none.
-pub(crate) fn answer_all<R: BufRead, W: Write>(
-    alloc: Global,
-    lines: &mut R,
-    out: &mut W,
-) -> io::Result<()> {
-    let mut lists = RunVecs::new(alloc)?;
-    let mut line = Vec::new(alloc);
+pub(crate) fn answer_all() {
+    let mut text = [0; TEXT];
+    let mut job = ArrayVec::new();
+    let mut runs = Runs::new();
+    let mut out = Block::new();
     // Nothing says that the input ends, so the loop counts its turns, up to a number that no run reaches.
     for _ in 0..u64::MAX {
-        line.clear();
-        if lines.read_until(b'\n', &mut line)? == 0 {
+        let mut count = [0; 8];
+        if io::read_full(STDIN, &mut count) == 0 {
             break;
         }
-        let Some(job) = job_in(alloc, &line)? else {
-            return writeln!(out, "bad line");
-        };
-        lists.print_plan(&job, out)?;
+        if read_job(bits(&count), &mut text, &mut job).is_none() {
+            io::write_all(STDOUT, b"bad line\n");
+            break;
+        }
+        // A block takes all that it is given.
+        let _ = runs.print_plan(&job, &mut out);
     }
-    Ok(())
 }

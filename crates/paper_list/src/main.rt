@@ -5,15 +5,21 @@
 mod lists;
 mod standard;
 
+use arrayvec::ArrayVec;
 use lists::{Finding, Tally};
-use std::io;
-use std::io::{BufWriter, Write};
+use std::io::Write;
+
+// Standard output.
+const STDOUT: i32 = 1;
+
+// The bytes that a line has room for.
+const LINE: usize = 256;
 
 // The last code that is compared.
 const LAST: u16 = 120;
 
 // Writes a line, where the two lists differ at the code.
-fn write_difference<W: Write>(out: &mut W, code: u16, found: Finding) -> io::Result<()> {
+fn write_difference<W: Write>(out: &mut W, code: u16, found: Finding) -> std::io::Result<()> {
     match found {
         Finding::Neither | Finding::Agree => Ok(()),
         Finding::AnotherSize(ours, theirs) => {
@@ -27,15 +33,24 @@ fn write_difference<W: Write>(out: &mut W, code: u16, found: Finding) -> io::Res
     }
 }
 
-fn main(rt: HostRuntime) -> io::Result<()> {
-    let mut out = BufWriter::new(rt.alloc(), io::writer(&rt))?;
+// Finds how a code stands, and writes its line, if it has one.
+fn compare(code: u16) -> Finding {
+    let found = Finding::of(code);
+    let mut line = ArrayVec::<u8, LINE>::new();
+    // It fits: a line has at most five numbers.
+    let _ = write_difference(&mut line, code, found);
+    io::write_all(STDOUT, &line);
+    found
+}
+
+fn main() {
     let mut tally = Tally::default();
     // By number: neither list has a place for each code.
     for code in 0..=LAST {
-        let found = Finding::of(code);
-        write_difference(&mut out, code, found)?;
-        tally.count(found);
+        tally.count(compare(code));
     }
-    writeln!(out, "{tally}")?;
-    out.flush()
+    let mut line = ArrayVec::<u8, LINE>::new();
+    // It fits: four numbers.
+    let _ = writeln!(line, "{tally}");
+    io::write_all(STDOUT, &line);
 }

@@ -6,14 +6,18 @@
 //     16  capacity untitled, capacity titled
 //
 // digits for each field. After it come the indexes (8 digits each), the sizes (16), the merges' firsts, the merges' lasts and the breaks (8).
-use crate::fields::{Fault, Fields};
-use crate::lent;
+use crate::fields::{Fault, Fields, List, read_list, read_part};
+use crate::lent::{ROWS, Runs, numbers_from};
 use crate::lists::Lists;
+use crate::replay::Case;
 use crate::text::{Answer, Numbers, RunCount, WidenedTitle};
 use planner::partition_axis_with_breaks;
 use planner_rules::{Axis, AxisSetup, MergeList, Title};
 use planner_titles::widen_title;
 use std::io::{self, Write};
+
+// The bytes of a head.
+const HEAD: usize = 94;
 
 #[derive(Clone, Copy)]
 struct Lengths {
@@ -46,16 +50,18 @@ struct Head {
 }
 
 impl Head {
-    fn read(fields: &mut Fields) -> Result<Self, Fault> {
+    fn read() -> Result<Self, Fault> {
+        let head = read_part(HEAD);
+        let mut fields = Fields::new(&head);
         let axis = if fields.next()? {
             Axis::Columns
         } else {
             Axis::Rows
         };
         let titled = fields.next()?;
-        let lengths = Lengths::read(fields)?;
+        let lengths = Lengths::read(&mut fields)?;
         let (first, last) = (fields.next()?, fields.next()?);
-        let title = read_title(fields, titled)?;
+        let title = read_title(&mut fields, titled)?;
         let (untitled, titled) = (fields.next()?, fields.next()?);
         let setup = AxisSetup {
             first,
@@ -86,22 +92,22 @@ pub(crate) fn read_title(fields: &mut Fields, given: bool) -> Result<Title, Faul
 pub(crate) struct TitleCase {
     axis: Axis,
     title: Title,
-    merge_firsts: Vec<u32>,
-    merge_lasts: Vec<u32>,
+    merge_firsts: List<u32>,
+    merge_lasts: List<u32>,
 }
 
-impl TitleCase {
-    pub(crate) fn read(fields: &mut Fields) -> Result<Self, Fault> {
-        let head = Head::read(fields)?;
+impl Case for TitleCase {
+    fn read() -> Result<Self, Fault> {
+        let head = Head::read()?;
         Ok(Self {
             axis: head.axis,
             title: head.setup.title,
-            merge_firsts: fields.list(head.lengths.merge_firsts)?,
-            merge_lasts: fields.list(head.lengths.merge_lasts)?,
+            merge_firsts: read_list(head.lengths.merge_firsts)?,
+            merge_lasts: read_list(head.lengths.merge_lasts)?,
         })
     }
 
-    pub(crate) fn answer<W: Write>(&self, out: &mut W) -> io::Result<()> {
+    fn answer<W: Write>(&mut self, out: &mut W) -> io::Result<()> {
         let merges = MergeList {
             firsts: &self.merge_firsts,
             lasts: &self.merge_lasts,
@@ -117,29 +123,29 @@ pub(crate) struct RunsCase {
     axis: Axis,
     setup: AxisSetup,
     lists: Lists,
-    runs: Vec<u64>,
+    runs: Runs,
 }
 
-impl RunsCase {
-    pub(crate) fn read(fields: &mut Fields) -> Result<Self, Fault> {
-        let head = Head::read(fields)?;
+impl Case for RunsCase {
+    fn read() -> Result<Self, Fault> {
+        let head = Head::read()?;
         let lengths = head.lengths;
         Ok(Self {
             axis: head.axis,
             setup: head.setup,
             lists: Lists {
-                indexes: fields.list(lengths.indexes)?,
-                sizes: fields.list(lengths.sizes)?,
-                merge_firsts: fields.list(lengths.merge_firsts)?,
-                merge_lasts: fields.list(lengths.merge_lasts)?,
-                breaks: fields.list(lengths.breaks)?,
+                indexes: read_list(lengths.indexes)?,
+                sizes: read_list(lengths.sizes)?,
+                merge_firsts: read_list(lengths.merge_firsts)?,
+                merge_lasts: read_list(lengths.merge_lasts)?,
+                breaks: read_list(lengths.breaks)?,
             },
-            runs: lent::numbers_from(fields.alloc, lent::ROWS, lengths.runs)?,
+            runs: numbers_from(ROWS, lengths.runs),
         })
     }
 
     // Cuts, which writes the runs to the lent list, and answers that whole.
-    pub(crate) fn answer<W: Write>(&mut self, out: &mut W) -> io::Result<()> {
+    fn answer<W: Write>(&mut self, out: &mut W) -> io::Result<()> {
         let lists = self.lists.lend();
         let tally = partition_axis_with_breaks(self.axis, self.setup, lists, &mut self.runs);
         let runs = Numbers(&self.runs);

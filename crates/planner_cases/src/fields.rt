@@ -1,29 +1,56 @@
-// Fields of a line, each a space and so many hexadecimal digits.
+// Fields of a line, each a space and so many hexadecimal digits. They are read in parts, by their lengths: a head,
+// margins, areas, a list.
+use arrayvec::ArrayVec;
 use hexadecimal::bits;
-use std::alloc::{AllocError, Global};
-use thiserror::Error;
+
+// Standard input.
+const STDIN: i32 = 0;
 
 // The most numbers of a list.
-const MOST: u8 = 24;
+const MOST: usize = 24;
 
-// Why a line was not read. An error of its own: a bad line is answered, and memory that ran out ends the program.
-#[derive(Debug, Drop, Error)]
-pub(crate) enum Fault {
-    #[error("bad line")]
-    BadLine,
-    #[error(transparent)]
-    OutOfMemory(#[from(alloc)] AllocError),
+// The bytes of the longest part: a list of so many fields of sixteen digits.
+pub(crate) const PART: usize = 408;
+
+// A list of a line.
+pub(crate) type List<T> = ArrayVec<T, MOST>;
+
+// That a line is none.
+#[derive(Clone, Copy)]
+pub(crate) struct Fault;
+
+// Reads a part of a line, which has so many bytes. What standard input has no more stands as zeros.
+pub(crate) fn read_part(bytes: usize) -> [u8; PART] {
+    let mut part = [b'0'; PART];
+    let end = bytes.min(PART);
+    io::read_full(STDIN, &mut part[..end]);
+    part
+}
+
+// Reads a byte, if there is one.
+pub(crate) fn read_byte() -> Option<u8> {
+    let mut byte = [0];
+    (io::read_full(STDIN, &mut byte) == 1).then_some(byte[0])
+}
+
+// Reads the end of a line.
+pub(crate) fn read_end() -> Result<(), Fault> {
+    if read_byte() == Some(b'\n') {
+        Ok(())
+    } else {
+        Err(Fault)
+    }
 }
 
 // What a field stands for, by its digits.
-pub(crate) trait Field: Drop {
-    const DIGITS: usize;
+pub(crate) trait Field: Default + Drop {
+    const DIGITS: u8;
 
     fn from_bits(bits: u64) -> Self;
 }
 
 impl Field for bool {
-    const DIGITS: usize = 2;
+    const DIGITS: u8 = 2;
 
     fn from_bits(bits: u64) -> Self {
         bits > 0
@@ -31,7 +58,7 @@ impl Field for bool {
 }
 
 impl Field for u8 {
-    const DIGITS: usize = 2;
+    const DIGITS: u8 = 2;
 
     fn from_bits(bits: u64) -> Self {
         (bits & 0xff) as u8
@@ -39,7 +66,7 @@ impl Field for u8 {
 }
 
 impl Field for u32 {
-    const DIGITS: usize = 8;
+    const DIGITS: u8 = 8;
 
     fn from_bits(bits: u64) -> Self {
         (bits & 0xffff_ffff) as u32
@@ -47,47 +74,40 @@ impl Field for u32 {
 }
 
 impl Field for u64 {
-    const DIGITS: usize = 16;
+    const DIGITS: u8 = 16;
 
     fn from_bits(bits: u64) -> Self {
         bits
     }
 }
 
-// What is left of a line, and what its lists are allocated by.
+// What is left of a part.
 #[derive(Drop)]
 pub(crate) struct Fields<'a> {
-    pub(crate) alloc: Global,
     rest: &'a [u8],
 }
 
 impl<'a> Fields<'a> {
-    pub(crate) fn new(alloc: Global, rest: &'a [u8]) -> Self {
-        Self { alloc, rest }
+    pub(crate) fn new(part: &'a [u8; PART]) -> Self {
+        Self { rest: part }
     }
 
     pub(crate) fn next<T: Field>(&mut self) -> Result<T, Fault> {
-        let (_space, rest) = self.rest.split_first().ok_or(Fault::BadLine)?;
-        let (digits, rest) = rest.split_at_checked(T::DIGITS).ok_or(Fault::BadLine)?;
+        let (_space, rest) = self.rest.split_first().ok_or(Fault)?;
+        let (digits, rest) = rest.split_at_checked(usize::from(T::DIGITS)).ok_or(Fault)?;
         self.rest = rest;
         Ok(T::from_bits(bits(digits)))
     }
+}
 
-    // So many fields, as far as a list may have them.
-    pub(crate) fn list<T: Field>(&mut self, count: u8) -> Result<Vec<T>, Fault> {
-        let mut list = Vec::new(self.alloc);
-        for _ in 0..count.min(MOST) {
-            list.push(self.next()?)?;
-        }
-        Ok(list)
+// Reads a list of so many fields, as far as it may have them.
+pub(crate) fn read_list<T: Field>(count: u8) -> Result<List<T>, Fault> {
+    let count = usize::from(count).min(MOST);
+    let part = read_part(count * (1 + usize::from(T::DIGITS)));
+    let mut fields = Fields::new(&part);
+    let mut list = List::new();
+    for _ in 0..count {
+        let _fits = list.try_push(fields.next()?);
     }
-
-    // Nothing is left.
-    pub(crate) fn end(self) -> Result<(), Fault> {
-        if self.rest.is_empty() {
-            Ok(())
-        } else {
-            Err(Fault::BadLine)
-        }
-    }
+    Ok(list)
 }

@@ -1,13 +1,14 @@
 // The lists of an axis, as they were read.
+use crate::fields::List;
 use planner_rules::{AxisLists, MergeList, SlotList};
 
 #[derive(Drop)]
 pub(crate) struct Lists {
-    pub(crate) indexes: Vec<u32>,
-    pub(crate) sizes: Vec<u64>,
-    pub(crate) merge_firsts: Vec<u32>,
-    pub(crate) merge_lasts: Vec<u32>,
-    pub(crate) breaks: Vec<u32>,
+    pub(crate) indexes: List<u32>,
+    pub(crate) sizes: List<u64>,
+    pub(crate) merge_firsts: List<u32>,
+    pub(crate) merge_lasts: List<u32>,
+    pub(crate) breaks: List<u32>,
 }
 
 impl Lists {

@@ -7,11 +7,17 @@
 //     16  the plan's count of areas, pages, and the number of the page
 //
 // digits for each field. After it each area has 2 rows empty, columns empty, and 16 row runs, column runs; what is not there is 0.
-use crate::fields::{Fault, Fields};
-use crate::lent;
+use crate::fields::{Fault, Fields, read_part};
+use crate::lent::{Runs, marked_from};
+use crate::replay::Case;
 use crate::text::numbered_page;
 use planner_rules::{AreaPlan, AreaPlans, Notes, PageOrder, Plan, RunLists};
 use std::io::{self, Write};
+
+// The bytes of a head, and of an area.
+const HEAD: usize = 103;
+
+const AREA: usize = 40;
 
 fn read_area(fields: &mut Fields) -> Result<AreaPlan, Fault> {
     let (rows_empty, columns_empty) = (fields.next()?, fields.next()?);
@@ -41,20 +47,23 @@ fn read_areas(fields: &mut Fields, read: u8, count: u64) -> Result<AreaPlans, Fa
 pub(crate) struct PageCase {
     plan: Plan,
     number: u64,
-    row_runs: Vec<u64>,
-    column_runs: Vec<u64>,
+    row_runs: Runs,
+    column_runs: Runs,
 }
 
-impl PageCase {
-    pub(crate) fn read(fields: &mut Fields) -> Result<Self, Fault> {
+impl Case for PageCase {
+    fn read() -> Result<Self, Fault> {
+        let head = read_part(HEAD);
+        let mut fields = Fields::new(&head);
         let over_then_down: bool = fields.next()?;
         let order = PageOrder::from(over_then_down);
         let (row_others, column_others) = (fields.next()?, fields.next()?);
         let (row_numbers, column_numbers) = (fields.next()?, fields.next()?);
-        let areas_read = fields.next()?;
+        let areas_read: u8 = fields.next()?;
         let (first_row, first_column) = (fields.next()?, fields.next()?);
         let (count, pages, number) = (fields.next()?, fields.next()?, fields.next()?);
-        let areas = read_areas(fields, areas_read, count)?;
+        let text = read_part(AREA * usize::from(areas_read.min(8)));
+        let areas = read_areas(&mut Fields::new(&text), areas_read, count)?;
         Ok(Self {
             plan: Plan {
                 areas,
@@ -63,17 +72,12 @@ impl PageCase {
                 notes: Notes::default(),
             },
             number,
-            row_runs: lent::marked_from(fields.alloc, first_row, row_numbers, row_others)?,
-            column_runs: lent::marked_from(
-                fields.alloc,
-                first_column,
-                column_numbers,
-                column_others,
-            )?,
+            row_runs: marked_from(first_row, row_numbers, row_others),
+            column_runs: marked_from(first_column, column_numbers, column_others),
         })
     }
 
-    pub(crate) fn answer<W: Write>(&self, out: &mut W) -> io::Result<()> {
+    fn answer<W: Write>(&mut self, out: &mut W) -> io::Result<()> {
         let runs = RunLists {
             rows: &self.row_runs,
             columns: &self.column_runs,

@@ -11,20 +11,28 @@
 // rows and the last columns (8); the row indexes (8) and sizes (16), the column indexes and sizes, the merges' first rows, first columns, last
 // rows and last columns (8), the row breaks and the column breaks (8).
 use crate::axes::read_title;
-use crate::fields::{Fault, Fields};
-use crate::lent;
+use crate::fields::{Fault, Fields, List, read_list, read_part};
+use crate::lent::{COLUMNS, ROWS, Runs, numbers_from};
 use crate::lists::Lists;
+use crate::replay::Case;
 use crate::text::{Answer, Numbers, PlanText, numbered_page};
+use arrayvec::ArrayVec;
 use geometry::Margins;
 use job_records::float;
 use planner::plan_pages;
 use planner_rules::{PageOrder, Plan, PrintRange, Request, RunLists, Settings, SheetLists, Title};
-use std::alloc::{AllocError, Global};
 use std::io::{self, Write};
 use units::Refusal;
 
-// The most pages of which each is asked for.
+// The bytes of a head, and of margins.
+const HEAD: usize = 181;
+
+const MARGINS: usize = 102;
+
+// The most pages of which each is asked for, and the most that are asked for.
 const FEW: u64 = 12;
+
+const ASKED: usize = 16;
 
 #[derive(Clone, Copy)]
 struct Flags {
@@ -110,10 +118,12 @@ fn read_cell_limit(fields: &mut Fields, given: bool) -> Result<Option<u64>, Faul
 }
 
 // The margins stand in the line only if they are given.
-fn read_margins(fields: &mut Fields, given: bool) -> Result<Option<Margins>, Fault> {
+fn read_margins(given: bool) -> Result<Option<Margins>, Fault> {
     if !given {
         return Ok(None);
     }
+    let text = read_part(MARGINS);
+    let mut fields = Fields::new(&text);
     Ok(Some(Margins {
         left: float(fields.next()?),
         right: float(fields.next()?),
@@ -133,20 +143,23 @@ struct Asked {
 }
 
 impl Asked {
-    fn read(fields: &mut Fields, flags: &Flags) -> Result<(Self, Lengths), Fault> {
-        let lengths = Lengths::read(fields)?;
-        let paper = read_setting(fields, flags.paper)?;
-        let percent = read_setting(fields, flags.percent)?;
-        let fit_width = read_setting(fields, flags.fit_width)?;
-        let fit_height = read_setting(fields, flags.fit_height)?;
-        let row_title = read_title(fields, flags.row_title)?;
-        let column_title = read_title(fields, flags.column_title)?;
+    fn read() -> Result<(Self, Lengths), Fault> {
+        let head = read_part(HEAD);
+        let mut fields = Fields::new(&head);
+        let flags = Flags::read(&mut fields)?;
+        let lengths = Lengths::read(&mut fields)?;
+        let paper = read_setting(&mut fields, flags.paper)?;
+        let percent = read_setting(&mut fields, flags.percent)?;
+        let fit_width = read_setting(&mut fields, flags.fit_width)?;
+        let fit_height = read_setting(&mut fields, flags.fit_height)?;
+        let row_title = read_title(&mut fields, flags.row_title)?;
+        let column_title = read_title(&mut fields, flags.column_title)?;
         let page_limit = fields.next()?;
-        let cell_limit = read_cell_limit(fields, flags.cell_limit)?;
+        let cell_limit = read_cell_limit(&mut fields, flags.cell_limit)?;
         let settings = Settings {
             paper,
             landscape: flags.landscape,
-            margins: read_margins(fields, flags.margins)?,
+            margins: read_margins(flags.margins)?,
             percent,
             fit: flags.fit,
             fit_width,
@@ -165,48 +178,50 @@ impl Asked {
     }
 }
 
-fn read_ranges(fields: &mut Fields, count: u8) -> Result<Vec<PrintRange>, Fault> {
-    let first_rows = fields.list(count)?;
-    let first_columns = fields.list(count)?;
-    let last_rows = fields.list(count)?;
-    let last_columns = fields.list(count)?;
+fn read_ranges(count: u8) -> Result<List<PrintRange>, Fault> {
+    let first_rows = read_list(count)?;
+    let first_columns = read_list(count)?;
+    let last_rows = read_list(count)?;
+    let last_columns = read_list(count)?;
     let firsts = first_rows.into_iter().zip(first_columns);
     let lasts = last_rows.into_iter().zip(last_columns);
-    let ranges = firsts
-        .zip(lasts)
-        .map(|((first_row, first_column), (last_row, last_column))| PrintRange {
-            first_row,
-            first_column,
-            last_row,
-            last_column,
-        })
-        .collect(fields.alloc)?;
-    Ok(ranges)
+    let ranges = firsts.zip(lasts).map(|(
+        (first_row, first_column),
+        (last_row, last_column),
+    )| PrintRange {
+        first_row,
+        first_column,
+        last_row,
+        last_column,
+    });
+    let mut list = List::new();
+    let _fits = list.extend(ranges);
+    Ok(list)
 }
 
 // The lists of rows and of columns, which stand in turns.
-fn read_lists(fields: &mut Fields, n: &Lengths) -> Result<(Lists, Lists), Fault> {
-    let row_indexes = fields.list(n.row_indexes)?;
-    let row_sizes = fields.list(n.row_sizes)?;
-    let column_indexes = fields.list(n.column_indexes)?;
-    let column_sizes = fields.list(n.column_sizes)?;
-    let merge_first_rows = fields.list(n.merge_first_rows)?;
-    let merge_first_columns = fields.list(n.merge_first_columns)?;
-    let merge_last_rows = fields.list(n.merge_last_rows)?;
-    let merge_last_columns = fields.list(n.merge_last_columns)?;
+fn read_lists(n: &Lengths) -> Result<(Lists, Lists), Fault> {
+    let row_indexes = read_list(n.row_indexes)?;
+    let row_sizes = read_list(n.row_sizes)?;
+    let column_indexes = read_list(n.column_indexes)?;
+    let column_sizes = read_list(n.column_sizes)?;
+    let merge_first_rows = read_list(n.merge_first_rows)?;
+    let merge_first_columns = read_list(n.merge_first_columns)?;
+    let merge_last_rows = read_list(n.merge_last_rows)?;
+    let merge_last_columns = read_list(n.merge_last_columns)?;
     let rows = Lists {
         indexes: row_indexes,
         sizes: row_sizes,
         merge_firsts: merge_first_rows,
         merge_lasts: merge_last_rows,
-        breaks: fields.list(n.row_breaks)?,
+        breaks: read_list(n.row_breaks)?,
     };
     let columns = Lists {
         indexes: column_indexes,
         sizes: column_sizes,
         merge_firsts: merge_first_columns,
         merge_lasts: merge_last_columns,
-        breaks: fields.list(n.column_breaks)?,
+        breaks: read_list(n.column_breaks)?,
     };
     Ok((rows, columns))
 }
@@ -214,29 +229,14 @@ fn read_lists(fields: &mut Fields, n: &Lengths) -> Result<(Lists, Lists), Fault>
 #[derive(Drop)]
 pub(crate) struct PlanCase {
     asked: Asked,
-    ranges: Vec<PrintRange>,
+    ranges: List<PrintRange>,
     rows: Lists,
     columns: Lists,
-    row_runs: Vec<u64>,
-    column_runs: Vec<u64>,
+    row_runs: Runs,
+    column_runs: Runs,
 }
 
 impl PlanCase {
-    pub(crate) fn read(fields: &mut Fields) -> Result<Self, Fault> {
-        let flags = Flags::read(fields)?;
-        let (asked, lengths) = Asked::read(fields, &flags)?;
-        let ranges = read_ranges(fields, lengths.areas)?;
-        let (rows, columns) = read_lists(fields, &lengths)?;
-        Ok(Self {
-            asked,
-            ranges,
-            rows,
-            columns,
-            row_runs: lent::numbers_from(fields.alloc, lent::ROWS, lengths.row_runs)?,
-            column_runs: lent::numbers_from(fields.alloc, lent::COLUMNS, lengths.column_runs)?,
-        })
-    }
-
     // Plans, which writes the runs to the lent lists.
     fn plan(&mut self) -> Result<Plan, Refusal> {
         let request = Request {
@@ -251,15 +251,31 @@ impl PlanCase {
         };
         plan_pages(&request, &lists, &mut self.row_runs, &mut self.column_runs)
     }
+}
+
+impl Case for PlanCase {
+    fn read() -> Result<Self, Fault> {
+        let (asked, lengths) = Asked::read()?;
+        let ranges = read_ranges(lengths.areas)?;
+        let (rows, columns) = read_lists(&lengths)?;
+        Ok(Self {
+            asked,
+            ranges,
+            rows,
+            columns,
+            row_runs: numbers_from(ROWS, lengths.row_runs),
+            column_runs: numbers_from(COLUMNS, lengths.column_runs),
+        })
+    }
 
     // Plans, and answers what the lent lists hold then, and pages.
-    pub(crate) fn answer<W: Write>(&mut self, alloc: Global, out: &mut W) -> io::Result<()> {
+    fn answer<W: Write>(&mut self, out: &mut W) -> io::Result<()> {
         let planned = Answer(self.plan().map(PlanText));
         let rows = Numbers(&self.row_runs);
         let columns = Numbers(&self.column_runs);
         write!(out, "{planned}{rows}{columns}")?;
         if let Ok(PlanText(plan)) = &planned.0 {
-            for number in page_numbers(alloc, plan.pages)? {
+            for number in page_numbers(plan.pages) {
                 let runs = RunLists {
                     rows: &self.row_runs,
                     columns: &self.column_runs,
@@ -274,14 +290,15 @@ impl PlanCase {
 
 // The numbers of the pages that are asked for: all of a few and those before and after them; of more, 0 to 6, two in the middle, and the last
 // six with the one after them, which is 0 after the last number that there is.
-fn page_numbers(alloc: Global, pages: u64) -> Result<Vec<u64>, AllocError> {
-    if pages <= FEW {
-        return (0..pages + 2).collect(alloc);
-    }
-    let middle = pages / 2;
-    (0..7)
-        .chain(middle..middle + 2)
-        .chain(pages - 5..pages)
-        .chain([pages, pages.wrapping_add(1)])
-        .collect(alloc)
+fn page_numbers(pages: u64) -> ArrayVec<u64, ASKED> {
+    let mut numbers = ArrayVec::new();
+    let _fits = if pages <= FEW {
+        numbers.extend(0..pages + 2)
+    } else {
+        let middle = pages / 2;
+        let first = (0..7).chain(middle..middle + 2);
+        let last = (pages - 5..pages).chain([pages, pages.wrapping_add(1)]);
+        numbers.extend(first.chain(last))
+    };
+    numbers
 }

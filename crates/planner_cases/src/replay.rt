@@ -5,66 +5,78 @@
 //     p   planner::plan_pages; the lent lists are answered whole, and then pages by planner_pages::page_numbered, each after a `;` and its number
 //     n   planner_pages::page_numbered, of a plan that is not as it was answered
 use crate::axes::{RunsCase, TitleCase};
-use crate::fields::{Fault, Fields};
+use crate::fields::{Fault, read_byte, read_end};
 use crate::numbered::PageCase;
 use crate::plans::PlanCase;
-use std::alloc::Global;
-use std::io::{self, BufRead, Write};
+use arrayvec::ArrayVec;
+use std::io::Write;
 
+// Standard output.
+const STDOUT: i32 = 1;
+
+// The bytes that an answer has room for.
+const LINE: usize = 8192;
+
+// What a line of a letter asks.
+pub(crate) trait Case: Drop {
+    // Reads what follows the letter.
+    fn read() -> Result<Self, Fault>
+    where
+        Self: Sized;
+
+    // Asks, and writes the answer.
+    fn answer<W: Write>(&mut self, out: &mut W) -> std::io::Result<()>;
+}
+
+// A line that has no letter of these.
 #[derive(Drop)]
-enum Case {
-    Title(TitleCase),
-    Runs(RunsCase),
-    Plan(PlanCase),
-    Page(PageCase),
-    BadLetter,
-}
+struct BadLetter;
 
-impl Case {
-    fn read(alloc: Global, line: &[u8]) -> Result<Self, Fault> {
-        let line = line.strip_suffix(b"\n").ok_or(Fault::BadLine)?;
-        let (letter, rest) = line.split_first().ok_or(Fault::BadLine)?;
-        let mut fields = Fields::new(alloc, rest);
-        let case = match letter {
-            b't' => Self::Title(TitleCase::read(&mut fields)?),
-            b'r' => Self::Runs(RunsCase::read(&mut fields)?),
-            b'p' => Self::Plan(PlanCase::read(&mut fields)?),
-            b'n' => Self::Page(PageCase::read(&mut fields)?),
-            _ => Self::BadLetter,
-        };
-        fields.end()?;
-        Ok(case)
+impl Case for BadLetter {
+    fn read() -> Result<Self, Fault> {
+        Ok(BadLetter)
     }
 
-    fn answer<W: Write>(self, alloc: Global, out: &mut W) -> io::Result<()> {
-        match self {
-            Self::Title(case) => case.answer(out),
-            Self::Runs(mut case) => case.answer(out),
-            Self::Plan(mut case) => case.answer(alloc, out),
-            Self::Page(case) => case.answer(out),
-            Self::BadLetter => writeln!(out, "bad letter"),
-        }
+    fn answer<W: Write>(&mut self, out: &mut W) -> std::io::Result<()> {
+        writeln!(out, "bad letter")
     }
 }
 
-// Answers line after line, up to the first that is none.
-pub(crate) fn answer_all<R: BufRead, W: Write>(
-    alloc: Global,
-    lines: &mut R,
-    out: &mut W,
-) -> io::Result<()> {
-    let mut line = Vec::new(alloc);
+// Reads a case to the end of its line, and answers it. What does not fit is left out. Not inlined: a line of one letter would pay for the room
+// of all.
+#[inline(never)]
+fn answer<C: Case>(line: &mut ArrayVec<u8, LINE>) -> Result<(), Fault> {
+    let mut case = C::read()?;
+    read_end()?;
+    let _ = case.answer(line);
+    Ok(())
+}
+
+fn answer_letter(letter: u8, line: &mut ArrayVec<u8, LINE>) -> Result<(), Fault> {
+    match letter {
+        b't' => answer::<TitleCase>(line),
+        b'r' => answer::<RunsCase>(line),
+        b'p' => answer::<PlanCase>(line),
+        b'n' => answer::<PageCase>(line),
+        _ => answer::<BadLetter>(line),
+    }
+}
+
+// Answers line after line, up to the first that is none. No more is read than a line's letter and lengths say, and a line is answered before
+// the next is read.
+pub(crate) fn answer_all() {
+    io::write_all(STDOUT, b"list\n");
+    let mut line = ArrayVec::<u8, LINE>::new();
     // Nothing says that the input ends, so the loop counts its turns, up to a number that no run reaches.
     for _ in 0..u64::MAX {
+        let Some(letter) = read_byte() else {
+            break;
+        };
         line.clear();
-        if lines.read_until(b'\n', &mut line)? == 0 {
+        if answer_letter(letter, &mut line).is_err() {
+            io::write_all(STDOUT, b"bad line\n");
             break;
         }
-        match Case::read(alloc, &line) {
-            Ok(case) => case.answer(alloc, out)?,
-            Err(Fault::OutOfMemory(error)) => return Err(error.into()),
-            Err(fault) => return writeln!(out, "{fault}"),
-        }
+        io::write_all(STDOUT, &line);
     }
-    Ok(())
 }

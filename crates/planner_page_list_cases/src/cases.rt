@@ -1,15 +1,22 @@
 // Plans whose pages are listed. Slots are 400,000 each, on Letter.
 use crate::listed::Planned;
+use arrayvec::ArrayVec;
 use planner::plan_pages;
 use planner_rules::{
     AxisLists, MergeList, PageOrder, Plan, PrintRange, RUN_NUMBERS, Request, RunLists, Settings,
     SheetLists, SlotList, Title,
 };
-use std::alloc::Global;
-use std::io::{self, Write};
+use std::io::Write;
+use units::Refusal;
 
-// The size of each slot.
-const SIZE: u64 = 400_000;
+// Standard output.
+const STDOUT: i32 = 1;
+
+// The bytes that what is said of a plan has room for.
+const SAID: usize = 1024;
+
+// The sizes of the slots of an axis, of which there are at most five.
+const SIZES: [u64; 5] = [400_000; 5];
 
 // The numbers of the lists of runs: these plans have at most five runs of rows and three of columns.
 const ROW_NUMBERS: usize = 5 * RUN_NUMBERS;
@@ -136,9 +143,13 @@ fn settings(percent: Option<u16>, order: PageOrder) -> Settings {
 }
 
 // The slots of an axis that has no merges, and its breaks.
-fn axis<'a>(indexes: &'a [u32], sizes: &'a [u64], breaks: &'a [u32]) -> AxisLists<'a> {
+fn axis<'a>(indexes: &'a [u32], breaks: &'a [u32]) -> AxisLists<'a> {
+    let count = indexes.len().min(SIZES.len());
     AxisLists {
-        slots: SlotList { indexes, sizes },
+        slots: SlotList {
+            indexes,
+            sizes: &SIZES[..count],
+        },
         merges: MergeList {
             firsts: &[],
             lasts: &[],
@@ -149,14 +160,7 @@ fn axis<'a>(indexes: &'a [u32], sizes: &'a [u64], breaks: &'a [u32]) -> AxisList
 
 impl Case<'_> {
     // Plans, which writes the runs to the lists.
-    fn plan(
-        &self,
-        alloc: Global,
-        row_runs: &mut [u64],
-        column_runs: &mut [u64],
-    ) -> io::Result<Option<Plan>> {
-        let row_sizes = vec![in alloc; SIZE; self.rows.len()]?;
-        let column_sizes = vec![in alloc; SIZE; self.columns.len()]?;
+    fn plan(&self, row_runs: &mut [u64], column_runs: &mut [u64]) -> Result<Plan, Refusal> {
         let request = Request {
             settings: settings(self.percent, self.order),
             areas: self.ranges,
@@ -164,19 +168,19 @@ impl Case<'_> {
             column_title: Title::Absent,
         };
         let lists = SheetLists {
-            rows: axis(self.rows, &row_sizes, self.row_breaks),
-            columns: axis(self.columns, &column_sizes, &[]),
+            rows: axis(self.rows, self.row_breaks),
+            columns: axis(self.columns, &[]),
         };
-        Ok(plan_pages(&request, &lists, row_runs, column_runs).ok())
+        plan_pages(&request, &lists, row_runs, column_runs)
     }
 
     // Plans, and lists the pages.
-    fn say<W: Write>(&self, alloc: Global, out: &mut W) -> io::Result<()> {
+    fn say<W: Write>(&self, out: &mut W) -> std::io::Result<()> {
         writeln!(out, "{}", self.name)?;
         let mut row_runs = [0; ROW_NUMBERS];
         let mut column_runs = [0; COLUMN_NUMBERS];
-        match self.plan(alloc, &mut row_runs, &mut column_runs)? {
-            Some(plan) => {
+        match self.plan(&mut row_runs, &mut column_runs) {
+            Ok(plan) => {
                 let planned = Planned {
                     plan,
                     runs: RunLists {
@@ -186,14 +190,17 @@ impl Case<'_> {
                 };
                 planned.say(out)
             }
-            None => writeln!(out, "no plan"),
+            Err(_) => writeln!(out, "no plan"),
         }
     }
 }
 
-pub(crate) fn say_all<W: Write>(alloc: Global, out: &mut W) -> io::Result<()> {
+// Says what each case comes to, one after another.
+pub(crate) fn say_all() {
     for case in &CASES {
-        case.say(alloc, out)?;
+        let mut said = ArrayVec::<u8, SAID>::new();
+        // It fits: a case has at most ten lines.
+        let _ = case.say(&mut said);
+        io::write_all(STDOUT, &said);
     }
-    Ok(())
 }

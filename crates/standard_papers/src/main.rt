@@ -3,10 +3,16 @@
 // is the limit. The file `stdout` has the answers of a second implementation, made from the standard's list.
 #![tactic(auto)]
 
+use arrayvec::ArrayVec;
 use geometry::{Margins, PaperGeometry};
-use std::io;
-use std::io::{BufWriter, Write};
+use std::io::Write;
 use units::Fixed;
+
+// Standard output.
+const STDOUT: i32 = 1;
+
+// The bytes that the lines of a paper have room for.
+const LINES: usize = 4096;
 
 // The codes whose sizes the standard decides.
 const CODES: [u16; 5] = [12, 13, 24, 25, 26];
@@ -17,7 +23,7 @@ fn write_content<W: Write>(
     name: &str,
     paper: PaperGeometry,
     margins: Option<Margins>,
-) -> io::Result<()> {
+) -> std::io::Result<()> {
     match geometry::content_geometry(paper, margins) {
         Ok(placed) => writeln!(out, "  {name}: {placed}"),
         Err(refusal) => writeln!(out, "  {name}: {refusal}"),
@@ -45,7 +51,7 @@ fn write_limits<W: Write>(
     paper: PaperGeometry,
     more: f64,
     times: f64,
-) -> io::Result<()> {
+) -> std::io::Result<()> {
     let half = inches(paper.width, more, times) / 2.0;
     write_content(
         out,
@@ -89,7 +95,7 @@ fn write_limits<W: Write>(
     )
 }
 
-fn write_paper<W: Write>(out: &mut W, code: u16, landscape: bool) -> io::Result<()> {
+fn write_paper<W: Write>(out: &mut W, code: u16, landscape: bool) -> std::io::Result<()> {
     let answer = geometry::paper_geometry(Some(code), landscape);
     let paper = answer.geometry;
     let lies = if landscape { "landscape" } else { "upright" };
@@ -120,11 +126,18 @@ fn write_paper<W: Write>(out: &mut W, code: u16, landscape: bool) -> io::Result<
     write_limits(out, paper, 0.0, 1.0000000000000002)
 }
 
-fn main(rt: HostRuntime) -> io::Result<()> {
-    let mut out = BufWriter::new(rt.alloc(), io::writer(&rt))?;
+// Prints the lines of a paper, which stand where those of the paper before stood.
+fn print_paper(lines: &mut ArrayVec<u8, LINES>, code: u16, landscape: bool) {
+    lines.clear();
+    // They fit: 23 lines of at most eight numbers.
+    let _ = write_paper(lines, code, landscape);
+    io::write_all(STDOUT, lines);
+}
+
+fn main() {
+    let mut lines = ArrayVec::new();
     for code in CODES {
-        write_paper(&mut out, code, false)?;
-        write_paper(&mut out, code, true)?;
+        print_paper(&mut lines, code, false);
+        print_paper(&mut lines, code, true);
     }
-    out.flush()
 }
