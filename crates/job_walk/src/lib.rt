@@ -1,17 +1,17 @@
 // The records of a job one by one, those that are looked for by their mark, the limits and the areas: document 01, section "Jobs".
 #![tactic(auto)]
 
-ghost use Rattle.std.specs.Prelude.{◌≡◌, ◌≤◌, map, take, drop};
+ghost use Rattle.std.specs.Prelude.{◌≡◌, ◌≤◌, ◌<◌, map, take, drop};
 ghost use Rattle.std.specs.Iterator.{YieldsFirst, item_count};
 ghost use Rattle.job_records.specs.Marks.{place};
 ghost use Rattle.job_records.specs.Records.{step, records, AR};
-ghost use Rattle.job_records.specs.Areas.{held_ranges};
+ghost use Rattle.job_records.specs.Areas.{held_ranges, pushed};
 ghost use Rattle.job_walk.specs.Walk as walk;
 ghost use Rattle.job_walk.specs.Areas as section;
 
 mod sorted;
 
-use job_records::{Head, JobAreas, Mark, Record, read_record};
+use job_records::{Head, JobAreas, Mark, Range, Record, read_record};
 pub use sorted::SortedJob;
 
 // The next record before the EN, or none.
@@ -87,6 +87,16 @@ pub fn limit_of(bytes: &[u8], wanted: Mark) -> Option<u64>
     }
 }
 
+// One area more, at the place after those that count.
+#[inline(always)]
+fn add(areas: &mut JobAreas, cells: Range)
+    requires { areas.old.count < 8 }
+    ensures { areas.new ≡ pushed areas.old cells }
+{
+    areas.ranges[areas.count] = cells;
+    areas.count += 1;
+}
+
 // The first areas, in job order, so many at most.
 fn first_areas(bytes: &[u8], most: usize) -> JobAreas
     requires { most ≤ 8 }
@@ -98,8 +108,7 @@ fn first_areas(bytes: &[u8], most: usize) -> JobAreas
             break;
         }
         if let Record::Area(cells) = found {
-            areas.ranges[areas.count] = cells;
-            areas.count += 1;
+            add(&mut areas, cells);
         }
     }
     areas

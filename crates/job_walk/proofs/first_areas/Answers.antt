@@ -1,8 +1,9 @@
 -- Each turn goes on by a record, and takes it over where it is an area.
-use Rattle.std.proofs.Common.{List, ◌++◌, refl, sym, ap, ◌∙◌, arith}
+use Rattle.std.proofs.Common.{◌≡◌, rules, List, ◌++◌, sym, ap, ◌∙◌, arith}
 use Rattle.std.proofs.lemmas.List.{append_assoc}
+use Rattle.job_records.specs.declared.records.JobAreas.{JobAreas}
 use Rattle.job_records.specs.declared.records.Range.{Range}
-use Rattle.job_records.specs.Areas.{ranges_in, held_ranges}
+use Rattle.job_records.specs.Areas.{ranges_in, held_ranges, pushed}
 use Rattle.job_records.specs.Marks.{place}
 use Rattle.job_records.specs.declared.marks.Mark.TheVariants.{Area}
 use Rattle.job_records.proofs.MarkLaws.{later_place, no_later_place}
@@ -10,6 +11,10 @@ use Rattle.job_walk.specs.Walk.{in_place}
 use Rattle.job_walk.proofs.WalkLaws.{ranges_left, area_past, area_here, area_on, collected, collected_most, collected_count, one_more}
 use Rattle.job_walk.proofs.first_areas.Goals as goal
 use Rattle.job_walk.proofs.first_areas.Goals.{then-gt-via-then-gt, then-gt-via-else-gt+then-areas-most}
+
+-- an area more is added, by another word for it
+pushed_is : (a : JobAreas) {b : JobAreas} {x y : Range} → b ≡ pushed a x → x ≡ y → b ≡ pushed a y
+pushed_is a e i = e ∙ ap (pushed a) i
 
 pub returns-then-gt : goal.returns-then-gt
 returns-then-gt c =
@@ -27,10 +32,11 @@ pub loop-found-preserved-in-Area : goal.loop-found-preserved-in-Area
 loop-found-preserved-in-Area c =
     let l = c.loop-found.invariant in
     let next = ap ranges_left c.in-Some.ensures.steps ∙ area_here c.in-Some.found _ c.in-Area.cells c.in-Area.is in
-    let more = one_more c.loop-found.areas _ c.in-Area.cells (omega (arith, l.2)) l.3 refl in (
+    let added : c.add.new.areas ≡ pushed c.loop-found.areas c.in-Area.cells = pushed_is _ c.add.ensures (search rules) in
+    let more = one_more c.loop-found.areas c.add.new.areas c.in-Area.cells (omega (arith, l.2)) l.3 added in (
       tt,
       tt,
-      omega (arith, l.2),
+      omega (arith, l.2, ap (λ (a : JobAreas). a.count) added),
       more.0,
       rw more.1 (append_assoc (ranges_in c.loop-found.areas) _ _ ∙ ap (λ (rs : List Range). ranges_in c.loop-found.areas ++ rs) (sym next) ∙ l.4),
     )
