@@ -1,5 +1,5 @@
 -- The print areas of a job, as they are held (document 02, T-02): at most eight, and a count. Assumes nothing.
-use Rattle.std.specs.Prelude.{List, ◌++◌, ℕ, ◌+◌, length, take, replicate, set}
+use Rattle.std.specs.Prelude.{List, ◌++◌, ◌+◌, length, take, replicate, set}
 use Rattle.job_records.specs.declared.records.Range.{Range}
 use Rattle.job_records.specs.declared.records.JobAreas.{JobAreas}
 
