@@ -41,4 +41,4 @@ pub loop-byte-preserved : goal.loop-byte-preserved
 loop-byte-preserved c = step _ _ _ _ c.loop-byte-test.true (c.unwrap_or.ensures ∙ ap (λ (d : Option ℕ). unwrap_or d 0) c.digit.ensures) ∙ c.loop-byte.invariant
 
 pub returns : goal.returns
-returns c = done _ _ _ c.loop-byte-test.false c.loop-byte.invariant
+returns c = omega (arith, done _ _ _ c.loop-byte-test.false c.loop-byte.invariant)
