@@ -20,7 +20,7 @@ use Rattle.planner_rules.specs.declared.planning.Settings.{Settings}
 use Rattle.planner_rules.specs.Questions.{ask}
 use Rattle.planner_rules.specs.Runs.{Run}
 use Rattle.planner_rules.specs.Lent.{room_in}
-use Rattle.planner_rules.specs.Areas.{no_range, one_to_eight, plans_in, no_plan, over_areas}
+use Rattle.planner_rules.specs.Areas.{no_range, plans_in, no_plan, over_areas}
 use Rattle.planner_rules.specs.Scale.{Scale, middle, halve, fixed_scale, fit_scale}
 use Rattle.planner_rules.specs.Pages.{joined, or_empty, pages_in, row_runs, column_runs}
 use Rattle.planner_rules.specs.Plan.{AxisInput, Sheet, Sides, rows_in, columns_in, chosen_scale, cut_runs, page_runs}
