@@ -22,6 +22,12 @@ impl Block {
             bytes: ArrayVec::new(),
         }
     }
+
+    // An empty line, for which a block always has room, and all is written.
+    pub(crate) fn end(&mut self) -> std::io::Result<()> {
+        self.bytes.write_all(b"\n")?;
+        self.flush()
+    }
 }
 
 impl Write for Block {

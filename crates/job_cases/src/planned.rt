@@ -105,14 +105,13 @@ impl Runs {
         Ok(())
     }
 
-    // Prints what `plan` prints for a job's bytes, and an empty line.
+    // Prints what `plan` prints for a job's bytes.
     pub(crate) fn print_plan<W: Write>(&mut self, job: &[u8], out: &mut W) -> io::Result<()> {
         let planning = count_job(job);
         print_head(&planning, out)?;
         if let Ok(plan) = planning {
             self.print_pages(job, &plan, out)?;
         }
-        writeln!(out)?;
-        out.flush()
+        Ok(())
     }
 }

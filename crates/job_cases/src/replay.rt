@@ -48,5 +48,6 @@ pub(crate) fn answer_all() {
         }
         // A block takes all that it is given.
         let _ = runs.print_plan(&job, &mut out);
+        let _ = out.end();
     }
 }
